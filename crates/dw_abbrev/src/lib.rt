@@ -1,0 +1,2 @@
+//! Abbreviation tables of DWARF 5.
+#![tactic(auto)]

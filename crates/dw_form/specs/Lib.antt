@@ -1,0 +1,3 @@
+pub mod Form
+pub mod ReadForm
+pub mod DecideForm

@@ -1,0 +1,10 @@
+pub mod Part
+pub mod Number
+pub mod Repeat
+pub mod Reader
+pub mod ReadNumber
+pub mod Decide
+pub mod Stay
+pub mod Digits
+pub mod DecideNumber
+pub mod DecideRepeat

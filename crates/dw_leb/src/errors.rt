@@ -1,0 +1,95 @@
+//! Why reading or writing failed, and where.
+
+use std::io::ErrorKind;
+use thiserror::Error;
+
+/// Why a field is refused. Its number is the variant's place, from 1 on.
+#[derive(Clone, Copy, Debug, PartialEq, Eq, Hash)]
+pub enum Reason {
+    /// The input ends inside the field.
+    Truncated,
+    /// The unit ends inside the field.
+    PastUnit,
+    /// An initial length from 0xfffffff0 to 0xfffffffe (section 7.2.2).
+    ReservedLength,
+    /// A version other than 5 (section 7.5.1).
+    BadVersion,
+    /// A unit type other than 1 to 4 (section 7.5.1).
+    BadUnitType,
+    /// An address size other than 1 to 8.
+    BadAddressSize,
+    /// A LEB128 number with no last byte among sixteen (section 7.6).
+    LebTooLong,
+    /// A LEB128 number that doesn't fit 64 bits.
+    LebTooBig,
+    /// A unit whose first entry is a null entry.
+    NoRoot,
+    /// A code that the unit's abbreviation table doesn't declare.
+    UnknownCode,
+    /// A form that isn't in the form table (section 7.5.6).
+    UnknownForm,
+    /// An indirect value that names the form indirect or implicit_const.
+    BadIndirect,
+    /// An entry nested deeper than entries may be.
+    TooDeep,
+    /// An entry after the root entry's end.
+    SecondRoot,
+    /// An abbreviation offset at or past the end of `.debug_abbrev`.
+    AbbrevOffset,
+    /// A children flag other than 0 and 1 (section 7.5.3).
+    BadChildren,
+    /// A pair of name and form of which exactly one is 0.
+    HalfPair,
+    /// An abbreviation code that was declared before in its table.
+    DuplicateCode,
+    /// A declaration of more than 1,024 pairs.
+    TooManyPairs,
+    /// A length whose end would lie past 2^63 - 1.
+    LengthTooBig,
+    /// Right by the standard, but not read by this version yet.
+    NotYet,
+}
+
+/// The section in which a fault stands.
+#[derive(Clone, Copy, Debug, PartialEq, Eq, Hash)]
+pub enum Section {
+    /// `.debug_info`
+    Info,
+    /// `.debug_abbrev`
+    Abbrev,
+}
+
+/// A broken field.
+#[derive(Clone, Copy, Debug, PartialEq, Eq, Hash)]
+pub struct Fault {
+    /// The section of the field.
+    pub section: Section,
+    /// Where the field's first byte stands. In `.debug_info` it counts from the unit's first byte
+    /// where one unit is read, and from the section's first byte where a section is read. In
+    /// `.debug_abbrev` it counts from the section's first byte.
+    pub offset: u64,
+    /// Why the field is refused.
+    pub reason: Reason,
+}
+
+/// Why a reading gave nothing.
+#[derive(Clone, Copy, Debug, PartialEq, Eq, Error)]
+pub enum ReadError {
+    /// The bytes are refused.
+    #[error("fault {0:?}")]
+    Fault(Fault),
+    /// The allocator refused a growth.
+    #[error("memory")]
+    NoMemory,
+    /// The reader failed.
+    #[error("read {0}")]
+    Io(ErrorKind),
+}
+
+/// Why a writing was not finished.
+#[derive(Clone, Copy, Debug, PartialEq, Eq, Error)]
+pub enum WriteError {
+    /// The writer failed, or took no byte of some (`WriteZero`).
+    #[error("write {0}")]
+    Io(ErrorKind),
+}

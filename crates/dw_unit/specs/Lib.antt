@@ -1,0 +1,10 @@
+pub mod Header
+pub mod Tree
+pub mod Spelling
+pub mod Offset
+pub mod Unit
+pub mod ReadUnit
+pub mod Laws
+pub mod DecideTree
+pub mod DecideUnit
+pub mod Offsets

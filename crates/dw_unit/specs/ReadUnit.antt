@@ -1,0 +1,100 @@
+-- Units read by a plain, slow reader.
+use Rattle.std.specs.Prelude.{ℕ, zero, suc, ◌+◌, ◌-◌, Bool, true, false, List, [], ◌∷◌, length, drop, Option, Some, None, ◌==◌, if◌then◌else◌}
+use Rattle.dw_leb.specs.declared.errors.Reason.{Reason}
+use Rattle.dw_leb.specs.declared.errors.Reason.TheVariants.{TooDeep}
+use Rattle.dw_leb.specs.declared.order.Order.{Order}
+use Rattle.dw_leb.specs.declared.order.Format.{Format}
+use Rattle.dw_leb.specs.Number.{offset_size, Unsigned, length_limit}
+use Rattle.dw_leb.specs.declared.errors.Section.{Section}
+use Rattle.dw_leb.specs.declared.errors.Section.TheVariants.{Info, Abbrev}
+use Rattle.dw_leb.specs.Reader.{Outcome, Found, Broken, Reader, made, checked, returned, failing, read_optional, read_repeated, ◌and_then◌}
+use Rattle.dw_leb.specs.ReadNumber.{read_fixed, read_uleb, read_length}
+use Rattle.dw_form.specs.declared.shape.Ctx.{Ctx}
+use Rattle.dw_form.specs.Form.{Attribute}
+use Rattle.dw_form.specs.ReadForm.{read_attribute}
+use Rattle.dw_abbrev.specs.Table.{Pair, Table, declared, is_null}
+use Rattle.dw_abbrev.specs.ReadTable.{read_table_at}
+use Rattle.dw_unit.specs.Header.{Kind, Compile, Partial, TypeUnit, Skeleton, Header, added_sizes, bad_version, bad_type, bad_address_size, Fields}
+use Rattle.dw_unit.specs.Tree.{Tree, leaf, branch, Forest, none, more, Body, constant_of, pairs_of, children_of, bad_root, bad_child, nesting, not_null}
+use Rattle.dw_unit.specs.Unit.{Contents, header_of}
+
+abbrev pub read_numbers : Order → List ℕ → Reader (List ℕ)
+read_numbers order [] = returned []
+read_numbers order (n ∷ ns) = made (λ x. x.0 ∷ x.1) (read_fixed order n and_then λ _. read_numbers order ns)
+
+unfoldable pub read_fields : Order → Format → Reader Fields
+read_fields order format =
+    checked (read_fixed order 2) bad_version
+    and_then λ _. checked (read_fixed order 1) bad_type
+    and_then λ kind. checked (read_fixed order 1) bad_address_size
+    and_then λ _. read_fixed order (offset_size format)
+    and_then λ _. read_numbers order (added_sizes format kind)
+
+abbrev pub first_number : List ℕ → ℕ
+first_number [] = 0
+first_number (x ∷ xs) = x
+
+abbrev pub second_number : List ℕ → ℕ
+second_number [] = 0
+second_number (x ∷ xs) = first_number xs
+
+abbrev pub kind_from : ℕ → List ℕ → Kind
+kind_from kind added = if kind == 1 then Compile else (if kind == 2 then TypeUnit (first_number added) (second_number added) else (if kind == 3 then Partial else Skeleton (first_number added)))
+
+abbrev pub header_from : Order → Format → Fields → Header
+header_from order format x = record { order = order; format = format; kind = kind_from x.1.0 x.1.1.1.1; address_size = x.1.1.0; abbrev_offset = x.1.1.1.0 }
+
+abbrev pub node_from : Unsigned × Body → Tree
+node_from (code, (values, None)) = leaf code values
+node_from (code, (values, Some (children, null))) = branch code values children null.width
+
+abbrev pub nodes_from : List (Unsigned × Body) → Forest
+nodes_from [] = none
+nodes_from (x ∷ xs) = more (node_from x) (nodes_from xs)
+
+abbrev pub read_values : Ctx → List Pair → Reader (List Attribute)
+read_values k [] = returned []
+read_values k (p ∷ ps) = made (λ x. x.0 ∷ x.1) ((read_attribute k p.form.value (constant_of p.constant)) and_then λ _. read_values k ps)
+
+abbrev pub read_body : Ctx → Table → Reader (Forest × Unsigned) → Unsigned → Reader Body
+read_body k t kids code = read_values k (pairs_of (declared t code.value)) and_then λ _. read_optional (children_of (declared t code.value)) kids
+
+unfoldable pub read_children : Ctx → Table → ℕ → Reader (Forest × Unsigned)
+read_children k t zero = made (λ x. (nodes_from x.0, x.1)) (read_repeated (λ _. checked read_uleb (bad_child t false)) is_null (λ _. failing TooDeep))
+read_children k t (suc room) = made (λ x. (nodes_from x.0, x.1)) (read_repeated (λ _. checked read_uleb (bad_child t true)) is_null (read_body k t (read_children k t room)))
+
+unfoldable pub read_tree : Ctx → Table → ℕ → Reader Tree
+read_tree k t room = made node_from (checked read_uleb (bad_root t) and_then read_body k t (read_children k t room))
+
+-- nulls up to the unit's end
+abbrev pub read_padding : ℕ → Reader (List ℕ)
+read_padding zero bytes lim = Found [] 0
+read_padding (suc fuel) bytes lim = if lim == 0 then Found [] 0 else made (λ x. x.0.width ∷ x.1) (checked read_uleb not_null and_then λ _. read_padding fuel) bytes lim
+
+-- what reading a unit gives
+pub data Answer : Type 0 where
+  Unit : Contents → ℕ → Answer
+  Fault : Section → ℕ → Reason → Answer
+
+abbrev pub read_entries : Ctx → Table → Reader (Tree × List ℕ)
+read_entries k t bytes lim = ((read_tree k t (nesting - 1)) and_then λ _. read_padding (suc (length bytes))) bytes lim
+
+abbrev pub answer_entries : Header → ℕ → Outcome (Tree × List ℕ) → Answer
+answer_entries h before (Found x size) = Unit (record { header = h; root = x.0; padding = x.1 }) (before + size)
+answer_entries h before (Broken offset reason) = Fault Info (before + offset) reason
+
+abbrev pub answer_table : Order → Format → Fields → List ℕ → ℕ → ℕ → Outcome Table → Answer
+answer_table order format x rest lim before (Found t size) = answer_entries (header_from order format x) before (read_entries (header_of order format x) t rest lim)
+answer_table order format x rest lim before (Broken offset reason) = Fault Abbrev offset reason
+
+abbrev pub answer_fields : Order → Format → List ℕ → List ℕ → ℕ → ℕ → Outcome Fields → Answer
+answer_fields order format section bytes n before (Found x size) =
+    answer_table order format x (drop size bytes) (n - size) (before + size) (read_table_at section x.1.1.1.0)
+answer_fields order format section bytes n before (Broken offset reason) = Fault Info (before + offset) reason
+
+abbrev pub answer_length : Order → List ℕ → List ℕ → Outcome (Format × ℕ) → Answer
+answer_length order section bytes (Found x size) = answer_fields order x.0 section (drop size bytes) x.1 size (read_fields order x.0 (drop size bytes) x.1)
+answer_length order section bytes (Broken offset reason) = Fault Info offset reason
+
+unfoldable pub read_unit : Order → List ℕ → List ℕ → Answer
+read_unit order section bytes = answer_length order section bytes (read_length order 0 bytes length_limit)

@@ -1,0 +1,2 @@
+//! Units of DWARF 5: headers, entries, and their reader and writer.
+#![tactic(auto)]
