@@ -1,16 +1,17 @@
 -- Numbers with widths and initial lengths: each reader decides its part.
-use Rattle.std.proofs.Common.{◌≡◌, ℕ, zero, suc, ◌+◌, ◌-◌, ◌*◌, ◌^◌, ◌<◌, ◌≤◌, Bool, true, false, cond, List, [], ◌∷◌, length, Option, Some, None, refl, sym, ap, arith}
+use Rattle.std.proofs.Common.{◌≡◌, ℕ, zero, suc, ◌+◌, ◌-◌, ◌*◌, ◌^◌, ◌<◌, ◌≤◌, Bool, true, false, cond, List, [], ◌∷◌, length, Option, Some, None, refl, sym, ap, arith, ◌∙◌, inl, inr}
 use Rattle.std.specs.Prelude.{if◌then◌else◌, nat_lt, ◌==◌, ℤ, pos, negsuc}
 use Rattle.std.proofs.Math.Nat.{pow-suc}
 use Rattle.std.proofs.lemmas.Bool.{ltb-true, ltb-false, lt-ltb, le-ltb, eqb-true, eq-eqb}
 use Rattle.std.proofs.lemmas.List.{length-append}
-use Rattle.dw_leb.specs.Part.{Part, ◌then◌, judged, seen, viewed, nothing, optional}
-use Rattle.dw_leb.specs.Number.{marked, fixed_bytes, length_size, length_limit, Order, Format, Dwarf32, Dwarf64, fixed, groups, Unsigned, Signed, uleb_groups, UlebHolds, SlebHolds, above_u64, uleb, extent, residue, sleb_groups, outside_i64, sleb, reserved, as_initial, too_far, initial_length}
+use Rattle.dw_leb.specs.Part.{Reason, LebTooBig, Part, ◌then◌, judged, seen, viewed, nothing, optional}
+use Rattle.dw_leb.specs.Field.{IsField}
+use Rattle.dw_leb.specs.Number.{UlebFits, SlebFits, marked, fixed_bytes, length_size, length_limit, Order, Format, Dwarf32, Dwarf64, fixed, groups, Unsigned, Signed, uleb_groups, UlebHolds, SlebHolds, above_u64, uleb, extent, residue, sleb_groups, outside_i64, sleb, reserved, as_initial, too_far, initial_length}
 use Rattle.dw_leb.specs.Reader.{Reader, made, returned, read_optional}
 use Rattle.dw_leb.specs.ReadNumber.{undigits, read_fixed, read_groups, uleb_from, signed_from, sleb_from, read_uleb, read_sleb, initial_from, read_length}
 use Rattle.dw_leb.specs.Decide.{IsTotalView, viewed_decides, Decides, IsView, then_decides, judged_decides, whole_decides, seen_decides, optional_decides}
 use Rattle.dw_leb.specs.Stay.{Stays, then_stays, judged_stays, whole_stays, optional_stays}
-use Rattle.dw_leb.specs.Digits.{length-fixed, length-digits, undigits-digits, undigits_below, digits-undigits, fixed_decides, groups_decides, Short_stays, groups_stays}
+use Rattle.dw_leb.specs.Digits.{length-marked, digits_below, length-fixed, length-digits, undigits-digits, undigits_below, digits-undigits, fixed_decides, groups_decides, Short_stays, groups_stays}
 
 -- an Option that a test chose
 chosen : {A : Type 0} (v : Bool) (x y : A) → cond v (Some x) None ≡ Some y → (v ≡ true) × (x ≡ y)
@@ -125,3 +126,53 @@ initial-size order start Dwarf64 n = rw (length-append (fixed_bytes order 4 0xff
 pub initial_within : (order : Order) (start : ℕ) (format : Format) (n : ℕ) → length ((initial_length order start).spell (format, n)) ≤ length_limit
 initial_within order start Dwarf32 n = omega (arith, initial-size order start Dwarf32 n)
 initial_within order start Dwarf64 n = omega (arith, initial-size order start Dwarf64 n)
+
+-- ---- what fits, and how many bytes it takes
+
+pub length-uleb : (u : Unsigned) → length (uleb.spell u) ≡ u.width
+length-uleb u = length-marked (uleb_groups u) ∙ length-digits 128 base u.width u.value
+
+pub length-sleb : (s : Signed) → length (sleb.spell s) ≡ s.width
+length-sleb s = length-marked (sleb_groups s) ∙ length-digits 128 base s.width (residue s.width s.value)
+
+unless_true : {R : Type 0} (v : Bool) (x : R) → (if v then None else Some x) ≡ None → v ≡ true
+unless_true true x e = refl
+unless_true false x e = absurd cc
+
+pub uleb_fits : (u : Unsigned) → UlebFits u → uleb.Fits u
+uleb_fits u h =
+    let len = length-digits 128 base u.width u.value in
+    ((h.held, (omega (arith, len, h.some), omega (arith, len, h.most), digits_below 128 base u.width u.value)), rw (lt-ltb u.value (2 ^ 64) h.range) refl)
+
+pub fits_uleb : (u : Unsigned) → uleb.Fits u → UlebFits u
+fits_uleb u h =
+    let len = length-digits 128 base u.width u.value in
+    record { some = omega (arith, len, h.0.1.0); most = omega (arith, len, h.0.1.1); held = h.0.0; range = ltb-true _ _ (unless_true (nat_lt u.value (2 ^ 64)) LebTooBig h.1) }
+
+pub sleb_fits : (s : Signed) → SlebFits s → sleb.Fits s
+sleb_fits s h =
+    let n = residue s.width s.value in
+    let len = length-digits 128 base s.width n in
+    ((h.held, (omega (arith, len, h.some), omega (arith, len, h.most), digits_below 128 base s.width n)), rw (lt-ltb (extent s.value) (2 ^ 63) h.range) refl)
+
+pub fits_sleb : (s : Signed) → sleb.Fits s → SlebFits s
+fits_sleb s h =
+    let len = length-digits 128 base s.width (residue s.width s.value) in
+    record { some = omega (arith, len, h.0.1.0); most = omega (arith, len, h.0.1.1); held = h.0.0; range = ltb-true _ _ (unless_true (nat_lt (extent s.value) (2 ^ 63)) LebTooBig h.1) }
+
+-- ---- a number breaks at its first byte
+
+pub uleb_field : IsField uleb
+uleb_field bytes lim offset reason (inl h) = h.0
+uleb_field bytes lim offset reason (inr h) = h.here
+
+pub sleb_field : IsField sleb
+sleb_field bytes lim offset reason (inl h) = h.0
+sleb_field bytes lim offset reason (inr h) = h.here
+
+pub fixed_field : (order : Order) (n : ℕ) → IsField (fixed order n)
+fixed_field order n bytes lim offset reason h = h.0
+
+pub length_field : (order : Order) (start : ℕ) → IsField (initial_length order start)
+length_field order start bytes lim offset reason (inl h) = h.0
+length_field order start bytes lim offset reason (inr h) = h.here

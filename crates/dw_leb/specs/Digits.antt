@@ -194,7 +194,7 @@ text_decides = record {
 
 -- ---- groups of seven bits
 
-length-marked : (ds : List ℕ) → length (marked ds) ≡ length ds
+pub length-marked : (ds : List ℕ) → length (marked ds) ≡ length ds
 length-marked [] = refl
 length-marked (d ∷ []) = refl
 length-marked (d ∷ e ∷ ds) = ap suc (length-marked (e ∷ ds))

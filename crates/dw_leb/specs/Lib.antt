@@ -8,3 +8,5 @@ pub mod Stay
 pub mod Digits
 pub mod DecideNumber
 pub mod DecideRepeat
+pub mod Scan
+pub mod Field

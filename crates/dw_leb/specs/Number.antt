@@ -82,6 +82,13 @@ above_u64 u = if nat_lt u.value (2 ^ 64) then None else Some LebTooBig
 abbrev pub uleb : Part Unsigned
 uleb = judged (viewed uleb_groups UlebHolds groups) above_u64
 
+-- what has an unsigned spelling: 1 to 16 bytes that hold the value, and a value of at most 64 bits
+pub record UlebFits (u : Unsigned) : Type 0 where
+  pub some : 1 ≤ u.width
+  pub most : u.width ≤ 16
+  pub held : u.value < 128 ^ u.width
+  pub range : u.value < 2 ^ 64
+
 -- of -n the distance from -1, so that both ends of a range in two's complement are one bound
 abbrev pub extent : ℤ → ℕ
 extent (pos n) = n
@@ -105,6 +112,13 @@ outside_i64 s = if nat_lt (extent s.value) (2 ^ 63) then None else Some LebTooBi
 -- SLEB128: the same groups in two's complement
 abbrev pub sleb : Part Signed
 sleb = judged (viewed sleb_groups SlebHolds groups) outside_i64
+
+-- what has a signed spelling
+pub record SlebFits (s : Signed) : Type 0 where
+  pub some : 1 ≤ s.width
+  pub most : s.width ≤ 16
+  pub held : 2 * extent s.value < 128 ^ s.width
+  pub range : extent s.value < 2 ^ 63
 
 -- the bytes of an initial length, and of a section offset
 abbrev pub length_size : Format → ℕ

@@ -3,7 +3,10 @@
 #![tactic(auto)]
 
 mod errors;
+mod groups;
 mod order;
+mod unsigned;
 
 pub use errors::{Fault, ReadError, Reason, Section, WriteError};
 pub use order::{Format, Order};
+pub use unsigned::Uleb;

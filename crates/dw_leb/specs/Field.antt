@@ -1,0 +1,40 @@
+-- What a call that reads one field answers, from what the plain reader answers.
+use Rattle.std.specs.Prelude.{◌≡◌, ℕ, List, length, Result, Ok, Err, IfOk, IfErr}
+use Rattle.std.proofs.Common.{sym, ap, ◌∙◌, ◌≤◌, ◌<◌, ◌++◌, suc, zero, get_or, [], ◌∷◌, subst, arith}
+use Rattle.std.specs.List.{AllByRecursion}
+use Rattle.dw_leb.specs.Part.{Reason, Part, Taken}
+use Rattle.dw_leb.specs.Reader.{Outcome, Found, Broken, Reader, answer}
+use Rattle.dw_leb.specs.Decide.{Decides, Says, AreBytes, found}
+
+-- a part that breaks at its first byte alone
+abbrev pub IsField : {X : Type 0} → Part X → Type 0
+IsField P = (bytes : List ℕ) (lim offset : ℕ) (reason : Reason) → P.Break bytes lim offset reason → offset ≡ 0
+
+-- the bytes of a slice are bytes
+pub are_bytes : (bytes : List ℕ) → ((k : ℕ) → get_or bytes k 0 < 256) → AreBytes bytes
+are_bytes [] h = tt
+are_bytes (b ∷ bytes) h = (h 0, are_bytes bytes (λ k. h (suc k)))
+
+module _ {X : Type 0} (P : Part X) (R : Reader X) (it : Decides P R) (bytes : List ℕ) (lim : ℕ) where
+  found_of : (size : X → ℕ) → ((x : X) → P.Fits x → length (P.spell x) ≡ size x) → (o : Outcome X) → Says P bytes lim o → IfOk (answer o) (λ x. Taken P bytes lim x (size x))
+  found_of size sized (Broken offset reason) h = tt
+  found_of size sized (Found x n) h = let e : n ≡ size x = sym h.is_size ∙ sized x h.fits in
+      subst (λ (k : ℕ). Taken P bytes lim x k) e h
+
+  broken_of : IsField P → (o : Outcome X) → Says P bytes lim o → IfErr (answer o) (λ e. P.Break bytes lim 0 e)
+  broken_of field (Found x n) h = tt
+  broken_of field (Broken offset reason) h = subst (λ (k : ℕ). P.Break bytes lim k reason) (field bytes lim offset reason h) h
+
+  -- what is answered is spelled at the front
+  pub found_by : (size : X → ℕ) → ((x : X) → P.Fits x → length (P.spell x) ≡ size x) → AreBytes bytes → (r : Result X Reason) → r ≡ answer (R bytes lim) → IfOk r (λ x. Taken P bytes lim x (size x))
+  found_by size sized fit r e = subst (λ (q : Result X Reason). IfOk q (λ x. Taken P bytes lim x (size x))) (sym e) (found_of size sized (R bytes lim) (it.says bytes lim fit))
+
+  -- what is refused breaks
+  pub broken_by : IsField P → AreBytes bytes → (r : Result X Reason) → r ≡ answer (R bytes lim) → IfErr r (λ e. P.Break bytes lim 0 e)
+  broken_by field fit r e = subst (λ (q : Result X Reason). IfErr q (λ e. P.Break bytes lim 0 e)) (sym e) (broken_of field (R bytes lim) (it.says bytes lim fit))
+
+  -- what is spelled at the front is answered
+  pub only_by : (r : Result X Reason) → r ≡ answer (R bytes lim) → (x : X) (size : ℕ) → Taken P bytes lim x size → r ≡ Ok x
+  only_by r e x size h =
+      let within : length (P.spell x) ≤ lim = omega (arith, h.is_size, h.within) in
+      e ∙ ap (λ (b : List ℕ). answer (R b lim)) h.split ∙ ap answer (it.takes x h.rest lim h.fits within)

@@ -1,0 +1,111 @@
+//! Unsigned LEB128 numbers (section 7.6).
+ghost use Rattle.std.specs.Prelude.{◌≡◌, ◌≤◌, ◌<◌, ◌*◌, ◌^◌, ℕ, length, Ok, Some, IsSome, IfSome, IfOk, IfErr, ◌↔◌};
+ghost use Rattle.dw_leb.specs.Part.{Taken};
+ghost use Rattle.dw_leb.specs.Number.{Unsigned, UlebFits, uleb};
+ghost use Rattle.dw_leb.specs.Reader.{answer};
+ghost use Rattle.dw_leb.specs.ReadNumber.{read_uleb};
+ghost use Rattle.dw_leb.specs.Scan.{front_at, unsigned_of};
+
+use crate::errors::Reason;
+use crate::groups::{number, place, spell, width_at};
+use arrayvec::ArrayVec;
+use std::marker::Model;
+
+/// An unsigned number and the count of bytes in which it is written: 1 to 16, of which the last
+/// ones may be padding. The bytes hold the value.
+#[derive(Clone, Copy, Debug, PartialEq, Eq)]
+pub struct Uleb {
+    value: u64,
+    width: u8,
+}
+
+impl Model for Uleb {
+    ghost use Rattle.dw_leb.specs.Number.{Unsigned, UlebFits};
+
+    ghost Value = { Unsigned };
+
+    ghost view = { λ a. record { value = a.value; width = a.width } };
+
+    ghost invariant = { λ a. UlebFits (record { value = a.value; width = a.width }) };
+
+    ghost inverse = { λ u. record { value = u.value; width = u.width } };
+}
+
+impl Uleb {
+    /// The number at the front of `b`, of which `lim` bytes are left to the unit's end.
+    ///
+    /// Refused are: sixteen bytes of which none ends the number (`LebTooLong`), a number that the
+    /// unit's end cuts (`PastUnit`) or the input's (`Truncated`), a value above 2^64 - 1
+    /// (`LebTooBig`).
+    pub fn read(b: &[u8], lim: u64) -> Result<Uleb, Reason>
+        ensures found { IfOk result (λ x. Taken uleb b.now lim x x.width) }
+        ensures only { (x : Unsigned) → Taken uleb b.now lim x x.width → result ≡ Ok x }
+        ensures broken { IfErr result (λ reason. uleb.Break b.now lim 0 reason) }
+        ensures exact { result ≡ answer (read_uleb b.now lim) }
+        ensures room { IfOk result (λ x. (x.width ≤ length b.now) × (x.width ≤ lim)) }
+    {
+        Uleb::scan(b, lim)
+    }
+
+    fn scan(b: &[u8], lim: u64) -> Result<Uleb, Reason>
+        ensures exact { result ≡ unsigned_of (front_at b.now lim) }
+        ensures room { IfOk result (λ x. (x.width ≤ length b.now) × (x.width ≤ lim)) }
+    {
+        let width = width_at(b, lim)?;
+        match u64::try_from(number(&b[..width])) {
+            Ok(value) => Ok(Uleb {
+                value,
+                width: width as u8,
+            }),
+            Err(_) => Err(Reason::LebTooBig),
+        }
+    }
+
+    /// The number.
+    pub fn value(self) -> u64
+        ensures { result ≡ self.value }
+    {
+        self.value
+    }
+
+    /// The count of bytes in which it is written, 1 to 16.
+    pub fn width(self) -> u8
+        ensures width { result ≡ self.width }
+        ensures fits { UlebFits self }
+    {
+        self.width
+    }
+
+    /// Its spelling.
+    pub fn bytes(self) -> ArrayVec<u8, 16>
+        ensures spelling { result.items ≡ uleb.spell self }
+        ensures length { length result.items ≡ self.width }
+        ensures fits { UlebFits self }
+    {
+        spell(self.value as u128, self.width)
+    }
+
+    /// The value in the fewest bytes that hold it.
+    pub fn least(value: u64) -> Uleb
+        ensures value { result.value ≡ value }
+        ensures least { (w : ℕ) → 1 ≤ w → value < 128 ^ w → result.width ≤ w }
+    {
+        let mut width = 1;
+        while value as u128 >= place(width) {
+            width += 1;
+        }
+        Uleb { value, width }
+    }
+
+    /// The value in `width` bytes. None exactly where `width` isn't 1 to 16 or its bytes don't hold
+    /// the value.
+    pub fn with_width(value: u64, width: u8) -> Option<Uleb>
+        ensures some { IsSome result ↔ UlebFits (record { value = value; width = width }) }
+        ensures value { IfSome result (λ x. x ≡ record { value = value; width = width }) }
+    {
+        if width < 1 || width > 16 || value as u128 >= place(width) {
+            return None;
+        }
+        Some(Uleb { value, width })
+    }
+}
