@@ -1,8 +1,9 @@
 -- What a call that reads one field answers, from what the plain reader answers.
 use Rattle.std.specs.Prelude.{◌≡◌, ℕ, List, length, Result, Ok, Err, IfOk, IfErr}
-use Rattle.std.proofs.Common.{sym, ap, ◌∙◌, ◌≤◌, ◌<◌, ◌++◌, suc, zero, get_or, [], ◌∷◌, subst, arith}
+use Rattle.std.proofs.Common.{sym, ap, ◌∙◌, ◌≤◌, ◌<◌, ◌^◌, ◌++◌, suc, zero, get_or, [], ◌∷◌, subst, arith}
 use Rattle.std.specs.List.{AllByRecursion}
 use Rattle.dw_leb.specs.Part.{Reason, Part, Taken}
+use Rattle.dw_leb.specs.Number.{Order, fixed}
 use Rattle.dw_leb.specs.Reader.{Outcome, Found, Broken, Reader, answer}
 use Rattle.dw_leb.specs.Decide.{Decides, Says, AreBytes, found}
 
@@ -38,3 +39,8 @@ module _ {X : Type 0} (P : Part X) (R : Reader X) (it : Decides P R) (bytes : Li
   only_by r e x size h =
       let within : length (P.spell x) ≤ lim = omega (arith, h.is_size, h.within) in
       e ∙ ap (λ (b : List ℕ). answer (R b lim)) h.split ∙ ap answer (it.takes x h.rest lim h.fits within)
+
+-- a fixed number that was found is below its place
+pub small_by : (order : Order) (n : ℕ) (bytes : List ℕ) (lim : ℕ) (r : Result ℕ Reason) → IfOk r (λ x. Taken (fixed order n) bytes lim x n) → IfOk r (λ x. x < 256 ^ n)
+small_by order n bytes lim (Ok x) h = h.fits
+small_by order n bytes lim (Err reason) h = tt

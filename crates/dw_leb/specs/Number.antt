@@ -149,3 +149,8 @@ initial_length order start = judged (whole (seen as_initial (judged (fixed order
 -- the length reaches past this, so that it breaks for Truncated and never for PastUnit.
 abbrev pub length_limit : ℕ
 length_limit = 12
+
+-- the lengths that each format can spell
+abbrev pub FitsLength : Format → ℕ → Type 0
+FitsLength Dwarf32 n = n < 0xffff_fff0
+FitsLength Dwarf64 n = n < 2 ^ 64

@@ -1,8 +1,10 @@
 -- How the code finds a LEB128 number: first its last byte, then its value.
-use Rattle.std.specs.Prelude.{◌≡◌, ℕ, suc, ◌+◌, ◌-◌, ◌*◌, ◌^◌, ◌%◌, ◌<◌, min, Bool, true, false, List, [], ◌∷◌, length, take, position, Option, Some, None, Result, Ok, Err, nat_lt, if◌then◌else◌, ℤ}
-use Rattle.dw_leb.specs.Part.{Reason, LebTooBig}
-use Rattle.dw_leb.specs.Number.{Unsigned, Signed, unmarked, extent}
-use Rattle.dw_leb.specs.ReadNumber.{undigits, signed_from}
+use Rattle.std.specs.Prelude.{◌≡◌, ℕ, suc, ◌+◌, ◌-◌, ◌*◌, ◌^◌, ◌%◌, ◌<◌, min, Bool, true, false, List, [], ◌∷◌, length, take, drop, position, Option, Some, None, Result, Ok, Err, nat_lt, if◌then◌else◌, ℤ}
+use Rattle.byteorder.specs.Endian.{big_number, little_number, big_bytes, little_bytes}
+use Rattle.dw_leb.specs.Part.{Reason, LebTooBig, PastUnit, Truncated, ReservedLength, LengthTooBig}
+use Rattle.dw_leb.specs.Number.{Order, Little, Big, Format, Dwarf32, Dwarf64, Unsigned, Signed, unmarked, extent, length_size}
+use Rattle.dw_leb.specs.ReadNumber.{undigits, signed_from, read_fixed}
+use Rattle.dw_leb.specs.Reader.{answer}
 
 -- a byte without bit 7, which is the last of a number
 abbrev pub is_last : ℕ → Bool
@@ -38,3 +40,36 @@ signed_of (Ok front) = let z = signed_from (length front) (number front) in
 abbrev pub HasWidth : List ℕ → Result ℕ Reason → Result (List ℕ) Reason → Type 0
 HasWidth bytes (Ok width) front = front ≡ Ok (take width bytes)
 HasWidth bytes (Err reason) front = front ≡ Err reason
+
+-- ---- fixed numbers and lengths
+
+-- the number in the first n bytes
+abbrev pub fixed_number : Order → ℕ → List ℕ → ℕ
+fixed_number Little n bytes = little_number n bytes
+fixed_number Big n bytes = big_number n bytes
+
+abbrev pub fixed_scan : Order → ℕ → List ℕ → ℕ → Result ℕ Reason
+fixed_scan order n bytes lim = if nat_lt lim n then Err PastUnit else (if nat_lt (length bytes) n then Err Truncated else Ok (fixed_number order n bytes))
+
+-- the n bytes of a number
+abbrev pub fixed_cells : Order → ℕ → ℕ → List ℕ
+fixed_cells Little n x = little_bytes n x
+fixed_cells Big n x = big_bytes n x
+
+-- a length at start, unless its end would pass 2 ^ 63 - 1
+abbrev pub length_within : ℕ → Format → ℕ → Result (Format × ℕ) Reason
+length_within start format n = if nat_lt (start + length_size format + n) (2 ^ 63) then Ok (format, n) else Err LengthTooBig
+
+abbrev pub length_wide : ℕ → Result ℕ Reason → Result (Format × ℕ) Reason
+length_wide start (Err reason) = Err reason
+length_wide start (Ok n) = length_within start Dwarf64 n
+
+abbrev pub length_of : Order → ℕ → List ℕ → Result ℕ Reason → Result (Format × ℕ) Reason
+length_of order start bytes (Err reason) = Err reason
+length_of order start bytes (Ok first) =
+    if nat_lt first 0xffff_fff0 then length_within start Dwarf32 first
+    else (if nat_lt first 0xffff_ffff then Err ReservedLength
+    else length_wide start (answer (read_fixed order 8 (drop 4 bytes) 8)))
+
+abbrev pub length_scan : Order → ℕ → List ℕ → Result (Format × ℕ) Reason
+length_scan order start bytes = length_of order start bytes (answer (read_fixed order 4 bytes 12))

@@ -1,0 +1,75 @@
+//! Numbers of a fixed size (section 7.5.5 names their uses).
+ghost use Rattle.std.specs.Prelude.{◌≡◌, ◌≤◌, ◌<◌, ◌^◌, ℕ, length, Ok, IfOk, IfErr};
+ghost use Rattle.dw_leb.specs.Part.{Taken};
+ghost use Rattle.dw_leb.specs.Number.{fixed, fixed_bytes};
+ghost use Rattle.dw_leb.specs.Reader.{answer};
+ghost use Rattle.dw_leb.specs.ReadNumber.{read_fixed as fixed_reader};
+ghost use Rattle.dw_leb.specs.Scan.{fixed_scan, fixed_cells};
+
+use crate::errors::Reason;
+use crate::order::Order;
+use arrayvec::ArrayVec;
+use byteorder::{BigEndian, ByteOrder, LittleEndian};
+
+/// The number in the first `n` bytes of `b`, of which `lim` are left to the unit's end.
+///
+/// Refused where the unit ends before `n` bytes (`PastUnit`), else where the input does
+/// (`Truncated`).
+pub fn read_fixed(order: Order, n: u8, b: &[u8], lim: u64) -> Result<u128, Reason>
+    requires some { 1 ≤ n }
+    requires most { n ≤ 16 }
+    ensures found { IfOk result (λ x. Taken (fixed order n) b.now lim x n) }
+    ensures only { (x : ℕ) → Taken (fixed order n) b.now lim x n → result ≡ Ok x }
+    ensures broken { IfErr result (λ reason. (fixed order n).Break b.now lim 0 reason) }
+    ensures exact { result ≡ answer (fixed_reader order n b.now lim) }
+    ensures small { IfOk result (λ x. x < 256 ^ n) }
+    ensures room { IfOk result (λ _. (n ≤ length b.now) × (n ≤ lim)) }
+{
+    scan(order, n, b, lim)
+}
+
+fn scan(order: Order, n: u8, b: &[u8], lim: u64) -> Result<u128, Reason>
+    requires some { 1 ≤ n }
+    requires most { n ≤ 16 }
+    ensures exact { result ≡ fixed_scan order n b.now lim }
+    ensures room { IfOk result (λ _. (n ≤ length b.now) × (n ≤ lim)) }
+{
+    if lim < n as u64 {
+        return Err(Reason::PastUnit);
+    }
+    if b.len() < n as usize {
+        return Err(Reason::Truncated);
+    }
+    match order {
+        Order::Little => Ok(LittleEndian::read_uint128(b, n as usize)),
+        Order::Big => Ok(BigEndian::read_uint128(b, n as usize)),
+    }
+}
+
+/// The `n` bytes of the number `x`.
+pub fn write_fixed(order: Order, n: u8, x: u128) -> ArrayVec<u8, 16>
+    requires some { 1 ≤ n }
+    requires most { n ≤ 16 }
+    requires fits { x < 256 ^ n }
+    ensures spelling { result.items ≡ (fixed order n).spell x }
+    ensures length { length result.items ≡ n }
+{
+    spell(order, n, x)
+}
+
+fn spell(order: Order, n: u8, x: u128) -> ArrayVec<u8, 16>
+    requires some { 1 ≤ n }
+    requires most { n ≤ 16 }
+    requires fits { x < 256 ^ n }
+    ensures spelling { result.items ≡ fixed_cells order n x }
+    ensures length { length result.items ≡ n }
+{
+    let mut cells = [0u8; 16];
+    match order {
+        Order::Little => LittleEndian::write_uint128(&mut cells, x, n as usize),
+        Order::Big => BigEndian::write_uint128(&mut cells, x, n as usize),
+    }
+    let mut bytes = ArrayVec::new();
+    let _fits = bytes.try_extend_from_slice(&cells[..n as usize]);
+    bytes
+}
