@@ -10,3 +10,7 @@ pub mod DecideNumber
 pub mod DecideRepeat
 pub mod Scan
 pub mod Field
+pub mod Watch
+pub mod Known
+pub mod Devices
+pub mod Laws

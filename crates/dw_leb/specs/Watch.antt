@@ -1,0 +1,79 @@
+-- A watched reader or writer, and the fault that it keeps.
+use Rattle.std.specs.Prelude.{◌≡◌, ◌≤◌, ◌<◌, ℕ, zero, List, ◌∷◌, length, take, Option, Some, None, Result, Ok, Err}
+use Rattle.std.specs.Io.KnownBytes.{Appends, Consumes, IsAtEnd, Keeps}
+use Rattle.std.specs.IoError.{error_kind}
+use Rattle.std.specs.declared.io.Error.{Error}
+use Rattle.std.specs.declared.io.ErrorKind.{ErrorKind}
+use Rattle.std.specs.declared.io.ErrorKind.TheVariants.{WriteZero}
+use Rattle.dw_leb.specs.declared.watch.Watched.{Watched}
+use Rattle.dw_leb.specs.declared.errors.ReadError.{ReadError}
+use Rattle.dw_leb.specs.declared.errors.ReadError.TheVariants as reads
+use Rattle.dw_leb.specs.declared.errors.WriteError.{WriteError}
+use Rattle.dw_leb.specs.declared.errors.WriteError.TheVariants as writes
+use Rattle.dw_leb.specs.declared.errors.Fault.{Fault}
+use Rattle.dw_leb.specs.declared.errors.Section.TheVariants as sections
+use Rattle.dw_leb.specs.declared.errors.Reason.TheVariants as reasons
+
+-- the reader or writer that is watched
+abbrev pub inner_of : {T : Type 0} → Watched T → T
+inner_of w = w.inner
+
+-- the kind of the first call that failed
+abbrev pub fault_of : {T : Type 0} → Watched T → Option ErrorKind
+fault_of w = w.first
+
+-- the fault of one read
+abbrev pub read_fault : Result ℕ Error → Option ErrorKind
+read_fault (Ok n) = None
+read_fault (Err e) = Some (error_kind e)
+
+-- the fault of one write of some bytes: an error, or that none of them was taken
+abbrev pub write_fault : Result ℕ Error → List ℕ → Option ErrorKind
+write_fault (Ok zero) (b ∷ bytes) = Some WriteZero
+write_fault (Ok n) bytes = None
+write_fault (Err e) bytes = Some (error_kind e)
+
+-- the reader's fault that an answer tells
+abbrev pub told_by_read : {X : Type 0} → Result X ReadError → Option ErrorKind
+told_by_read (Err (reads.Io kind)) = Some kind
+told_by_read (Err (reads.Fault f)) = None
+told_by_read (Err reads.NoMemory) = None
+told_by_read (Ok x) = None
+
+-- the writer's fault that an answer tells
+abbrev pub told_by_write : {X : Type 0} → Result X WriteError → Option ErrorKind
+told_by_write (Err (writes.Io kind)) = Some kind
+told_by_write (Ok x) = None
+
+-- at most n known bytes are taken
+abbrev pub ConsumesUpTo : Option (List ℕ) → Option (List ℕ) → ℕ → Type 0
+ConsumesUpTo old new n = (bytes : List ℕ) × (length bytes ≤ n) × Consumes old new bytes
+
+-- known bytes grow by a beginning of these
+abbrev pub AppendsFront : Option (List ℕ) → Option (List ℕ) → List ℕ → Type 0
+AppendsFront old new bytes = (n : ℕ) × (n ≤ length bytes) × Appends old new (take n bytes)
+
+-- the fault of an input that ends too early
+abbrev pub truncated : Fault
+truncated = record { section = sections.Info; offset = 0; reason = reasons.Truncated }
+
+-- What a read of exactly n bytes answers and takes, by the bytes left before and after. An answer that
+-- tells a truncated input took all that was left, which was less; any other error took no byte more.
+abbrev pub ReadsExactly : {X : Type 0} → (X → List ℕ) → Option (List ℕ) → Option (List ℕ) → ℕ → Result X ReadError → Type 0
+ReadsExactly view old new n (Ok x) = (length (view x) ≡ n) × Consumes old new (view x)
+ReadsExactly view old new n (Err (reads.Fault f)) = (f ≡ truncated) × ((bytes : List ℕ) × (length bytes < n) × Consumes old new bytes) × IsAtEnd new
+ReadsExactly view old new n (Err reads.NoMemory) = ConsumesUpTo old new n
+ReadsExactly view old new n (Err (reads.Io kind)) = ConsumesUpTo old new n
+
+-- an error of one read: the input is at its end, or nothing was taken
+abbrev pub FailsToRead : Option (List ℕ) → Option (List ℕ) → ReadError → Type 0
+FailsToRead old new (reads.Fault f) = (f ≡ truncated) × Keeps old new × IsAtEnd new
+FailsToRead old new reads.NoMemory = ⊥
+FailsToRead old new (reads.Io kind) = Keeps old new
+
+-- What a read of all that is left answers and takes.
+abbrev pub ReadsAll : {X : Type 0} → (X → List ℕ) → Option (List ℕ) → Option (List ℕ) → Result X ReadError → Type 0
+ReadsAll view old new (Ok x) = Consumes old new (view x) × IsAtEnd new
+ReadsAll view old new (Err (reads.Fault f)) = ⊥
+ReadsAll view old new (Err reads.NoMemory) = (bytes : List ℕ) × Consumes old new bytes
+ReadsAll view old new (Err (reads.Io kind)) = (bytes : List ℕ) × Consumes old new bytes

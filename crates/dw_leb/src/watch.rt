@@ -1,0 +1,93 @@
+//! Readers and writers that keep their first fault.
+ghost use Rattle.std.specs.Prelude.{◌≡◌, ◌≤◌, ◌<◌, ◌+◌, ◌-◌, ℕ, List, length, take, None, Some, IfOk, IfErr, OnOk, vec_len, vec_items};
+ghost use Rattle.std.specs.Io.{ReadsAtMost, WritesAtMost};
+ghost use Rattle.std.specs.Io.KnownBytes.{Appends, Consumes, IsAtEnd, ReadConsumes, WriteAppends};
+ghost use Rattle.dw_leb.specs.Watch.{inner_of, fault_of, read_fault, write_fault, told_by_read, told_by_write, AppendsFront, ReadsExactly, FailsToRead};
+
+use crate::errors::{Fault, ReadError, Reason, Section, WriteError};
+use arrayvec::ArrayVec;
+use std::alloc::Global;
+use std::io;
+use std::io::{ErrorKind, Read, Write};
+
+/// A reader or writer that is watched: it passes calls on, and keeps the kind of the first that
+/// failed. A call on it asks that no fault stands, so nothing is retried.
+#[derive(Drop)]
+pub struct Watched<T> {
+    inner: T,
+    first: Option<ErrorKind>,
+}
+
+impl<T> Watched<T> {
+    /// Watches `inner`, which has not failed yet.
+    pub fn new(inner: T) -> Self
+        ensures inner { inner_of result ≡ inner }
+        ensures fault { fault_of result ≡ None }
+    {
+        Watched { inner, first: None }
+    }
+
+    /// The kind of the first call that failed; `WriteZero` where a writer took no byte of some.
+    pub fn fault(&self) -> Option<ErrorKind>
+        ensures { result ≡ fault_of self.now }
+    {
+        self.first
+    }
+
+    /// Forgets the fault. It takes the whole, so that who was lent a `Watched` can't.
+    pub fn clear(self) -> Self
+        ensures inner { inner_of result ≡ inner_of self }
+        ensures fault { fault_of result ≡ None }
+    {
+        let Watched { inner, first: _ } = self;
+        Watched { inner, first: None }
+    }
+
+    /// The reader or writer, no longer watched.
+    pub fn into_inner(self) -> T
+        ensures { result ≡ inner_of self }
+    {
+        let Watched { inner, first: _ } = self;
+        inner
+    }
+}
+
+impl<R: Read> Watched<R> {
+    /// One read, where no fault stands.
+    pub fn read(&mut self, buf: &mut [u8]) -> io::Result<usize>
+        requires { fault_of self.old ≡ None }
+        ensures bound { ReadsAtMost result buf.new }
+        ensures bytes { ReadConsumes (R.remaining (inner_of self.old)) (R.remaining (inner_of self.new)) result buf.new }
+        ensures fault { fault_of self.new ≡ read_fault result }
+    {
+        let result = self.inner.read(buf);
+        if let Err(e) = &result {
+            self.first = Some(e.kind());
+        }
+        result
+    }
+}
+
+impl<W: Write> Watched<W> {
+    /// One write, where no fault stands.
+    pub fn write(&mut self, buf: &[u8]) -> io::Result<usize>
+        requires { fault_of self.old ≡ None }
+        ensures bound { WritesAtMost result buf.now }
+        ensures bytes { WriteAppends (W.contents (inner_of self.old)) (W.contents (inner_of self.new)) result buf.now }
+        ensures fault { fault_of self.new ≡ write_fault result buf.now }
+    {
+        match self.inner.write(buf) {
+            Ok(n) => {
+                if n == 0 && !buf.is_empty() {
+                    self.first = Some(ErrorKind::WriteZero);
+                }
+                Ok(n)
+            }
+            Err(e) => {
+                self.first = Some(e.kind());
+                Err(e)
+            }
+        }
+    }
+}
+
