@@ -13,8 +13,8 @@ use Rattle.dw_leb.specs.Digits.{content_decides, fixed_decides, text_decides, Sh
 use Rattle.dw_leb.specs.DecideNumber.{uleb_decides, uleb_stays, sleb_decides, sleb_stays}
 use Rattle.dw_form.specs.declared.shape.Ctx.{Ctx}
 use Rattle.dw_form.specs.declared.shape.Shape.{Shape}
-use Rattle.dw_form.specs.Form.{shape, Value, Num, Wide, Uleb, Sleb, Block, Text, Present, Implicit, Attribute, as_fixed, as_unsigned, as_signed, as_counted, as_counted_unsigned, as_text, as_flag, shaped, shaped_if, formed, as_direct, as_indirect, bad_inner, indirect, by_indirection, attribute}
-use Rattle.dw_form.specs.ReadForm.{fixed_from, read_shaped, read_shaped_if, read_formed, direct_from, indirect_from, read_by_indirection, read_attribute}
+use Rattle.dw_form.specs.Form.{shape, Value, Num, Wide, Uleb, Sleb, Block, Text, Present, Implicit, Attribute, as_fixed, as_unsigned, as_signed, as_counted, as_counted_unsigned, as_text, as_flag, constant, shaped, shaped_if, formed, as_direct, as_indirect, bad_inner, indirect, by_indirection, attribute}
+use Rattle.dw_form.specs.ReadForm.{fixed_from, read_constant, read_shaped, read_shaped_if, read_formed, direct_from, indirect_from, read_by_indirection, read_attribute}
 use Rattle.dw_form.specs.declared.shape.Shape.TheVariants as shapes
 
 -- an Option that a test chose
@@ -137,7 +137,11 @@ counted_unsigned_view = record { back = λ x a e fits. back x a e; there = λ a 
     back (Wide x) a e = absurd cc
     back (Implicit c) a e = absurd cc
 
-pub shaped_decides : (k : Ctx) (c : Signed) (s : Shape) → Decides (shaped k c s) (read_shaped k c s)
+constant_decides : (c : Option Signed) → Decides (constant c) (read_constant c)
+constant_decides None = refused_decides _
+constant_decides (Some c) = exactly_decides (Implicit c)
+
+pub shaped_decides : (k : Ctx) (c : Option Signed) (s : Shape) → Decides (shaped k c s) (read_shaped k c s)
 unfolding shaped
 shaped_decides k c (shapes.Fixed n) = seen_decides _ _ (as_fixed n) (fixed_from n) (fixed_view k.order n) (fixed_decides k.order n)
 shaped_decides k c shapes.Uleb = seen_decides uleb read_uleb as_unsigned _ unsigned_view uleb_decides
@@ -146,19 +150,19 @@ shaped_decides k c (shapes.Counted n) = seen_decides (fixed k.order n then conte
 shaped_decides k c shapes.CountedUleb = seen_decides (uleb then λ u. content u.value) _ as_counted_unsigned _ counted_unsigned_view (then_decides _ _ _ _ uleb_decides (λ u. content_decides u.value))
 shaped_decides k c shapes.Text = seen_decides text read_text as_text _ text_view text_decides
 shaped_decides k c shapes.Present = seen_decides nothing (returned tt) as_flag _ flag_view nothing_decides
-shaped_decides k c shapes.Implicit = exactly_decides (Implicit c)
+shaped_decides k c shapes.Implicit = constant_decides c
 shaped_decides k c shapes.Indirect = refused_decides _
 
-shaped_if_decides : (k : Ctx) (c : Signed) (s : Option Shape) → Decides (shaped_if k c s) (read_shaped_if k c s)
+shaped_if_decides : (k : Ctx) (c : Option Signed) (s : Option Shape) → Decides (shaped_if k c s) (read_shaped_if k c s)
 shaped_if_decides k c None = refused_decides _
 shaped_if_decides k c (Some s) = shaped_decides k c s
 
-formed_decides : (k : Ctx) (c : Signed) (form : ℕ) → Decides (formed k c form) (read_formed k c form)
-formed_decides k c form = shaped_if_decides k c (shape k form)
+formed_decides : (k : Ctx) (c : Option Signed) (form : ℕ) → Decides (formed k c form) (read_formed k c form)
+formed_decides k c form = shaped_if_decides k c (shape form k.address_size k.format)
 
-indirection_decides : (k : Ctx) (c : Signed) (form : ℕ) (b : Bool) → Decides (by_indirection k c form b) (read_by_indirection k c form b)
-indirection_decides k c form true = seen_decides (indirect k c) _ as_indirect indirect_from (record { back = λ x a e fits. back x.via x.value a e; there = λ a fits. refl })
-    (then_decides _ _ _ _ (judged_decides uleb read_uleb bad_inner uleb_decides) (λ u. formed_decides k c u.value))
+indirection_decides : (k : Ctx) (c : Option Signed) (form : ℕ) (b : Bool) → Decides (by_indirection k c form b) (read_by_indirection k c form b)
+indirection_decides k c form true = seen_decides (indirect k) _ as_indirect indirect_from (record { back = λ x a e fits. back x.via x.value a e; there = λ a fits. refl })
+    (then_decides _ _ _ _ (judged_decides uleb read_uleb bad_inner uleb_decides) (λ u. formed_decides k None u.value))
   where
     back : (via : Option Unsigned) (v : Value) (a : Unsigned × Value) → as_indirect (record { via = via; value = v }) ≡ Some a → indirect_from a ≡ record { via = via; value = v }
     back None v a e = absurd cc
@@ -169,13 +173,17 @@ indirection_decides k c form false = seen_decides (formed k c form) _ as_direct 
     back None v a e = let c : v ≡ a = cc in ap direct_from (sym c)
     back (Some u) v a e = absurd cc
 
-pub attribute_decides : (k : Ctx) (form : ℕ) (c : Signed) → Decides (attribute k form c) (read_attribute k form c)
+pub attribute_decides : (k : Ctx) (form : ℕ) (c : Option Signed) → Decides (attribute k form c) (read_attribute k form c)
 unfolding attribute read_attribute
 attribute_decides k form c = whole_decides _ _ (indirection_decides k c form (form == 0x16))
 
 -- ---- breaks of values that stay
 
-shaped_stays : (k : Ctx) (c : Signed) (s : Shape) → Stays (shaped k c s).Break
+constant_stays : (c : Option Signed) → Stays (constant c).Break
+constant_stays None = refused_stays Value _
+constant_stays (Some c) = nothing_stays
+
+shaped_stays : (k : Ctx) (c : Option Signed) (s : Shape) → Stays (shaped k c s).Break
 unfolding shaped
 shaped_stays k c (shapes.Fixed n) = Short_stays n
 shaped_stays k c shapes.Uleb = uleb_stays
@@ -184,17 +192,17 @@ shaped_stays k c (shapes.Counted n) = then_stays (fixed k.order n) content (Shor
 shaped_stays k c shapes.CountedUleb = then_stays uleb (λ u. content u.value) uleb_stays (λ u. Short_stays u.value)
 shaped_stays k c shapes.Text = text_stays
 shaped_stays k c shapes.Present = nothing_stays
-shaped_stays k c shapes.Implicit = nothing_stays
+shaped_stays k c shapes.Implicit = constant_stays c
 shaped_stays k c shapes.Indirect = refused_stays Value _
 
-shaped_if_stays : (k : Ctx) (c : Signed) (s : Option Shape) → Stays (shaped_if k c s).Break
+shaped_if_stays : (k : Ctx) (c : Option Signed) (s : Option Shape) → Stays (shaped_if k c s).Break
 shaped_if_stays k c None = refused_stays Value _
 shaped_if_stays k c (Some s) = shaped_stays k c s
 
-indirection_stays : (k : Ctx) (c : Signed) (form : ℕ) (b : Bool) → Stays (by_indirection k c form b).Break
-indirection_stays k c form true = then_stays (judged uleb bad_inner) (λ u. formed k c u.value) (judged_stays uleb bad_inner uleb_stays) (λ u. shaped_if_stays k c (shape k u.value))
-indirection_stays k c form false = shaped_if_stays k c (shape k form)
+indirection_stays : (k : Ctx) (c : Option Signed) (form : ℕ) (b : Bool) → Stays (by_indirection k c form b).Break
+indirection_stays k c form true = then_stays (judged uleb bad_inner) (λ u. formed k None u.value) (judged_stays uleb bad_inner uleb_stays) (λ u. shaped_if_stays k None (shape u.value k.address_size k.format))
+indirection_stays k c form false = shaped_if_stays k c (shape form k.address_size k.format)
 
-pub attribute_stays : (k : Ctx) (form : ℕ) (c : Signed) → Stays (attribute k form c).Break
+pub attribute_stays : (k : Ctx) (form : ℕ) (c : Option Signed) → Stays (attribute k form c).Break
 unfolding attribute
 attribute_stays k form c = whole_stays (by_indirection k c form (form == 0x16)) (indirection_stays k c form (form == 0x16))

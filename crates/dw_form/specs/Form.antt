@@ -10,9 +10,9 @@ use Rattle.dw_form.specs.declared.shape.Shape.{Shape}
 use Rattle.dw_form.specs.declared.shape.Shape.TheVariants as shapes
 
 -- the forms of the standard, and two of GNU for supplementary files
-abbrev pub forms : Ctx → List (ℕ × Shape)
-forms k = let off = offset_size k.format in
-    (0x01, shapes.Fixed k.address_size) ∷ (0x03, shapes.Counted 2) ∷ (0x04, shapes.Counted 4) ∷ (0x05, shapes.Fixed 2) ∷ (0x06, shapes.Fixed 4) ∷ (0x07, shapes.Fixed 8) ∷ (0x08, shapes.Text) ∷ (0x09, shapes.CountedUleb)
+abbrev pub forms : ℕ → Format → List (ℕ × Shape)
+forms address_size format = let off = offset_size format in
+    (0x01, shapes.Fixed address_size) ∷ (0x03, shapes.Counted 2) ∷ (0x04, shapes.Counted 4) ∷ (0x05, shapes.Fixed 2) ∷ (0x06, shapes.Fixed 4) ∷ (0x07, shapes.Fixed 8) ∷ (0x08, shapes.Text) ∷ (0x09, shapes.CountedUleb)
     ∷ (0x0a, shapes.Counted 1) ∷ (0x0b, shapes.Fixed 1) ∷ (0x0c, shapes.Fixed 1) ∷ (0x0d, shapes.Sleb) ∷ (0x0e, shapes.Fixed off) ∷ (0x0f, shapes.Uleb) ∷ (0x10, shapes.Fixed off) ∷ (0x11, shapes.Fixed 1) ∷ (0x12, shapes.Fixed 2)
     ∷ (0x13, shapes.Fixed 4) ∷ (0x14, shapes.Fixed 8) ∷ (0x15, shapes.Uleb) ∷ (0x16, shapes.Indirect) ∷ (0x17, shapes.Fixed off) ∷ (0x18, shapes.CountedUleb) ∷ (0x19, shapes.Present) ∷ (0x1a, shapes.Uleb) ∷ (0x1b, shapes.Uleb)
     ∷ (0x1c, shapes.Fixed 4) ∷ (0x1d, shapes.Fixed off) ∷ (0x1e, shapes.Fixed 16) ∷ (0x1f, shapes.Fixed off) ∷ (0x20, shapes.Fixed 8) ∷ (0x21, shapes.Implicit) ∷ (0x22, shapes.Uleb) ∷ (0x23, shapes.Uleb) ∷ (0x24, shapes.Fixed 8)
@@ -24,8 +24,8 @@ at_number n [] = None
 at_number n (row ∷ rows) = if row.0 == n then Some row.1 else at_number n rows
 
 -- the shape of a form; no other number has one
-unfoldable pub shape : Ctx → ℕ → Option Shape
-shape k form = at_number form (forms k)
+unfoldable pub shape : ℕ → ℕ → Format → Option Shape
+shape form address_size format = at_number form (forms address_size format)
 
 -- a value as it is written; a block with the width of its length field
 pub data Value : Type 0 where
@@ -74,8 +74,13 @@ abbrev pub as_flag : Value → Option (Unit {0})
 as_flag Present = Some tt
 as_flag _ = None
 
--- a value of a shape; c is the constant that the declaration gives
-unfoldable pub shaped : Ctx → Signed → Shape → Part Value
+-- the value of implicit_const is the constant that the declaration gives; inside indirect there is none
+abbrev pub constant : Option Signed → Part Value
+constant None = refused BadIndirect
+constant (Some c) = exactly (Implicit c)
+
+-- a value of a shape; c is the declaration's constant
+unfoldable pub shaped : Ctx → Option Signed → Shape → Part Value
 shaped k c (shapes.Fixed n) = seen (as_fixed n) (fixed k.order n)
 shaped k c shapes.Uleb = seen as_unsigned uleb
 shaped k c shapes.Sleb = seen as_signed sleb
@@ -83,16 +88,16 @@ shaped k c (shapes.Counted n) = seen (as_counted n) (fixed k.order n then conten
 shaped k c shapes.CountedUleb = seen as_counted_unsigned (uleb then λ u. content u.value)
 shaped k c shapes.Text = seen as_text text
 shaped k c shapes.Present = seen as_flag nothing
-shaped k c shapes.Implicit = exactly (Implicit c)
+shaped k c shapes.Implicit = constant c
 shaped k c shapes.Indirect = refused BadIndirect
 
-abbrev pub shaped_if : Ctx → Signed → Option Shape → Part Value
+abbrev pub shaped_if : Ctx → Option Signed → Option Shape → Part Value
 shaped_if k c None = refused UnknownForm
 shaped_if k c (Some s) = shaped k c s
 
 -- a value of a form: a form is judged before any byte of its value
-abbrev pub formed : Ctx → Signed → ℕ → Part Value
-formed k c form = shaped_if k c (shape k form)
+abbrev pub formed : Ctx → Option Signed → ℕ → Part Value
+formed k c form = shaped_if k c (shape form k.address_size k.format)
 
 abbrev pub direct_if : Option Unsigned → Value → Option Value
 direct_if None v = Some v
@@ -112,13 +117,13 @@ as_indirect a = indirect_if a.via a.value
 abbrev pub bad_inner : Unsigned → Option Reason
 bad_inner form = if form.value == 0x16 || form.value == 0x21 then Some BadIndirect else None
 
-abbrev pub indirect : Ctx → Signed → Part (Unsigned × Value)
-indirect k c = judged uleb bad_inner then λ form. formed k c form.value
+abbrev pub indirect : Ctx → Part (Unsigned × Value)
+indirect k = judged uleb bad_inner then λ form. formed k None form.value
 
-abbrev pub by_indirection : Ctx → Signed → ℕ → Bool → Part Attribute
-by_indirection k c form true = seen as_indirect (indirect k c)
+abbrev pub by_indirection : Ctx → Option Signed → ℕ → Bool → Part Attribute
+by_indirection k c form true = seen as_indirect (indirect k)
 by_indirection k c form false = seen as_direct (formed k c form)
 
 -- an attribute's value, one field
-unfoldable pub attribute : Ctx → ℕ → Signed → Part Attribute
+unfoldable pub attribute : Ctx → ℕ → Option Signed → Part Attribute
 attribute k form c = whole (by_indirection k c form (form == 0x16))

@@ -1,3 +1,4 @@
 pub mod Form
 pub mod ReadForm
 pub mod DecideForm
+pub mod Lent

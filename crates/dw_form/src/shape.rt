@@ -1,5 +1,9 @@
 //! The form table.
 
+ghost use Rattle.std.specs.Prelude.{◌≡◌, ◌≤◌, None, Some};
+ghost use Rattle.dw_leb.specs.Number.{offset_size as offset_bytes};
+ghost use Rattle.dw_form.specs.Form.{shape};
+
 use dw_leb::{Format, Order};
 
 /// What the bytes of a unit's values depend on.
@@ -34,4 +38,48 @@ pub enum Shape {
     Implicit,
     /// The number of another form, and then a value of that form.
     Indirect,
+}
+
+impl Shape {
+    #[tactic(auto, unfolding(crate::specs::Form::shape))]
+    /// The shape of a form by its number, in a unit of this address size (1 to 8) and format; None
+    /// for a number that isn't in the form table.
+    pub fn of(form: u64, address_size: u8, format: Format) -> Option<Shape>
+        requires some { 1 ≤ address_size }
+        requires most { address_size ≤ 8 }
+        ensures { result ≡ shape form address_size format }
+    {
+        let offset = offset_size(format);
+        match form {
+            0x01 => Some(Shape::Fixed(address_size)),
+            0x0b | 0x0c | 0x11 | 0x25 | 0x29 => Some(Shape::Fixed(1)),
+            0x05 | 0x12 | 0x26 | 0x2a => Some(Shape::Fixed(2)),
+            0x27 | 0x2b => Some(Shape::Fixed(3)),
+            0x06 | 0x13 | 0x1c | 0x28 | 0x2c => Some(Shape::Fixed(4)),
+            0x07 | 0x14 | 0x20 | 0x24 => Some(Shape::Fixed(8)),
+            0x1e => Some(Shape::Fixed(16)),
+            0x0e | 0x10 | 0x17 | 0x1d | 0x1f | 0x1f20 | 0x1f21 => Some(Shape::Fixed(offset)),
+            0x0f | 0x15 | 0x1a | 0x1b | 0x22 | 0x23 => Some(Shape::Uleb),
+            0x0d => Some(Shape::Sleb),
+            0x0a => Some(Shape::Counted(1)),
+            0x03 => Some(Shape::Counted(2)),
+            0x04 => Some(Shape::Counted(4)),
+            0x09 | 0x18 => Some(Shape::CountedUleb),
+            0x08 => Some(Shape::Text),
+            0x16 => Some(Shape::Indirect),
+            0x19 => Some(Shape::Present),
+            0x21 => Some(Shape::Implicit),
+            _ => None,
+        }
+    }
+}
+
+/// The bytes of a section offset.
+fn offset_size(format: Format) -> u8
+    ensures { result ≡ offset_bytes format }
+{
+    match format {
+        Format::Dwarf32 => 4,
+        Format::Dwarf64 => 8,
+    }
 }

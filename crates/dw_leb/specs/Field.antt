@@ -4,8 +4,8 @@ use Rattle.std.proofs.Common.{sym, ap, ◌∙◌, ◌≤◌, ◌<◌, ◌^◌, �
 use Rattle.std.specs.List.{AllByRecursion}
 use Rattle.dw_leb.specs.Part.{Reason, Part, Taken}
 use Rattle.dw_leb.specs.Number.{Order, fixed}
-use Rattle.dw_leb.specs.Reader.{Outcome, Found, Broken, Reader, answer}
-use Rattle.dw_leb.specs.Decide.{Decides, Says, AreBytes, found}
+use Rattle.dw_leb.specs.Reader.{Outcome, Found, Broken, Reader, answer, outcome_of}
+use Rattle.dw_leb.specs.Decide.{Decides, Says, AreBytes, found, broken}
 
 -- a part that breaks at its first byte alone
 abbrev pub IsField : {X : Type 0} → Part X → Type 0
@@ -44,3 +44,13 @@ module _ {X : Type 0} (P : Part X) (R : Reader X) (it : Decides P R) (bytes : Li
 pub small_by : (order : Order) (n : ℕ) (bytes : List ℕ) (lim : ℕ) (r : Result ℕ Reason) → IfOk r (λ x. Taken (fixed order n) bytes lim x n) → IfOk r (λ x. x < 256 ^ n)
 small_by order n bytes lim (Ok x) h = h.fits
 small_by order n bytes lim (Err reason) h = tt
+
+-- ---- the plain reader's outcome, by what a call answers
+
+module _ {X : Type 0} (P : Part X) (R : Reader X) (it : Decides P R) (bytes : List ℕ) (lim : ℕ) where
+  outcome_said : (size : X → ℕ) → ((x : X) → P.Fits x → length (P.spell x) ≡ size x) → IsField P → (o : Outcome X) → Says P bytes lim o → o ≡ outcome_of size (answer o)
+  outcome_said size sized field (Found x n) h = ap (λ (k : ℕ). found x k) (sym h.is_size ∙ sized x h.fits)
+  outcome_said size sized field (Broken offset reason) h = ap (λ (k : ℕ). broken X k reason) (field bytes lim offset reason h)
+
+  pub outcome_by : (size : X → ℕ) → ((x : X) → P.Fits x → length (P.spell x) ≡ size x) → IsField P → AreBytes bytes → (r : Result X Reason) → r ≡ answer (R bytes lim) → R bytes lim ≡ outcome_of size r
+  outcome_by size sized field fit r e = outcome_said size sized field (R bytes lim) (it.says bytes lim fit) ∙ ap (outcome_of size) (sym e)

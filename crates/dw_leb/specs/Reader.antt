@@ -77,3 +77,8 @@ module _ {H B : Type 0} (head : List (H × B) → Reader H) (ends : H → Bool) 
 abbrev pub answer : {X : Type 0} → Outcome X → Result X Reason
 answer (Found x size) = Ok x
 answer (Broken offset reason) = Err reason
+
+-- the outcome of reading one field that answers so: its size is told by its value, and it breaks at its first byte
+abbrev pub outcome_of : {X : Type 0} → (X → ℕ) → Result X Reason → Outcome X
+outcome_of size (Ok x) = Found x (size x)
+outcome_of size (Err reason) = Broken 0 reason

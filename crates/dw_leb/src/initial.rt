@@ -3,7 +3,7 @@ ghost use Rattle.std.specs.Prelude.{◌≡◌, ◌≤◌, ◌<◌, ◌^◌, ℕ,
 ghost use Rattle.dw_leb.specs.Part.{Taken};
 ghost use Rattle.dw_leb.specs.Number.{initial_length, length_size, length_limit, FitsLength};
 ghost use Rattle.dw_leb.specs.declared.order.Format.{Format as TheFormat};
-ghost use Rattle.dw_leb.specs.Reader.{answer};
+ghost use Rattle.dw_leb.specs.Reader.{answer, outcome_of};
 ghost use Rattle.dw_leb.specs.ReadNumber.{read_length as length_reader};
 ghost use Rattle.dw_leb.specs.Scan.{length_scan, length_within};
 
@@ -22,6 +22,7 @@ pub fn read_length(order: Order, start: u64, b: &[u8]) -> Result<(Format, u64), 
     ensures only { (format : TheFormat) (n : ℕ) → Taken (initial_length order start) b.now length_limit (format, n) (length_size format) → result ≡ Ok (format, n) }
     ensures broken { IfErr result (λ reason. (initial_length order start).Break b.now length_limit 0 reason) }
     ensures exact { result ≡ answer (length_reader order start b.now length_limit) }
+    ensures outcome { length_reader order start b.now length_limit ≡ outcome_of (λ x. length_size x.0) result }
     ensures room { IfOk result (λ x. length_size x.0 ≤ length b.now) }
     ensures end { IfOk result (λ x. x.1 < 2 ^ 63) }
 {

@@ -2,7 +2,7 @@
 ghost use Rattle.std.specs.Prelude.{◌≡◌, ◌≤◌, ◌<◌, ◌*◌, ◌^◌, ℕ, negsuc, length, Ok, IsSome, IfSome, IfOk, IfErr, ◌↔◌};
 ghost use Rattle.dw_leb.specs.Part.{Taken};
 ghost use Rattle.dw_leb.specs.Number.{Signed, SlebFits, sleb, extent};
-ghost use Rattle.dw_leb.specs.Reader.{answer};
+ghost use Rattle.dw_leb.specs.Reader.{answer, outcome_of};
 ghost use Rattle.dw_leb.specs.ReadNumber.{read_sleb};
 ghost use Rattle.dw_leb.specs.Scan.{front_at, signed_of};
 
@@ -42,6 +42,7 @@ impl Sleb {
         ensures only { (x : Signed) → Taken sleb b.now lim x x.width → result ≡ Ok x }
         ensures broken { IfErr result (λ reason. sleb.Break b.now lim 0 reason) }
         ensures exact { result ≡ answer (read_sleb b.now lim) }
+        ensures outcome { read_sleb b.now lim ≡ outcome_of (λ x. x.width) result }
         ensures room { IfOk result (λ x. (x.width ≤ length b.now) × (x.width ≤ lim)) }
     {
         Sleb::scan(b, lim)

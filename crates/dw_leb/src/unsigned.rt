@@ -2,7 +2,7 @@
 ghost use Rattle.std.specs.Prelude.{◌≡◌, ◌≤◌, ◌<◌, ◌*◌, ◌^◌, ℕ, length, Ok, Some, IsSome, IfSome, IfOk, IfErr, ◌↔◌};
 ghost use Rattle.dw_leb.specs.Part.{Taken};
 ghost use Rattle.dw_leb.specs.Number.{Unsigned, UlebFits, uleb};
-ghost use Rattle.dw_leb.specs.Reader.{answer};
+ghost use Rattle.dw_leb.specs.Reader.{answer, outcome_of};
 ghost use Rattle.dw_leb.specs.ReadNumber.{read_uleb};
 ghost use Rattle.dw_leb.specs.Scan.{front_at, unsigned_of};
 
@@ -42,6 +42,7 @@ impl Uleb {
         ensures only { (x : Unsigned) → Taken uleb b.now lim x x.width → result ≡ Ok x }
         ensures broken { IfErr result (λ reason. uleb.Break b.now lim 0 reason) }
         ensures exact { result ≡ answer (read_uleb b.now lim) }
+        ensures outcome { read_uleb b.now lim ≡ outcome_of (λ x. x.width) result }
         ensures room { IfOk result (λ x. (x.width ≤ length b.now) × (x.width ≤ lim)) }
     {
         Uleb::scan(b, lim)

@@ -23,7 +23,7 @@ use Rattle.dw_form.specs.DecideForm.{attribute_decides, attribute_stays}
 use Rattle.dw_abbrev.specs.Table.{Pair, Table, is_null, zero_of, declared}
 use Rattle.dw_abbrev.specs.DecideTable.{null_is}
 use Rattle.dw_unit.specs.Header.{added_sizes, numbers, bad_version, bad_type, bad_address_size, no_more, first_and_rest, fields}
-use Rattle.dw_unit.specs.Tree.{Tree, leaf, branch, Forest, none, more, Body, node_of, nodes_of, as_node, as_nodes, first_value, no_value, constant_of, values, pairs_of, children_of, bad_root, bad_child, body, children, tree, nulls, AreNulls, not_null, MoreBreaks, PaddingBreaks}
+use Rattle.dw_unit.specs.Tree.{Tree, leaf, branch, Forest, none, more, Body, node_of, nodes_of, as_node, as_nodes, first_value, no_value, values, pairs_of, children_of, bad_root, bad_child, body, children, tree, nulls, AreNulls, not_null, MoreBreaks, PaddingBreaks}
 use Rattle.dw_unit.specs.ReadUnit.{read_numbers, read_fields, node_from, nodes_from, read_values, read_body, read_children, read_tree, read_padding}
 
 -- ---- lists of numbers and of values
@@ -81,12 +81,12 @@ fields_stays order format =
 
 pub values_decides : (k : Ctx) (ps : List Pair) → Decides (values k ps) (read_values k ps)
 values_decides k [] = seen_decides nothing (returned tt) no_value (λ _. []) (record { back = λ x a e fits. no_value_back x a e; there = λ a fits. refl }) nothing_decides
-values_decides k (p ∷ ps) = seen_decides (attribute k p.form.value (constant_of p.constant) then λ _. values k ps) _ first_value _ (record { back = λ x a e fits. first_value_back x a e; there = λ a fits. refl })
-    (then_decides _ _ _ _ (attribute_decides k p.form.value (constant_of p.constant)) (λ _. values_decides k ps))
+values_decides k (p ∷ ps) = seen_decides (attribute k p.form.value p.constant then λ _. values k ps) _ first_value _ (record { back = λ x a e fits. first_value_back x a e; there = λ a fits. refl })
+    (then_decides _ _ _ _ (attribute_decides k p.form.value p.constant) (λ _. values_decides k ps))
 
 values_stays : (k : Ctx) (ps : List Pair) → Stays (values k ps).Break
 values_stays k [] = nothing_stays
-values_stays k (p ∷ ps) = then_stays (attribute k p.form.value (constant_of p.constant)) (λ _. values k ps) (attribute_stays k p.form.value (constant_of p.constant)) (λ _. values_stays k ps)
+values_stays k (p ∷ ps) = then_stays (attribute k p.form.value p.constant) (λ _. values k ps) (attribute_stays k p.form.value p.constant) (λ _. values_stays k ps)
 
 -- ---- entries
 

@@ -15,7 +15,7 @@ use Rattle.dw_form.specs.ReadForm.{read_attribute}
 use Rattle.dw_abbrev.specs.Table.{Pair, Table, declared, is_null}
 use Rattle.dw_abbrev.specs.ReadTable.{read_table_at}
 use Rattle.dw_unit.specs.Header.{Kind, Compile, Partial, TypeUnit, Skeleton, Header, added_sizes, bad_version, bad_type, bad_address_size, Fields}
-use Rattle.dw_unit.specs.Tree.{Tree, leaf, branch, Forest, none, more, Body, constant_of, pairs_of, children_of, bad_root, bad_child, nesting, not_null}
+use Rattle.dw_unit.specs.Tree.{Tree, leaf, branch, Forest, none, more, Body, pairs_of, children_of, bad_root, bad_child, nesting, not_null}
 use Rattle.dw_unit.specs.Unit.{Contents, header_of}
 
 abbrev pub read_numbers : Order → List ℕ → Reader (List ℕ)
@@ -54,7 +54,7 @@ nodes_from (x ∷ xs) = more (node_from x) (nodes_from xs)
 
 abbrev pub read_values : Ctx → List Pair → Reader (List Attribute)
 read_values k [] = returned []
-read_values k (p ∷ ps) = made (λ x. x.0 ∷ x.1) ((read_attribute k p.form.value (constant_of p.constant)) and_then λ _. read_values k ps)
+read_values k (p ∷ ps) = made (λ x. x.0 ∷ x.1) ((read_attribute k p.form.value p.constant) and_then λ _. read_values k ps)
 
 abbrev pub read_body : Ctx → Table → Reader (Forest × Unsigned) → Unsigned → Reader Body
 read_body k t kids code = read_values k (pairs_of (declared t code.value)) and_then λ _. read_optional (children_of (declared t code.value)) kids

@@ -45,14 +45,10 @@ abbrev pub no_value : List Attribute → Option (Unit {0})
 no_value [] = Some tt
 no_value (v ∷ vs) = None
 
-abbrev pub constant_of : Option Signed → Signed
-constant_of None = record { value = pos 0; width = 1 }
-constant_of (Some c) = c
-
 -- the values of a declaration, in order
 abbrev pub values : Ctx → List Pair → Part (List Attribute)
 values k [] = seen no_value nothing
-values k (p ∷ ps) = seen first_value (attribute k p.form.value (constant_of p.constant) then λ _. values k ps)
+values k (p ∷ ps) = seen first_value (attribute k p.form.value p.constant then λ _. values k ps)
 
 abbrev pub pairs_of : Option Declaration → List Pair
 pairs_of None = []

@@ -2,7 +2,7 @@ use Rattle.std.proofs.Common.{◌∙◌, sym, arith}
 use Rattle.dw_leb.specs.Number.{uleb}
 use Rattle.dw_leb.specs.ReadNumber.{read_uleb}
 use Rattle.dw_leb.specs.DecideNumber.{uleb_decides, uleb_field, length-uleb}
-use Rattle.dw_leb.specs.Field.{are_bytes, found_by, broken_by, only_by}
+use Rattle.dw_leb.specs.Field.{are_bytes, found_by, broken_by, only_by, outcome_by}
 use Rattle.dw_leb.proofs.GroupLemmas.{unsigned_read}
 use Rattle.dw_leb.proofs.unsigned.Uleb.read.Goals as goal
 
@@ -17,3 +17,6 @@ returns-clause-only c x h = only_by uleb read_uleb uleb_decides c.args.b.now c.a
 
 pub returns-clause-broken : goal.returns-clause-broken
 returns-clause-broken c = broken_by uleb read_uleb uleb_decides c.args.b.now c.args.lim uleb_field (are_bytes c.args.b.now (λ k. omega (arith, c.type_inv.b k))) c.scan.result (returns-clause-exact c)
+
+pub returns-clause-outcome : goal.returns-clause-outcome
+returns-clause-outcome c = outcome_by uleb read_uleb uleb_decides c.args.b.now c.args.lim (λ x. x.width) (λ x fits. length-uleb x) uleb_field (are_bytes c.args.b.now (λ k. omega (arith, c.type_inv.b k))) c.scan.result (returns-clause-exact c)
