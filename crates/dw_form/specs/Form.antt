@@ -1,5 +1,5 @@
 -- Forms and attribute values (sections 7.5.5 and 7.5.6).
-use Rattle.std.specs.Prelude.{◌≡◌, ℕ, Bool, true, false, List, [], ◌∷◌, length, Option, Some, None, ◌==◌, if◌then◌else◌, ◌||◌}
+use Rattle.std.specs.Prelude.{◌≡◌, ◌≤◌, ℕ, Bool, true, false, List, [], ◌∷◌, length, Option, Some, None, ◌==◌, if◌then◌else◌, ◌||◌}
 use Rattle.dw_leb.specs.declared.errors.Reason.{Reason}
 use Rattle.dw_leb.specs.declared.errors.Reason.TheVariants.{UnknownForm, BadIndirect}
 use Rattle.dw_leb.specs.Part.{Part, ◌then◌, judged, whole, seen, nothing, exactly, refused}
@@ -26,6 +26,20 @@ at_number n (row ∷ rows) = if row.0 == n then Some row.1 else at_number n rows
 -- the shape of a form; no other number has one
 unfoldable pub shape : ℕ → ℕ → Format → Option Shape
 shape form address_size format = at_number form (forms address_size format)
+
+-- the sizes of fixed numbers
+abbrev pub IsFixedSize : ℕ → Type 0
+IsFixedSize n = (1 ≤ n) × (n ≤ 16) × (9 ≤ n → n ≡ 16)
+
+-- the sizes that the form table gives
+abbrev pub ShapeFits : Shape → Type 0
+ShapeFits (shapes.Fixed n) = IsFixedSize n
+ShapeFits (shapes.Counted n) = (1 ≤ n) × (n ≤ 4)
+ShapeFits _ = Unit {0}
+
+-- an address has 1 to 8 bytes
+abbrev pub IsContext : Ctx → Type 0
+IsContext k = (1 ≤ k.address_size) × (k.address_size ≤ 8)
 
 -- a value as it is written; a block with the width of its length field
 pub data Value : Type 0 where

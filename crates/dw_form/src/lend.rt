@@ -1,10 +1,10 @@
 //! Values at the front of bytes, lent from them.
 ghost use Rattle.std.specs.Prelude.{◌≡◌, ◌≤◌, ◌<◌, ◌+◌, ◌^◌, ℕ, length, min, IfOk, IfSome};
 ghost use Rattle.dw_leb.specs.Number.{unended};
-ghost use Rattle.dw_leb.specs.ReadNumber.{before_zero, bytes_of, read_text};
-ghost use Rattle.dw_leb.specs.declared.errors.Reason.{Reason as TheReason};
-ghost use Rattle.dw_form.specs.Form.{bad_inner};
-ghost use Rattle.dw_form.specs.ReadForm.{read_shaped, read_shaped_if, read_formed, read_attribute};
+ghost use Rattle.dw_leb.specs.Reader.{made, ◌and_then◌};
+ghost use Rattle.dw_leb.specs.ReadNumber.{before_zero, bytes_of, read_text, read_uleb, read_sleb, read_fixed as fixed_reader};
+ghost use Rattle.dw_form.specs.Form.{Block as TheBlock, IsFixedSize, ShapeFits, IsContext};
+ghost use Rattle.dw_form.specs.ReadForm.{fixed_from, indirect_from, read_shaped, read_formed, read_indirect, read_attribute};
 ghost use Rattle.dw_form.specs.Lent.{value_of, attribute_of, Lends, ZeroAt};
 
 use crate::shape::{Ctx, Shape};
@@ -55,4 +55,136 @@ fn unended_text(m: u64, lim: u64) -> Reason
     } else {
         Reason::Truncated
     }
+}
+
+/// A number of `n` bytes.
+fn fixed(ctx: Ctx, n: u8, b: &[u8], lim: u64) -> Result<(Value<'_>, usize), Reason>
+    requires { IsFixedSize n }
+    ensures exact { Lends value_of result (made (fixed_from n) (fixed_reader ctx.order n) b.now lim) }
+    ensures room { IfOk result (λ x. (x.1 ≤ length b.now) × (x.1 ≤ lim)) }
+{
+    let x = read_fixed(ctx.order, n, b, lim)?;
+    if n == 16 {
+        Ok((Value::Wide(x), 16))
+    } else {
+        Ok((Value::Num(x as u64), n as usize))
+    }
+}
+
+/// A block after its length in `n` bytes.
+fn counted(ctx: Ctx, n: u8, b: &[u8], lim: u64) -> Result<(Value<'_>, usize), Reason>
+    requires some { 1 ≤ n }
+    requires most { n ≤ 4 }
+    ensures exact { Lends value_of result (made (λ x. TheBlock n x.1) (fixed_reader ctx.order n and_then bytes_of) b.now lim) }
+    ensures room { IfOk result (λ x. (x.1 ≤ length b.now) × (x.1 ≤ lim)) }
+{
+    let count = read_fixed(ctx.order, n, b, lim)? as u64;
+    let (bytes, size) = content(count, &b[n as usize..], lim - n as u64)?;
+    Ok((Value::Block { width: n, bytes }, n as usize + size))
+}
+
+/// A block after its length as unsigned LEB128.
+fn counted_uleb(b: &[u8], lim: u64) -> Result<(Value<'_>, usize), Reason>
+    ensures exact { Lends value_of result (made (λ x. TheBlock x.0.width x.1) (read_uleb and_then λ u. bytes_of u.value) b.now lim) }
+    ensures room { IfOk result (λ x. (x.1 ≤ length b.now) × (x.1 ≤ lim)) }
+{
+    let count = Uleb::read(b, lim)?;
+    let width = count.width();
+    let (bytes, size) = content(count.value(), &b[width as usize..], lim - width as u64)?;
+    Ok((Value::Block { width, bytes }, width as usize + size))
+}
+
+/// A value of a shape; `implicit` is the constant of the declaration.
+fn shaped(
+    ctx: Ctx,
+    shape: Shape,
+    implicit: Option<Sleb>,
+    b: &[u8],
+    lim: u64,
+) -> Result<(Value<'_>, usize), Reason>
+    requires { ShapeFits shape }
+    ensures exact { Lends value_of result (read_shaped ctx implicit shape b.now lim) }
+    ensures room { IfOk result (λ x. (x.1 ≤ length b.now) × (x.1 ≤ lim)) }
+{
+    match shape {
+        Shape::Fixed(n) => fixed(ctx, n, b, lim),
+        Shape::Uleb => {
+            let x = Uleb::read(b, lim)?;
+            Ok((Value::Uleb(x), x.width() as usize))
+        }
+        Shape::Sleb => {
+            let x = Sleb::read(b, lim)?;
+            Ok((Value::Sleb(x), x.width() as usize))
+        }
+        Shape::Counted(n) => counted(ctx, n, b, lim),
+        Shape::CountedUleb => counted_uleb(b, lim),
+        Shape::Text => {
+            let (bytes, size) = text(b, lim)?;
+            Ok((Value::Text(bytes), size))
+        }
+        Shape::Present => Ok((Value::Present, 0)),
+        Shape::Implicit => match implicit {
+            Some(constant) => Ok((Value::Implicit(constant), 0)),
+            None => Err(Reason::BadIndirect),
+        },
+        Shape::Indirect => Err(Reason::BadIndirect),
+    }
+}
+
+/// A value of a form, which is judged before any byte of its value.
+fn formed(
+    ctx: Ctx,
+    form: u64,
+    implicit: Option<Sleb>,
+    b: &[u8],
+    lim: u64,
+) -> Result<(Value<'_>, usize), Reason>
+    requires { IsContext ctx }
+    ensures exact { Lends value_of result (read_formed ctx implicit form b.now lim) }
+    ensures room { IfOk result (λ x. (x.1 ≤ length b.now) × (x.1 ≤ lim)) }
+{
+    match Shape::of(form, ctx.address_size, ctx.format) {
+        Some(shape) => shaped(ctx, shape, implicit, b, lim),
+        None => Err(Reason::UnknownForm),
+    }
+}
+
+/// The number of a form, and a value of that form.
+fn indirect(ctx: Ctx, b: &[u8], lim: u64) -> Result<(AttrValue<'_>, usize), Reason>
+    requires { IsContext ctx }
+    ensures exact { Lends attribute_of result (made indirect_from (read_indirect ctx) b.now lim) }
+    ensures room { IfOk result (λ x. (x.1 ≤ length b.now) × (x.1 ≤ lim)) }
+{
+    let form = Uleb::read(b, lim)?;
+    if form.value() == 0x16 || form.value() == 0x21 {
+        return Err(Reason::BadIndirect);
+    }
+    let width = form.width() as usize;
+    let (value, size) = formed(ctx, form.value(), None, &b[width..], lim - width as u64)?;
+    let via = Some(form);
+    Ok((AttrValue { via, value }, width + size))
+}
+
+/// The value of form `form` at the front of `b`, of which `lim` bytes are left to the unit's end,
+/// and the count of its bytes. It is lent from `b`: no memory is taken.
+///
+/// `implicit` is the constant of the declaration, there where the form is implicit_const. A refused
+/// value is one field: its fault stands at its first byte, whatever part of it is broken.
+#[tactic(auto, unfolding(crate::specs::ReadForm::read_attribute))]
+pub fn lend_value(
+    ctx: Ctx,
+    form: u64,
+    implicit: Option<Sleb>,
+    b: &[u8],
+    lim: u64,
+) -> Result<(AttrValue<'_>, usize), Reason>
+    requires { IsContext ctx }
+    ensures exact { Lends attribute_of result (read_attribute ctx form implicit b.now lim) }
+    ensures room { IfOk result (λ x. (x.1 ≤ length b.now) × (x.1 ≤ lim)) }
+{
+    if form == 0x16 {
+        return indirect(ctx, b, lim);
+    }
+    let (value, size) = formed(ctx, form, implicit, b, lim)?;
+    Ok((AttrValue { via: None, value }, size))
 }

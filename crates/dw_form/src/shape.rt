@@ -1,8 +1,8 @@
 //! The form table.
 
-ghost use Rattle.std.specs.Prelude.{◌≡◌, ◌≤◌, None, Some};
+ghost use Rattle.std.specs.Prelude.{◌≡◌, ◌≤◌, None, Some, IfSome};
 ghost use Rattle.dw_leb.specs.Number.{offset_size as offset_bytes};
-ghost use Rattle.dw_form.specs.Form.{shape};
+ghost use Rattle.dw_form.specs.Form.{shape, ShapeFits};
 
 use dw_leb::{Format, Order};
 
@@ -47,7 +47,8 @@ impl Shape {
     pub fn of(form: u64, address_size: u8, format: Format) -> Option<Shape>
         requires some { 1 ≤ address_size }
         requires most { address_size ≤ 8 }
-        ensures { result ≡ shape form address_size format }
+        ensures shape { result ≡ shape form address_size format }
+        ensures sizes { IfSome result ShapeFits }
     {
         let offset = offset_size(format);
         match form {

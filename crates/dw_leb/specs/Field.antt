@@ -1,6 +1,7 @@
 -- What a call that reads one field answers, from what the plain reader answers.
 use Rattle.std.specs.Prelude.{◌≡◌, ℕ, List, length, Result, Ok, Err, IfOk, IfErr}
 use Rattle.std.proofs.Common.{sym, ap, ◌∙◌, ◌≤◌, ◌<◌, ◌^◌, ◌++◌, suc, zero, get_or, [], ◌∷◌, subst, arith}
+use Rattle.std.proofs.Math.Nat.{pow-le-pow_right}
 use Rattle.std.specs.List.{AllByRecursion}
 use Rattle.dw_leb.specs.Part.{Reason, Part, Taken}
 use Rattle.dw_leb.specs.Number.{Order, fixed}
@@ -44,6 +45,10 @@ module _ {X : Type 0} (P : Part X) (R : Reader X) (it : Decides P R) (bytes : Li
 pub small_by : (order : Order) (n : ℕ) (bytes : List ℕ) (lim : ℕ) (r : Result ℕ Reason) → IfOk r (λ x. Taken (fixed order n) bytes lim x n) → IfOk r (λ x. x < 256 ^ n)
 small_by order n bytes lim (Ok x) h = h.fits
 small_by order n bytes lim (Err reason) h = tt
+
+pub word_by : (n : ℕ) (r : Result ℕ Reason) → n ≤ 8 → IfOk r (λ x. x < 256 ^ n) → IfOk r (λ x. x < 2 ^ 64)
+word_by n (Ok x) short h = let p : 256 ^ n ≤ 256 ^ 8 = pow-le-pow_right {n = 256} (omega arith) short in omega (arith, h, p)
+word_by n (Err reason) short h = tt
 
 -- ---- the plain reader's outcome, by what a call answers
 

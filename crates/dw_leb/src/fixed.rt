@@ -24,6 +24,7 @@ pub fn read_fixed(order: Order, n: u8, b: &[u8], lim: u64) -> Result<u128, Reaso
     ensures exact { result ≡ answer (fixed_reader order n b.now lim) }
     ensures outcome { fixed_reader order n b.now lim ≡ outcome_of (λ _. n) result }
     ensures small { IfOk result (λ x. x < 256 ^ n) }
+    ensures word { n ≤ 8 → IfOk result (λ x. x < 2 ^ 64) }
     ensures room { IfOk result (λ _. (n ≤ length b.now) × (n ≤ lim)) }
 {
     scan(order, n, b, lim)

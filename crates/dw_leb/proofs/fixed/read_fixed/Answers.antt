@@ -3,7 +3,7 @@ use Rattle.dw_leb.specs.Number.{fixed}
 use Rattle.dw_leb.specs.ReadNumber.{read_fixed as fixed_reader}
 use Rattle.dw_leb.specs.Digits.{fixed_decides, length-fixed}
 use Rattle.dw_leb.specs.DecideNumber.{fixed_field}
-use Rattle.dw_leb.specs.Field.{are_bytes, found_by, broken_by, only_by, outcome_by, small_by}
+use Rattle.dw_leb.specs.Field.{are_bytes, found_by, broken_by, only_by, outcome_by, small_by, word_by}
 use Rattle.dw_leb.proofs.FixedLemmas.{fixed_read}
 use Rattle.dw_leb.proofs.fixed.read_fixed.Goals as goal
 
@@ -24,3 +24,6 @@ returns-clause-small c = small_by c.args.order c.args.n c.args.b.now c.args.lim 
 
 pub returns-clause-outcome : goal.returns-clause-outcome
 returns-clause-outcome c = outcome_by (fixed c.args.order c.args.n) (fixed_reader c.args.order c.args.n) (fixed_decides c.args.order c.args.n) c.args.b.now c.args.lim (λ _. c.args.n) (λ x fits. length-fixed c.args.order c.args.n x) (fixed_field c.args.order c.args.n) (are_bytes c.args.b.now (λ k. omega (arith, c.type_inv.b k))) c.scan.result (returns-clause-exact c)
+
+pub returns-clause-word : goal.returns-clause-word
+returns-clause-word c = λ short. word_by c.args.n c.scan.result short (returns-clause-small c)
