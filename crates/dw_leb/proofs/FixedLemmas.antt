@@ -152,8 +152,3 @@ length_read order start bytes fit =
     ap (λ (o : Outcome ℕ). ends start (behind (judged_outcome reserved o) (λ y. read_optional (y == 0xffffffff) (read_fixed order 8)) bytes 12)) (outcome_is order 4 bytes 12)
     ∙ length_by order start bytes (answer (read_fixed order 4 bytes 12))
     (small_by order 4 bytes 12 (answer (read_fixed order 4 bytes 12)) (found_by (fixed order 4) (read_fixed order 4) (fixed_decides order 4) bytes 12 (λ _. 4) (λ x fits. length-fixed order 4 x) fit (answer (read_fixed order 4 bytes 12)) refl))
-
-pub length_spell : (order : Order) (n : ℕ) → n < 0xffff_fff0 → fixed_bytes order 4 n ≡ (initial_length order 0).spell (Dwarf32, n)
-length_spell order n h =
-    let no_escape : (n == 0xffffffff) ≡ false = ne_eqb n 0xffffffff (λ s. omega (arith, h, s)) in
-    rw no_escape (sym (append-nil (fixed_bytes order 4 n)))

@@ -3,24 +3,24 @@
 use std::io::ErrorKind;
 use thiserror::Error;
 
-/// Why a field is refused. Its number is the variant's place, from 1 on.
+/// Why a field is refused. Its number is `reason as u8`: the variants count from 1 on.
 #[derive(Clone, Copy, Debug, PartialEq, Eq, Hash)]
 pub enum Reason {
-    /// The input ends inside the field.
-    Truncated,
-    /// The unit ends inside the field.
+    /// The input ends inside the field, and the unit doesn't end before.
+    Truncated = 1,
+    /// The unit to which the field belongs ends inside the field.
     PastUnit,
     /// An initial length from 0xfffffff0 to 0xfffffffe (section 7.2.2).
     ReservedLength,
     /// A version other than 5 (section 7.5.1).
     BadVersion,
-    /// A unit type other than 1 to 4 (section 7.5.1).
+    /// A unit type other than 1 to 4: those of split units are not read (section 7.5.1).
     BadUnitType,
     /// An address size other than 1 to 8.
     BadAddressSize,
     /// A LEB128 number with no last byte among sixteen (section 7.6).
     LebTooLong,
-    /// A LEB128 number that doesn't fit 64 bits.
+    /// A LEB128 number whose value doesn't fit `u64`, or a signed one's `i64`.
     LebTooBig,
     /// A unit whose first entry is a null entry.
     NoRoot,
@@ -28,7 +28,7 @@ pub enum Reason {
     UnknownCode,
     /// A form that isn't in the form table (section 7.5.6).
     UnknownForm,
-    /// An indirect value that names the form indirect or implicit_const.
+    /// An indirect value that names the form indirect or implicit_const (section 7.5.6).
     BadIndirect,
     /// An entry nested deeper than entries may be.
     TooDeep,
@@ -38,13 +38,13 @@ pub enum Reason {
     AbbrevOffset,
     /// A children flag other than 0 and 1 (section 7.5.3).
     BadChildren,
-    /// A pair of name and form of which exactly one is 0.
+    /// A pair of attribute name and form of which exactly one is 0 (section 7.5.3).
     HalfPair,
     /// An abbreviation code that was declared before in its table.
     DuplicateCode,
-    /// A declaration of more than 1,024 pairs.
+    /// A declaration of more than 1,024 pairs of attribute name and form.
     TooManyPairs,
-    /// A length whose end would lie past 2^63 - 1.
+    /// An initial length with which the unit's end would lie past 2^63 - 1.
     LengthTooBig,
     /// Right by the standard, but not read by this version yet.
     NotYet,

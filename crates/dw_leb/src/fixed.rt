@@ -1,4 +1,4 @@
-//! Numbers of a fixed size (section 7.5.5 names their uses).
+//! Unsigned numbers of a fixed size, in either byte order (section 7.5.5 names their uses).
 ghost use Rattle.std.specs.Prelude.{◌≡◌, ◌≤◌, ◌<◌, ◌^◌, ℕ, length, Ok, IfOk, IfErr};
 ghost use Rattle.dw_leb.specs.Part.{Taken};
 ghost use Rattle.dw_leb.specs.Number.{fixed, fixed_bytes};
@@ -11,7 +11,8 @@ use crate::order::Order;
 use arrayvec::ArrayVec;
 use byteorder::{BigEndian, ByteOrder, LittleEndian};
 
-/// The number in the first `n` bytes of `b`, of which `lim` are left to the unit's end.
+/// The number in the first `n` bytes of `b`, where `lim` bytes are left to the unit's end. `n` is 1
+/// to 16.
 ///
 /// Refused where the unit ends before `n` bytes (`PastUnit`), else where the input does
 /// (`Truncated`).
@@ -48,7 +49,7 @@ fn scan(order: Order, n: u8, b: &[u8], lim: u64) -> Result<u128, Reason>
     }
 }
 
-/// The `n` bytes of the number `x`.
+/// The `n` bytes of the number `x`, which they hold. `n` is 1 to 16.
 pub fn write_fixed(order: Order, n: u8, x: u128) -> ArrayVec<u8, 16>
     requires some { 1 ≤ n }
     requires most { n ≤ 16 }

@@ -12,14 +12,20 @@ use crate::fixed::{read_fixed, write_fixed};
 use crate::order::{Format, Order};
 use arrayvec::ArrayVec;
 
-/// The initial length at the front of `b`: the format, and the count of bytes after the field.
-/// `start` is the field's own offset: the field's end and the length together stay below 2^63.
+/// The initial length at the front of `b`: the format that it tells, and the length, which counts
+/// the unit's bytes after this field. `start` is the offset of the field's first byte: 0 where a
+/// unit is read alone, and else counted from the section's first byte.
 ///
-/// Refused are a field that the input cuts (`Truncated`), a reserved value (`ReservedLength`), and
-/// a length whose end would lie past 2^63 - 1 (`LengthTooBig`).
+/// Refused are a field that the input cuts (`Truncated`), a first number from 0xfffffff0 to
+/// 0xfffffffe (`ReservedLength`), and a length with which the unit's end, `start` and the field's
+/// own size included, would lie past 2^63 - 1 (`LengthTooBig`). The length isn't compared with the
+/// input's size, and no unit's end cuts the field, so `PastUnit` doesn't come.
 pub fn read_length(order: Order, start: u64, b: &[u8]) -> Result<(Format, u64), Reason>
-    ensures found { IfOk result (λ x. Taken (initial_length order start) b.now length_limit x (length_size x.0)) }
-    ensures only { (format : TheFormat) (n : ℕ) → Taken (initial_length order start) b.now length_limit (format, n) (length_size format) → result ≡ Ok (format, n) }
+    ensures found { IfOk result (λ x.
+        Taken (initial_length order start) b.now length_limit x (length_size x.0)) }
+    ensures only { (format : TheFormat) (n : ℕ)
+        → Taken (initial_length order start) b.now length_limit (format, n) (length_size format)
+        → result ≡ Ok (format, n) }
     ensures broken { IfErr result (λ reason. (initial_length order start).Break b.now length_limit 0 reason) }
     ensures exact { result ≡ answer (length_reader order start b.now length_limit) }
     ensures outcome { length_reader order start b.now length_limit ≡ outcome_of (λ x. length_size x.0) result }
@@ -45,7 +51,7 @@ fn scan(order: Order, start: u64, b: &[u8]) -> Result<(Format, u64), Reason>
     within(start, Format::Dwarf64, n)
 }
 
-/// A length, unless its end would lie past 2^63 - 1.
+/// The length `n`, unless the unit's end would lie past 2^63 - 1.
 fn within(start: u64, format: Format, n: u128) -> Result<(Format, u64), Reason>
     requires { n < 2 ^ 64 }
     ensures exact { result ≡ length_within start format n }
@@ -63,7 +69,8 @@ fn within(start: u64, format: Format, n: u128) -> Result<(Format, u64), Reason>
     }
 }
 
-/// The spelling of an initial length. A length of the 32-bit format is below 0xfffffff0.
+/// The spelling of an initial length: 4 bytes in the 32-bit format, where the length is below
+/// 0xfffffff0, and 12 in the 64-bit format.
 pub fn write_length(order: Order, format: Format, n: u64) -> ArrayVec<u8, 16>
     requires { FitsLength format n }
     ensures spelling { result.items ≡ (initial_length order 0).spell (format, n) }

@@ -1,5 +1,14 @@
 //! Numbers of DWARF 5 with the widths in which they are written, and readers and writers whose
-//! first fault is kept.
+//! first fault is kept. No call but `read_exactly` and `read_all` takes memory.
+//!
+//! A number keeps its width, the count of bytes in which it was written, so that it is written back
+//! as it stood. Each read of a number is handed `b`, the rest of the input, and `lim`, the count of
+//! bytes that are left to the end of the unit to which the number belongs. Either may be the
+//! smaller: the input may be cut inside the unit, and may go on behind it. Bytes behind the number
+//! don't matter. `Ok` is answered exactly where the number is spelled at the front of `b` and within
+//! `lim`, and else the reason why not.
+//!
+//! Sections that the comments name are those of the DWARF 5 standard.
 #![tactic(auto)]
 
 pub mod devices;
@@ -10,6 +19,8 @@ mod initial;
 pub mod laws;
 mod order;
 mod signed;
+#[cfg(test)]
+mod tests;
 mod transfer;
 mod unsigned;
 mod watch;

@@ -1,6 +1,6 @@
 //! Byte orders and the two formats of lengths and offsets.
 
-/// The order of the bytes of a fixed number: of the file that holds the sections.
+/// The order of the bytes of a number of fixed size: that of the file that holds the sections.
 #[derive(Clone, Copy, Debug, PartialEq, Eq, Hash)]
 pub enum Order {
     /// The least significant byte first.
@@ -14,6 +14,6 @@ pub enum Order {
 pub enum Format {
     /// Initial lengths and section offsets of 4 bytes.
     Dwarf32,
-    /// Initial lengths of 12 bytes, section offsets of 8.
+    /// Initial lengths of 12 bytes, of which the first four are ff, and section offsets of 8.
     Dwarf64,
 }

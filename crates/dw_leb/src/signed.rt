@@ -11,8 +11,8 @@ use crate::groups::{number, place, spell, width_at};
 use arrayvec::ArrayVec;
 use std::marker::Model;
 
-/// A signed number and the count of bytes in which it is written: 1 to 16, of which the last ones
-/// may be padding. The bytes hold the value in two's complement.
+/// A signed number and the count of bytes in which it is written, its width: 1 to 16, of which the
+/// last ones may be padding. So many groups of seven bits hold the value in two's complement.
 #[derive(Clone, Copy, Debug, PartialEq, Eq)]
 pub struct Sleb {
     value: i64,
@@ -32,11 +32,12 @@ impl Model for Sleb {
 }
 
 impl Sleb {
-    /// The number at the front of `b`, of which `lim` bytes are left to the unit's end.
+    /// The number at the front of `b`, where `lim` bytes are left to the unit's end.
     ///
-    /// Refused are: sixteen bytes of which none ends the number (`LebTooLong`), a number that the
-    /// unit's end cuts (`PastUnit`) or the input's (`Truncated`), a value outside of `i64`
-    /// (`LebTooBig`).
+    /// The first byte below 128 ends it, and bit 6 of that byte is its sign. Refused are: sixteen
+    /// bytes within the unit of which none ends it (`LebTooLong`), fewer up to the unit's end
+    /// (`PastUnit`) or up to the input's, which comes before the unit's (`Truncated`), and a value
+    /// outside of -2^63 to 2^63 - 1 (`LebTooBig`).
     pub fn read(b: &[u8], lim: u64) -> Result<Sleb, Reason>
         ensures found { IfOk result (λ x. Taken sleb b.now lim x x.width) }
         ensures only { (x : Signed) → Taken sleb b.now lim x x.width → result ≡ Ok x }
@@ -90,7 +91,7 @@ impl Sleb {
         self.width
     }
 
-    /// Its spelling.
+    /// Its spelling: exactly `width` bytes.
     pub fn bytes(self) -> ArrayVec<u8, 16>
         ensures spelling { result.items ≡ sleb.spell self }
         ensures length { length result.items ≡ self.width }
@@ -130,7 +131,7 @@ impl Sleb {
     }
 }
 
-/// `n` for the numbers n and -n - 1.
+/// n for the numbers n and -n - 1, so that both ends of a range are one bound.
 fn magnitude(value: i64) -> u64
     ensures value { result ≡ extent value }
     ensures range { result < 2 ^ 63 }
@@ -142,7 +143,7 @@ fn magnitude(value: i64) -> u64
     }
 }
 
-/// -n - 1.
+/// The number -n - 1.
 fn negative(n: u64) -> i64
     requires { n < 2 ^ 63 }
     ensures { result ≡ negsuc n }

@@ -17,12 +17,23 @@ const TRUNCATED: ReadError = ReadError::Fault(Fault {
     reason: Reason::Truncated,
 });
 
-/// Some of the next bytes, at least one and at most `most`.
+/// Some of the next bytes, at least one and at most `most`. At the input's end that is the fault
+/// `Truncated`.
 fn read_some<R: Read>(reader: &mut Watched<R>, most: usize) -> Result<ArrayVec<u8, 64>, ReadError>
     requires some { 0 < most }
     requires clear { fault_of reader.old ≡ None }
-    ensures ok { IfOk result (λ got. (0 < length got.items) × (length got.items ≤ most) × Consumes (R.remaining (inner_of reader.old)) (R.remaining (inner_of reader.new)) got.items) }
-    ensures err { IfErr result (λ e. FailsToRead (R.remaining (inner_of reader.old)) (R.remaining (inner_of reader.new)) e) }
+    ensures ok { IfOk result (λ got.
+        (0 < length got.items)
+        × (length got.items ≤ most)
+        × Consumes
+        (R.remaining (inner_of reader.old))
+        (R.remaining (inner_of reader.new))
+        got.items) }
+    ensures err { IfErr result (λ e.
+        FailsToRead
+        (R.remaining (inner_of reader.old))
+        (R.remaining (inner_of reader.new))
+        e) }
     ensures fault { fault_of reader.new ≡ told_by_read result }
 {
     let mut chunk = [0u8; CHUNK];
@@ -39,15 +50,22 @@ fn read_some<R: Read>(reader: &mut Watched<R>, most: usize) -> Result<ArrayVec<u
     Ok(bytes)
 }
 
-/// The next `n` bytes of the reader, and no byte more. An input that ends before is the fault
-/// `Truncated` at offset 0 of `.debug_info`; then all that was left was taken.
+/// The next `n` bytes of the reader, and no byte more.
+///
+/// An input that ends before is the fault `Truncated` at offset 0 of `.debug_info`, since the reader
+/// doesn't know whose bytes these are; then all that was left was taken. `Io` is answered exactly
+/// where the reader failed, with the kind that `fault()` tells then. After that or `NoMemory` at
+/// most `n` bytes were taken.
 pub fn read_exactly<R: Read>(
     alloc: Global,
     reader: &mut Watched<R>,
     n: usize,
 ) -> Result<Vec<u8>, ReadError>
     requires { fault_of reader.old ≡ None }
-    ensures bytes { ReadsExactly vec_items (R.remaining (inner_of reader.old)) (R.remaining (inner_of reader.new)) n result }
+    ensures bytes { ReadsExactly vec_items
+        (R.remaining (inner_of reader.old))
+        (R.remaining (inner_of reader.new))
+        n result }
     ensures fault { fault_of reader.new ≡ told_by_read result }
 {
     let mut bytes = Vec::new(alloc);
@@ -61,9 +79,15 @@ pub fn read_exactly<R: Read>(
 }
 
 /// All bytes that the reader has left.
+///
+/// `Io` is answered exactly where the reader failed, with the kind that `fault()` tells then. After
+/// that or `NoMemory` some bytes were taken. A `Fault` doesn't come.
 pub fn read_all<R: Read>(alloc: Global, reader: &mut Watched<R>) -> Result<Vec<u8>, ReadError>
     requires { fault_of reader.old ≡ None }
-    ensures bytes { ReadsAll vec_items (R.remaining (inner_of reader.old)) (R.remaining (inner_of reader.new)) result }
+    ensures bytes { ReadsAll vec_items
+        (R.remaining (inner_of reader.old))
+        (R.remaining (inner_of reader.new))
+        result }
     ensures fault { fault_of reader.new ≡ told_by_read result }
 {
     let mut bytes = Vec::new(alloc);
@@ -82,11 +106,19 @@ pub fn read_all<R: Read>(alloc: Global, reader: &mut Watched<R>) -> Result<Vec<u
     }
 }
 
-/// Writes all the bytes. After an error a beginning of them was written.
+/// Writes all the bytes. An error has the kind that `fault()` tells then, and a beginning of them was
+/// written.
 pub fn write_all<W: Write>(writer: &mut Watched<W>, bytes: &[u8]) -> Result<(), WriteError>
     requires { fault_of writer.old ≡ None }
-    ensures ok { OnOk result (Appends (W.contents (inner_of writer.old)) (W.contents (inner_of writer.new)) bytes.now) }
-    ensures front { AppendsFront (W.contents (inner_of writer.old)) (W.contents (inner_of writer.new)) bytes.now }
+    ensures ok { OnOk result
+        (Appends
+        (W.contents (inner_of writer.old))
+        (W.contents (inner_of writer.new))
+        bytes.now) }
+    ensures front { AppendsFront
+        (W.contents (inner_of writer.old))
+        (W.contents (inner_of writer.new))
+        bytes.now }
     ensures fault { fault_of writer.new ≡ told_by_write result }
 {
     let mut at = 0;

@@ -11,8 +11,8 @@ use crate::groups::{number, place, spell, width_at};
 use arrayvec::ArrayVec;
 use std::marker::Model;
 
-/// An unsigned number and the count of bytes in which it is written: 1 to 16, of which the last
-/// ones may be padding. The bytes hold the value.
+/// An unsigned number and the count of bytes in which it is written, its width: 1 to 16, of which
+/// the last ones may be padding. So many groups of seven bits hold the value.
 #[derive(Clone, Copy, Debug, PartialEq, Eq)]
 pub struct Uleb {
     value: u64,
@@ -32,11 +32,11 @@ impl Model for Uleb {
 }
 
 impl Uleb {
-    /// The number at the front of `b`, of which `lim` bytes are left to the unit's end.
+    /// The number at the front of `b`, where `lim` bytes are left to the unit's end.
     ///
-    /// Refused are: sixteen bytes of which none ends the number (`LebTooLong`), a number that the
-    /// unit's end cuts (`PastUnit`) or the input's (`Truncated`), a value above 2^64 - 1
-    /// (`LebTooBig`).
+    /// The first byte below 128 ends it. Refused are: sixteen bytes within the unit of which none
+    /// ends it (`LebTooLong`), fewer up to the unit's end (`PastUnit`) or up to the input's, which
+    /// comes before the unit's (`Truncated`), and a value above 2^64 - 1 (`LebTooBig`).
     pub fn read(b: &[u8], lim: u64) -> Result<Uleb, Reason>
         ensures found { IfOk result (λ x. Taken uleb b.now lim x x.width) }
         ensures only { (x : Unsigned) → Taken uleb b.now lim x x.width → result ≡ Ok x }
@@ -77,7 +77,7 @@ impl Uleb {
         self.width
     }
 
-    /// Its spelling.
+    /// Its spelling: exactly `width` bytes.
     pub fn bytes(self) -> ArrayVec<u8, 16>
         ensures spelling { result.items ≡ uleb.spell self }
         ensures length { length result.items ≡ self.width }

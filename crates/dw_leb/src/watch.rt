@@ -11,7 +11,8 @@ use std::io;
 use std::io::{ErrorKind, Read, Write};
 
 /// A reader or writer that is watched: it passes calls on, and keeps the kind of the first that
-/// failed. A call on it asks that no fault stands, so nothing is retried.
+/// failed. A call on it asks that no fault stands, so after a fault nothing more is read or written
+/// until its owner forgets the fault.
 #[derive(Drop)]
 pub struct Watched<T> {
     inner: T,
@@ -34,13 +35,12 @@ impl<T> Watched<T> {
         self.first
     }
 
-    /// Forgets the fault. It takes the whole, so that who was lent a `Watched` can't.
+    /// Forgets the fault. It takes the `Watched` by value, so that only its owner can.
     pub fn clear(self) -> Self
         ensures inner { inner_of result ≡ inner_of self }
         ensures fault { fault_of result ≡ None }
     {
-        let Watched { inner, first: _ } = self;
-        Watched { inner, first: None }
+        Watched::new(self.into_inner())
     }
 
     /// The reader or writer, no longer watched.
@@ -53,11 +53,15 @@ impl<T> Watched<T> {
 }
 
 impl<R: Read> Watched<R> {
-    /// One read, where no fault stands.
+    /// One read, where no fault stands. An error is the fault then, of the error's kind, and no byte
+    /// was taken.
     pub fn read(&mut self, buf: &mut [u8]) -> io::Result<usize>
         requires { fault_of self.old ≡ None }
         ensures bound { ReadsAtMost result buf.new }
-        ensures bytes { ReadConsumes (R.remaining (inner_of self.old)) (R.remaining (inner_of self.new)) result buf.new }
+        ensures bytes { ReadConsumes
+            (R.remaining (inner_of self.old))
+            (R.remaining (inner_of self.new))
+            result buf.new }
         ensures fault { fault_of self.new ≡ read_fault result }
     {
         let result = self.inner.read(buf);
@@ -69,11 +73,15 @@ impl<R: Read> Watched<R> {
 }
 
 impl<W: Write> Watched<W> {
-    /// One write, where no fault stands.
+    /// One write, where no fault stands. An error is the fault then, of the error's kind, and so is
+    /// `WriteZero` where the writer took 0 bytes of some, which is answered as `Ok(0)`.
     pub fn write(&mut self, buf: &[u8]) -> io::Result<usize>
         requires { fault_of self.old ≡ None }
         ensures bound { WritesAtMost result buf.now }
-        ensures bytes { WriteAppends (W.contents (inner_of self.old)) (W.contents (inner_of self.new)) result buf.now }
+        ensures bytes { WriteAppends
+            (W.contents (inner_of self.old))
+            (W.contents (inner_of self.new))
+            result buf.now }
         ensures fault { fault_of self.new ≡ write_fault result buf.now }
     {
         match self.inner.write(buf) {
@@ -90,4 +98,3 @@ impl<W: Write> Watched<W> {
         }
     }
 }
-
