@@ -10,7 +10,7 @@ use Rattle.dw_leb.specs.Part.{Reason, LebTooBig}
 use Rattle.dw_leb.specs.Number.{digits, marked, Unsigned, Signed, unmarked, extent, above_u64, outside_i64}
 use Rattle.dw_leb.specs.Reader.{Outcome, Found, Broken, answer, mapped, refused_if, judged_outcome}
 use Rattle.dw_leb.specs.ReadNumber.{undigits, groups_of, groups_outcome, uleb_from, sleb_from, read_uleb, read_sleb, signed_from}
-use Rattle.dw_leb.specs.Scan.{is_last, low_bits, number, front_found, front_at, unsigned_of, signed_of}
+use Rattle.dw_leb.specs.Scan.{is_last, low_bits, number, front_found, front_at, unsigned_scan, signed_scan}
 use Rattle.dw_leb.specs.Decide.{AreBytes}
 
 pub place_small : (w : ℕ) → w ≤ 16 → 128 ^ w ≤ 2 ^ 112
@@ -91,16 +91,16 @@ judged_if : {X : Type 0} (v : Bool) (x : X) (size : ℕ) → answer (refused_if 
 judged_if true x size = refl
 judged_if false x size = refl
 
-unsigned_is : (r : Result (List ℕ) Reason) → answer (judged_outcome above_u64 (mapped uleb_from (grouped r))) ≡ unsigned_of r
+unsigned_is : (r : Result (List ℕ) Reason) → answer (judged_outcome above_u64 (mapped uleb_from (grouped r))) ≡ unsigned_scan r
 unsigned_is (Err reason) = refl
 unsigned_is (Ok front) = rw (length-low_bits front) (judged_if (nat_lt (number front) (2 ^ 64)) (record { value = number front; width = length front }) (length front))
 
-pub unsigned_read : (bytes : List ℕ) (lim : ℕ) → AreBytes bytes → answer (read_uleb bytes lim) ≡ unsigned_of (front_at bytes lim)
+pub unsigned_read : (bytes : List ℕ) (lim : ℕ) → AreBytes bytes → answer (read_uleb bytes lim) ≡ unsigned_scan (front_at bytes lim)
 unsigned_read bytes lim fit = ap (λ (o : Outcome (List ℕ)). answer (judged_outcome above_u64 (mapped uleb_from o))) (groups_read bytes lim fit) ∙ unsigned_is (front_at bytes lim)
 
-signed_is : (r : Result (List ℕ) Reason) → answer (judged_outcome outside_i64 (mapped sleb_from (grouped r))) ≡ signed_of r
+signed_is : (r : Result (List ℕ) Reason) → answer (judged_outcome outside_i64 (mapped sleb_from (grouped r))) ≡ signed_scan r
 signed_is (Err reason) = refl
 signed_is (Ok front) = rw (length-low_bits front) (judged_if (nat_lt (extent (signed_from (length front) (number front))) (2 ^ 63)) (record { value = signed_from (length front) (number front); width = length front }) (length front))
 
-pub signed_read : (bytes : List ℕ) (lim : ℕ) → AreBytes bytes → answer (read_sleb bytes lim) ≡ signed_of (front_at bytes lim)
+pub signed_read : (bytes : List ℕ) (lim : ℕ) → AreBytes bytes → answer (read_sleb bytes lim) ≡ signed_scan (front_at bytes lim)
 signed_read bytes lim fit = ap (λ (o : Outcome (List ℕ)). answer (judged_outcome outside_i64 (mapped sleb_from o))) (groups_read bytes lim fit) ∙ signed_is (front_at bytes lim)

@@ -1,11 +1,11 @@
 -- What a call that reads one field answers, from what the plain reader answers.
-use Rattle.std.specs.Prelude.{◌≡◌, ℕ, List, length, Result, Ok, Err, IfOk, IfErr}
-use Rattle.std.proofs.Common.{sym, ap, ◌∙◌, ◌≤◌, ◌<◌, ◌^◌, ◌++◌, suc, zero, get_or, [], ◌∷◌, subst, arith}
+use Rattle.std.specs.Prelude.{◌≡◌, ℕ, List, length, Result, Ok, Err, IfOk, IfErr, IsOkAnd}
+use Rattle.std.proofs.Common.{refl, sym, ap, ◌∙◌, ◌≤◌, ◌<◌, ◌^◌, ◌++◌, suc, zero, get_or, [], ◌∷◌, subst, arith}
 use Rattle.std.proofs.Math.Nat.{pow-le-pow_right}
 use Rattle.std.specs.List.{AllByRecursion}
 use Rattle.dw_leb.specs.Part.{Reason, Part, Taken}
 use Rattle.dw_leb.specs.Number.{Order, fixed}
-use Rattle.dw_leb.specs.Reader.{Outcome, Found, Broken, Reader, answer, outcome_of}
+use Rattle.dw_leb.specs.Reader.{Outcome, Found, Broken, Reader, answer, outcome_of, seen_by}
 use Rattle.dw_leb.specs.Decide.{Decides, Says, AreBytes, found, broken}
 
 -- a part that breaks at its first byte alone
@@ -53,9 +53,28 @@ word_by n (Err reason) short h = tt
 -- ---- the plain reader's outcome, by what a call answers
 
 module _ {X : Type 0} (P : Part X) (R : Reader X) (it : Decides P R) (bytes : List ℕ) (lim : ℕ) where
-  outcome_said : (size : X → ℕ) → ((x : X) → P.Fits x → length (P.spell x) ≡ size x) → IsField P → (o : Outcome X) → Says P bytes lim o → o ≡ outcome_of size (answer o)
+  outcome_said : (size : X → ℕ) → ((x : X) → P.Fits x → length (P.spell x) ≡ size x) → IsField P → (o : Outcome X) → Says P bytes lim o → o ≡ outcome_of (λ x. x) size (answer o)
   outcome_said size sized field (Found x n) h = ap (λ (k : ℕ). found x k) (sym h.is_size ∙ sized x h.fits)
   outcome_said size sized field (Broken offset reason) h = ap (λ (k : ℕ). broken X k reason) (field bytes lim offset reason h)
 
-  pub outcome_by : (size : X → ℕ) → ((x : X) → P.Fits x → length (P.spell x) ≡ size x) → IsField P → AreBytes bytes → (r : Result X Reason) → r ≡ answer (R bytes lim) → R bytes lim ≡ outcome_of size r
-  outcome_by size sized field fit r e = outcome_said size sized field (R bytes lim) (it.says bytes lim fit) ∙ ap (outcome_of size) (sym e)
+  pub outcome_by : (size : X → ℕ) → ((x : X) → P.Fits x → length (P.spell x) ≡ size x) → IsField P → AreBytes bytes → (r : Result X Reason) → r ≡ answer (R bytes lim) → R bytes lim ≡ outcome_of (λ x. x) size r
+  outcome_by size sized field fit r e = outcome_said size sized field (R bytes lim) (it.says bytes lim fit) ∙ ap (outcome_of (λ x. x) size) (sym e)
+
+-- ---- answers that are seen by a view
+
+module _ {X Y : Type 0} (view : X → Y) where
+  pub ok_seen : (r : Result X Reason) (P : Y → Type 0) → IfOk (seen_by view r) P → IfOk r (λ x. P (view x))
+  ok_seen (Ok x) P h = h
+  ok_seen (Err reason) P h = tt
+
+  pub err_seen : (r : Result X Reason) (P : Reason → Type 0) → IfErr (seen_by view r) P → IfErr r P
+  err_seen (Ok x) P h = tt
+  err_seen (Err reason) P h = h
+
+  pub only_seen : (r : Result X Reason) (y : Y) → seen_by view r ≡ Ok y → IsOkAnd r (λ x. view x ≡ y)
+  only_seen (Ok x) y h = cc
+  only_seen (Err reason) y h = absurd cc
+
+  pub outcome_seen : (size : Y → ℕ) (r : Result X Reason) → outcome_of (λ y. y) size (seen_by view r) ≡ outcome_of view size r
+  outcome_seen size (Ok x) = refl
+  outcome_seen size (Err reason) = refl

@@ -14,3 +14,4 @@ pub mod Watch
 pub mod Known
 pub mod Devices
 pub mod Laws
+pub mod View

@@ -78,7 +78,12 @@ abbrev pub answer : {X : Type 0} → Outcome X → Result X Reason
 answer (Found x size) = Ok x
 answer (Broken offset reason) = Err reason
 
--- the outcome of reading one field that answers so: its size is told by its value, and it breaks at its first byte
-abbrev pub outcome_of : {X : Type 0} → (X → ℕ) → Result X Reason → Outcome X
-outcome_of size (Ok x) = Found x (size x)
-outcome_of size (Err reason) = Broken 0 reason
+-- the answer of a call, its value being seen by a view
+abbrev pub seen_by : {X Y : Type 0} → (X → Y) → Result X Reason → Result Y Reason
+seen_by view (Ok x) = Ok (view x)
+seen_by view (Err reason) = Err reason
+
+-- the outcome of reading one field where a call answers so: its size is told by its value, and it breaks at its first byte
+abbrev pub outcome_of : {X Y : Type 0} → (X → Y) → (Y → ℕ) → Result X Reason → Outcome Y
+outcome_of view size (Ok x) = Found (view x) (size (view x))
+outcome_of view size (Err reason) = Broken 0 reason

@@ -27,13 +27,13 @@ front_found bytes lim m (Some i) = Ok (take (i + 1) bytes)
 abbrev pub front_at : List ℕ → ℕ → Result (List ℕ) Reason
 front_at bytes lim = let m = min (length bytes) lim in front_found bytes lim m (position is_last (take (min 16 m) bytes))
 
-abbrev pub unsigned_of : Result (List ℕ) Reason → Result Unsigned Reason
-unsigned_of (Err reason) = Err reason
-unsigned_of (Ok front) = if nat_lt (number front) (2 ^ 64) then Ok (record { value = number front; width = length front }) else Err LebTooBig
+abbrev pub unsigned_scan : Result (List ℕ) Reason → Result Unsigned Reason
+unsigned_scan (Err reason) = Err reason
+unsigned_scan (Ok front) = if nat_lt (number front) (2 ^ 64) then Ok (record { value = number front; width = length front }) else Err LebTooBig
 
-abbrev pub signed_of : Result (List ℕ) Reason → Result Signed Reason
-signed_of (Err reason) = Err reason
-signed_of (Ok front) = let z = signed_from (length front) (number front) in
+abbrev pub signed_scan : Result (List ℕ) Reason → Result Signed Reason
+signed_scan (Err reason) = Err reason
+signed_scan (Ok front) = let z = signed_from (length front) (number front) in
     if nat_lt (extent z) (2 ^ 63) then Ok (record { value = z; width = length front }) else Err LebTooBig
 
 -- the front has the width that was found

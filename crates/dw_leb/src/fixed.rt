@@ -23,7 +23,7 @@ pub fn read_fixed(order: Order, n: u8, b: &[u8], lim: u64) -> Result<u128, Reaso
     ensures only { (x : ℕ) → Taken (fixed order n) b.now lim x n → result ≡ Ok x }
     ensures broken { IfErr result (λ reason. (fixed order n).Break b.now lim 0 reason) }
     ensures exact { result ≡ answer (fixed_reader order n b.now lim) }
-    ensures outcome { fixed_reader order n b.now lim ≡ outcome_of (λ _. n) result }
+    ensures outcome { fixed_reader order n b.now lim ≡ outcome_of (λ x. x) (λ _. n) result }
     ensures small { IfOk result (λ x. x < 256 ^ n) }
     ensures word { n ≤ 8 → IfOk result (λ x. x < 2 ^ 64) }
     ensures room { IfOk result (λ _. (n ≤ length b.now) × (n ≤ lim)) }

@@ -28,7 +28,7 @@ pub fn read_length(order: Order, start: u64, b: &[u8]) -> Result<(Format, u64), 
         → result ≡ Ok (format, n) }
     ensures broken { IfErr result (λ reason. (initial_length order start).Break b.now length_limit 0 reason) }
     ensures exact { result ≡ answer (length_reader order start b.now length_limit) }
-    ensures outcome { length_reader order start b.now length_limit ≡ outcome_of (λ x. length_size x.0) result }
+    ensures outcome { length_reader order start b.now length_limit ≡ outcome_of (λ x. x) (λ x. length_size x.0) result }
     ensures room { IfOk result (λ x. length_size x.0 ≤ length b.now) }
     ensures end { IfOk result (λ x. x.1 < 2 ^ 63) }
 {

@@ -1,37 +1,29 @@
 //! Signed LEB128 numbers (section 7.6).
-ghost use Rattle.std.specs.Prelude.{◌≡◌, ◌≤◌, ◌<◌, ◌*◌, ◌^◌, ℕ, negsuc, length, Ok, IsSome, IfSome, IfOk, IfErr, ◌↔◌};
+ghost use Rattle.std.specs.Prelude.{◌≡◌, ◌≤◌, ◌<◌, ◌*◌, ◌^◌, ℕ, negsuc, length, IsSome, IsOkAnd, IfSome, IfOk, IfErr, ◌↔◌};
 ghost use Rattle.dw_leb.specs.Part.{Taken};
 ghost use Rattle.dw_leb.specs.Number.{Signed, SlebFits, sleb, extent};
-ghost use Rattle.dw_leb.specs.Reader.{answer, outcome_of};
+ghost use Rattle.dw_leb.specs.Reader.{outcome_of, seen_by};
 ghost use Rattle.dw_leb.specs.ReadNumber.{read_sleb};
-ghost use Rattle.dw_leb.specs.Scan.{front_at, signed_of};
+ghost use Rattle.dw_leb.specs.Scan.{front_at, signed_scan};
 
 use crate::errors::Reason;
 use crate::groups::{number, place, spell, width_at};
 use arrayvec::ArrayVec;
-use std::marker::Model;
 
 /// A signed number and the count of bytes in which it is written, its width: 1 to 16, of which the
 /// last ones may be padding. So many groups of seven bits hold the value in two's complement.
 #[derive(Clone, Copy, Debug, PartialEq, Eq)]
 pub struct Sleb {
-    value: i64,
-    width: u8,
-}
-
-impl Model for Sleb {
-    ghost use Rattle.dw_leb.specs.Number.{Signed, SlebFits};
-
-    ghost Value = { Signed };
-
-    ghost view = { λ a. record { value = a.value; width = a.width } };
-
-    ghost invariant = { λ a. SlebFits (record { value = a.value; width = a.width }) };
-
-    ghost inverse = { λ s. record { value = s.value; width = s.width } };
+    /// The number.
+    pub value: i64,
+    /// The count of bytes in which it is written.
+    pub width: u8,
+    ghost fits: { SlebFits (record { value = value; width = width }) },
 }
 
 impl Sleb {
+    ghost use Rattle.dw_leb.specs.View.{sleb_of};
+
     /// The number at the front of `b`, where `lim` bytes are left to the unit's end.
     ///
     /// The first byte below 128 ends it, and bit 6 of that byte is its sign. Refused are: sixteen
@@ -39,18 +31,17 @@ impl Sleb {
     /// (`PastUnit`) or up to the input's, which comes before the unit's (`Truncated`), and a value
     /// outside of -2^63 to 2^63 - 1 (`LebTooBig`).
     pub fn read(b: &[u8], lim: u64) -> Result<Sleb, Reason>
-        ensures found { IfOk result (λ x. Taken sleb b.now lim x x.width) }
-        ensures only { (x : Signed) → Taken sleb b.now lim x x.width → result ≡ Ok x }
+        ensures found { IfOk result (λ x. Taken sleb b.now lim (sleb_of x) x.width) }
+        ensures only { (x : Signed) → Taken sleb b.now lim x x.width → IsOkAnd result (λ y. sleb_of y ≡ x) }
         ensures broken { IfErr result (λ reason. sleb.Break b.now lim 0 reason) }
-        ensures exact { result ≡ answer (read_sleb b.now lim) }
-        ensures outcome { read_sleb b.now lim ≡ outcome_of (λ x. x.width) result }
+        ensures exact { read_sleb b.now lim ≡ outcome_of sleb_of (λ x. x.width) result }
         ensures room { IfOk result (λ x. (x.width ≤ length b.now) × (x.width ≤ lim)) }
     {
         Sleb::scan(b, lim)
     }
 
     fn scan(b: &[u8], lim: u64) -> Result<Sleb, Reason>
-        ensures exact { result ≡ signed_of (front_at b.now lim) }
+        ensures exact { seen_by sleb_of result ≡ signed_scan (front_at b.now lim) }
         ensures room { IfOk result (λ x. (x.width ≤ length b.now) × (x.width ≤ lim)) }
     {
         let width = width_at(b, lim)?;
@@ -76,26 +67,10 @@ impl Sleb {
         })
     }
 
-    /// The number.
-    pub fn value(self) -> i64
-        ensures { result ≡ self.value }
-    {
-        self.value
-    }
-
-    /// The count of bytes in which it is written, 1 to 16.
-    pub fn width(self) -> u8
-        ensures width { result ≡ self.width }
-        ensures fits { SlebFits self }
-    {
-        self.width
-    }
-
     /// Its spelling: exactly `width` bytes.
     pub fn bytes(self) -> ArrayVec<u8, 16>
-        ensures spelling { result.items ≡ sleb.spell self }
+        ensures spelling { result.items ≡ sleb.spell (sleb_of self) }
         ensures length { length result.items ≡ self.width }
-        ensures fits { SlebFits self }
     {
         let n = magnitude(self.value) as u128;
         if self.value >= 0 {
@@ -122,7 +97,7 @@ impl Sleb {
     /// the value.
     pub fn with_width(value: i64, width: u8) -> Option<Sleb>
         ensures some { IsSome result ↔ SlebFits (record { value = value; width = width }) }
-        ensures value { IfSome result (λ x. x ≡ record { value = value; width = width }) }
+        ensures value { IfSome result (λ x. sleb_of x ≡ record { value = value; width = width }) }
     {
         if width < 1 || width > 16 || 2 * magnitude(value) as u128 >= place(width) {
             return None;

@@ -14,8 +14,8 @@ use std::test::Fail;
 fn unsigned(rt: &impl Abort, b: &[u8], lim: u64) -> Result<(u64, u8), Reason> {
     let x = Uleb::read(b, lim)?;
     assert_eq!(rt; x.bytes().as_slice(), b);
-    assert_eq!(rt; Uleb::with_width(x.value(), x.width()), Some(x));
-    Ok((x.value(), x.width()))
+    assert_eq!(rt; Uleb::with_width(x.value, x.width), Some(x));
+    Ok((x.value, x.width))
 }
 
 #[test]
@@ -39,8 +39,8 @@ fn unsigned_numbers(rt: HostRuntime) {
 #[test]
 fn unsigned_widths(rt: HostRuntime) {
     for (value, width) in [(0, 1), (127, 1), (128, 2), (12857, 2), (u64::MAX, 10)] {
-        assert_eq!(rt; Uleb::least(value).width(), width, "of {value}");
-        assert_eq!(rt; Uleb::least(value).value(), value);
+        assert_eq!(rt; Uleb::least(value).width, width, "of {value}");
+        assert_eq!(rt; Uleb::least(value).value, value);
     }
     assert_eq!(rt; Uleb::with_width(128, 1), None);
     assert_eq!(rt; Uleb::with_width(1, 0), None);
@@ -56,8 +56,8 @@ fn unsigned_widths(rt: HostRuntime) {
 fn signed(rt: &impl Abort, b: &[u8], lim: u64) -> Result<(i64, u8), Reason> {
     let x = Sleb::read(b, lim)?;
     assert_eq!(rt; x.bytes().as_slice(), b);
-    assert_eq!(rt; Sleb::with_width(x.value(), x.width()), Some(x));
-    Ok((x.value(), x.width()))
+    assert_eq!(rt; Sleb::with_width(x.value, x.width), Some(x));
+    Ok((x.value, x.width))
 }
 
 #[test]
@@ -92,8 +92,8 @@ fn signed_widths(rt: HostRuntime) {
         (i64::MAX, 10),
         (i64::MIN, 10),
     ] {
-        assert_eq!(rt; Sleb::least(value).width(), width, "of {value}");
-        assert_eq!(rt; Sleb::least(value).value(), value);
+        assert_eq!(rt; Sleb::least(value).width, width, "of {value}");
+        assert_eq!(rt; Sleb::least(value).value, value);
     }
     assert_eq!(rt; Sleb::with_width(64, 1), None);
     let wide = Sleb::with_width(64, 2).map(|x| x.bytes());

@@ -1,55 +1,46 @@
 //! Unsigned LEB128 numbers (section 7.6).
-ghost use Rattle.std.specs.Prelude.{◌≡◌, ◌≤◌, ◌<◌, ◌*◌, ◌^◌, ℕ, length, Ok, Some, IsSome, IfSome, IfOk, IfErr, ◌↔◌};
+ghost use Rattle.std.specs.Prelude.{◌≡◌, ◌≤◌, ◌<◌, ◌*◌, ◌^◌, ℕ, length, IsSome, IsOkAnd, IfSome, IfOk, IfErr, ◌↔◌};
 ghost use Rattle.dw_leb.specs.Part.{Taken};
 ghost use Rattle.dw_leb.specs.Number.{Unsigned, UlebFits, uleb};
-ghost use Rattle.dw_leb.specs.Reader.{answer, outcome_of};
+ghost use Rattle.dw_leb.specs.Reader.{outcome_of, seen_by};
 ghost use Rattle.dw_leb.specs.ReadNumber.{read_uleb};
-ghost use Rattle.dw_leb.specs.Scan.{front_at, unsigned_of};
+ghost use Rattle.dw_leb.specs.Scan.{front_at, unsigned_scan};
 
 use crate::errors::Reason;
 use crate::groups::{number, place, spell, width_at};
 use arrayvec::ArrayVec;
-use std::marker::Model;
 
 /// An unsigned number and the count of bytes in which it is written, its width: 1 to 16, of which
 /// the last ones may be padding. So many groups of seven bits hold the value.
 #[derive(Clone, Copy, Debug, PartialEq, Eq)]
 pub struct Uleb {
-    value: u64,
-    width: u8,
-}
-
-impl Model for Uleb {
-    ghost use Rattle.dw_leb.specs.Number.{Unsigned, UlebFits};
-
-    ghost Value = { Unsigned };
-
-    ghost view = { λ a. record { value = a.value; width = a.width } };
-
-    ghost invariant = { λ a. UlebFits (record { value = a.value; width = a.width }) };
-
-    ghost inverse = { λ u. record { value = u.value; width = u.width } };
+    /// The number.
+    pub value: u64,
+    /// The count of bytes in which it is written.
+    pub width: u8,
+    ghost fits: { UlebFits (record { value = value; width = width }) },
 }
 
 impl Uleb {
+    ghost use Rattle.dw_leb.specs.View.{uleb_of};
+
     /// The number at the front of `b`, where `lim` bytes are left to the unit's end.
     ///
     /// The first byte below 128 ends it. Refused are: sixteen bytes within the unit of which none
     /// ends it (`LebTooLong`), fewer up to the unit's end (`PastUnit`) or up to the input's, which
     /// comes before the unit's (`Truncated`), and a value above 2^64 - 1 (`LebTooBig`).
     pub fn read(b: &[u8], lim: u64) -> Result<Uleb, Reason>
-        ensures found { IfOk result (λ x. Taken uleb b.now lim x x.width) }
-        ensures only { (x : Unsigned) → Taken uleb b.now lim x x.width → result ≡ Ok x }
+        ensures found { IfOk result (λ x. Taken uleb b.now lim (uleb_of x) x.width) }
+        ensures only { (x : Unsigned) → Taken uleb b.now lim x x.width → IsOkAnd result (λ y. uleb_of y ≡ x) }
         ensures broken { IfErr result (λ reason. uleb.Break b.now lim 0 reason) }
-        ensures exact { result ≡ answer (read_uleb b.now lim) }
-        ensures outcome { read_uleb b.now lim ≡ outcome_of (λ x. x.width) result }
+        ensures exact { read_uleb b.now lim ≡ outcome_of uleb_of (λ x. x.width) result }
         ensures room { IfOk result (λ x. (x.width ≤ length b.now) × (x.width ≤ lim)) }
     {
         Uleb::scan(b, lim)
     }
 
     fn scan(b: &[u8], lim: u64) -> Result<Uleb, Reason>
-        ensures exact { result ≡ unsigned_of (front_at b.now lim) }
+        ensures exact { seen_by uleb_of result ≡ unsigned_scan (front_at b.now lim) }
         ensures room { IfOk result (λ x. (x.width ≤ length b.now) × (x.width ≤ lim)) }
     {
         let width = width_at(b, lim)?;
@@ -62,26 +53,10 @@ impl Uleb {
         }
     }
 
-    /// The number.
-    pub fn value(self) -> u64
-        ensures { result ≡ self.value }
-    {
-        self.value
-    }
-
-    /// The count of bytes in which it is written, 1 to 16.
-    pub fn width(self) -> u8
-        ensures width { result ≡ self.width }
-        ensures fits { UlebFits self }
-    {
-        self.width
-    }
-
     /// Its spelling: exactly `width` bytes.
     pub fn bytes(self) -> ArrayVec<u8, 16>
-        ensures spelling { result.items ≡ uleb.spell self }
+        ensures spelling { result.items ≡ uleb.spell (uleb_of self) }
         ensures length { length result.items ≡ self.width }
-        ensures fits { UlebFits self }
     {
         spell(self.value as u128, self.width)
     }
@@ -102,7 +77,7 @@ impl Uleb {
     /// the value.
     pub fn with_width(value: u64, width: u8) -> Option<Uleb>
         ensures some { IsSome result ↔ UlebFits (record { value = value; width = width }) }
-        ensures value { IfSome result (λ x. x ≡ record { value = value; width = width }) }
+        ensures value { IfSome result (λ x. uleb_of x ≡ record { value = value; width = width }) }
     {
         if width < 1 || width > 16 || value as u128 >= place(width) {
             return None;
