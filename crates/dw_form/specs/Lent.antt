@@ -1,7 +1,10 @@
 -- Lent values as values of the grammar.
-use Rattle.std.specs.Prelude.{◌≡◌, ℕ, List, take, Option, Some, None, Result, Ok, Err}
+use Rattle.std.specs.Prelude.{◌≡◌, ℕ, List, take, Option, Some, None, option_map, Result, Ok, Err, IfOk, IfErr}
+use Rattle.dw_leb.specs.Part.{Part, Taken}
+use Rattle.dw_leb.specs.Decide.{Says}
+use Rattle.dw_leb.specs.View.{uleb_of, sleb_of}
 use Rattle.dw_leb.specs.declared.errors.Reason.{Reason}
-use Rattle.dw_leb.specs.Reader.{Outcome, Found, Broken}
+use Rattle.dw_leb.specs.Reader.{Outcome, Found, Broken, mapped, at_front}
 use Rattle.dw_form.specs.Form as grammar
 use Rattle.dw_form.specs.declared.value.Value.{Value}
 use Rattle.dw_form.specs.declared.value.Value.TheVariants as values
@@ -11,16 +14,16 @@ use Rattle.dw_form.specs.declared.value.AttrValue.{AttrValue}
 abbrev pub value_of : Value → grammar.Value
 value_of (values.Num x) = grammar.Num x
 value_of (values.Wide x) = grammar.Wide x
-value_of (values.Uleb u) = grammar.Uleb u
-value_of (values.Sleb s) = grammar.Sleb s
+value_of (values.Uleb u) = grammar.Uleb (uleb_of u)
+value_of (values.Sleb s) = grammar.Sleb (sleb_of s)
 value_of (values.Block width bytes) = grammar.Block width bytes.now
 value_of (values.Text bytes) = grammar.Text bytes.now
 value_of values.Present = grammar.Present
-value_of (values.Implicit s) = grammar.Implicit s
+value_of (values.Implicit s) = grammar.Implicit (sleb_of s)
 
 -- the attribute's value that is lent
 abbrev pub attribute_of : AttrValue → grammar.Attribute
-attribute_of a = record { via = a.via; value = value_of a.value }
+attribute_of a = record { via = option_map uleb_of a.via; value = value_of a.value }
 
 -- What a call that lends from bytes answers is what the plain reader reads: a value and its size, or why it is refused.
 abbrev pub Lends : {X Y : Type 0} → (X → Y) → Result (X × ℕ) Reason → Outcome Y → Type 0
@@ -33,3 +36,30 @@ Lends view (Err e) (Broken offset reason) = e ≡ reason
 abbrev pub ZeroAt : List ℕ → Option ℕ → Option (List ℕ) → Type 0
 ZeroAt bytes None front = front ≡ None
 ZeroAt bytes (Some end) front = front ≡ Some (take end bytes)
+
+-- the outcome of reading one field where a call lends so: it breaks at its first byte
+abbrev pub lent_outcome : {X Y : Type 0} → (X → Y) → Result (X × ℕ) Reason → Outcome Y
+lent_outcome view (Ok x) = Found (view x.0) x.1
+lent_outcome view (Err reason) = Broken 0 reason
+
+-- a refusal is passed on by what is made of the value
+pub lends_err : {X Y Z W : Type 0} (view : X → Y) (seen : W → Z) (f : Y → Z) (e : Reason) (o : Outcome Y) → Lends view (Err e) o → Lends seen (Err e) (mapped f o)
+lends_err view seen f e (Found y size) h = h
+lends_err view seen f e (Broken offset reason) h = h
+
+-- one field's outcome is told by what is lent
+pub lends_front : {X Y : Type 0} (view : X → Y) (r : Result (X × ℕ) Reason) (o : Outcome Y) → Lends view r o → at_front o ≡ lent_outcome view r
+lends_front view (Ok x) (Found y size) h = cc
+lends_front view (Ok x) (Broken offset reason) h = absurd h
+lends_front view (Err e) (Found y size) h = absurd h
+lends_front view (Err e) (Broken offset reason) h = cc
+
+-- ---- what is lent, by what the plain reader says
+
+pub lent_found : {X Y : Type 0} (view : X → Y) (P : Part Y) (bytes : List ℕ) (lim : ℕ) (r : Result (X × ℕ) Reason) → Says P bytes lim (lent_outcome view r) → IfOk r (λ x. Taken P bytes lim (view x.0) x.1)
+lent_found view P bytes lim (Ok x) h = h
+lent_found view P bytes lim (Err reason) h = tt
+
+pub lent_broken : {X Y : Type 0} (view : X → Y) (P : Part Y) (bytes : List ℕ) (lim : ℕ) (r : Result (X × ℕ) Reason) → Says P bytes lim (lent_outcome view r) → IfErr r (λ reason. P.Break bytes lim 0 reason)
+lent_broken view P bytes lim (Ok x) h = tt
+lent_broken view P bytes lim (Err reason) h = h

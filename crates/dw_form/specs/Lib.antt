@@ -2,3 +2,5 @@ pub mod Form
 pub mod ReadForm
 pub mod DecideForm
 pub mod Lent
+pub mod Kept
+pub mod Told

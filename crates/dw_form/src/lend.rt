@@ -1,11 +1,13 @@
 //! Values at the front of bytes, lent from them.
-ghost use Rattle.std.specs.Prelude.{◌≡◌, ◌≤◌, ◌<◌, ◌+◌, ◌^◌, ℕ, length, min, IfOk, IfSome};
+ghost use Rattle.std.specs.Prelude.{◌≡◌, ◌==◌, ◌≤◌, ◌<◌, ◌+◌, ◌^◌, ℕ, length, min, IfOk, IfErr, IfSome, option_map};
+ghost use Rattle.dw_leb.specs.Part.{Taken};
 ghost use Rattle.dw_leb.specs.Number.{unended};
+ghost use Rattle.dw_leb.specs.View.{sleb_of};
 ghost use Rattle.dw_leb.specs.Reader.{made, ◌and_then◌};
 ghost use Rattle.dw_leb.specs.ReadNumber.{before_zero, bytes_of, read_text, read_uleb, read_sleb, read_fixed as fixed_reader};
-ghost use Rattle.dw_form.specs.Form.{Block as TheBlock, IsFixedSize, ShapeFits, IsContext};
-ghost use Rattle.dw_form.specs.ReadForm.{fixed_from, indirect_from, read_shaped, read_formed, read_indirect, read_attribute};
-ghost use Rattle.dw_form.specs.Lent.{value_of, attribute_of, Lends, ZeroAt};
+ghost use Rattle.dw_form.specs.Form.{attribute, Block as TheBlock, IsFixedSize, ShapeFits, IsContext};
+ghost use Rattle.dw_form.specs.ReadForm.{fixed_from, indirect_from, read_shaped, read_formed, read_indirect, read_by_indirection, read_attribute};
+ghost use Rattle.dw_form.specs.Lent.{value_of, attribute_of, Lends, lent_outcome, ZeroAt};
 
 use crate::shape::{Ctx, Shape};
 use crate::value::{AttrValue, Value};
@@ -36,7 +38,7 @@ fn zero_at(b: &[u8]) -> Option<usize>
 
 /// The bytes before the first zero byte; the size counts the zero.
 fn text(b: &[u8], lim: u64) -> Result<(&[u8], usize), Reason>
-    ensures exact { Lends (λ x. x.now) result (read_text b.now lim) }
+    ensures exact { read_text b.now lim ≡ lent_outcome (λ x. x.now) result }
     ensures room { IfOk result (λ x. (x.1 ≤ length b.now) × (x.1 ≤ lim)) }
 {
     let m = (b.len() as u64).min(lim);
@@ -89,8 +91,8 @@ fn counted_uleb(b: &[u8], lim: u64) -> Result<(Value<'_>, usize), Reason>
     ensures room { IfOk result (λ x. (x.1 ≤ length b.now) × (x.1 ≤ lim)) }
 {
     let count = Uleb::read(b, lim)?;
-    let width = count.width();
-    let (bytes, size) = content(count.value(), &b[width as usize..], lim - width as u64)?;
+    let width = count.width;
+    let (bytes, size) = content(count.value, &b[width as usize..], lim - width as u64)?;
     Ok((Value::Block { width, bytes }, width as usize + size))
 }
 
@@ -103,18 +105,18 @@ fn shaped(
     lim: u64,
 ) -> Result<(Value<'_>, usize), Reason>
     requires { ShapeFits shape }
-    ensures exact { Lends value_of result (read_shaped ctx implicit shape b.now lim) }
+    ensures exact { Lends value_of result (read_shaped ctx (option_map sleb_of implicit) shape b.now lim) }
     ensures room { IfOk result (λ x. (x.1 ≤ length b.now) × (x.1 ≤ lim)) }
 {
     match shape {
         Shape::Fixed(n) => fixed(ctx, n, b, lim),
         Shape::Uleb => {
             let x = Uleb::read(b, lim)?;
-            Ok((Value::Uleb(x), x.width() as usize))
+            Ok((Value::Uleb(x), x.width as usize))
         }
         Shape::Sleb => {
             let x = Sleb::read(b, lim)?;
-            Ok((Value::Sleb(x), x.width() as usize))
+            Ok((Value::Sleb(x), x.width as usize))
         }
         Shape::Counted(n) => counted(ctx, n, b, lim),
         Shape::CountedUleb => counted_uleb(b, lim),
@@ -140,7 +142,7 @@ fn formed(
     lim: u64,
 ) -> Result<(Value<'_>, usize), Reason>
     requires { IsContext ctx }
-    ensures exact { Lends value_of result (read_formed ctx implicit form b.now lim) }
+    ensures exact { Lends value_of result (read_formed ctx (option_map sleb_of implicit) form b.now lim) }
     ensures room { IfOk result (λ x. (x.1 ≤ length b.now) × (x.1 ≤ lim)) }
 {
     match Shape::of(form, ctx.address_size, ctx.format) {
@@ -156,13 +158,34 @@ fn indirect(ctx: Ctx, b: &[u8], lim: u64) -> Result<(AttrValue<'_>, usize), Reas
     ensures room { IfOk result (λ x. (x.1 ≤ length b.now) × (x.1 ≤ lim)) }
 {
     let form = Uleb::read(b, lim)?;
-    if form.value() == 0x16 || form.value() == 0x21 {
+    if form.value == 0x16 || form.value == 0x21 {
         return Err(Reason::BadIndirect);
     }
-    let width = form.width() as usize;
-    let (value, size) = formed(ctx, form.value(), None, &b[width..], lim - width as u64)?;
+    let width = form.width as usize;
+    let (value, size) = formed(ctx, form.value, None, &b[width..], lim - width as u64)?;
     let via = Some(form);
     Ok((AttrValue { via, value }, width + size))
+}
+
+/// A value of a form, indirect or not.
+fn by_form(
+    ctx: Ctx,
+    form: u64,
+    implicit: Option<Sleb>,
+    b: &[u8],
+    lim: u64,
+) -> Result<(AttrValue<'_>, usize), Reason>
+    requires { IsContext ctx }
+    ensures exact { Lends attribute_of result (read_by_indirection ctx (option_map sleb_of implicit) form (form == 0x16) b.now lim) }
+    ensures room { IfOk result (λ x. (x.1 ≤ length b.now) × (x.1 ≤ lim)) }
+{
+    if form == 0x16 {
+        return indirect(ctx, b, lim);
+    }
+    match formed(ctx, form, implicit, b, lim) {
+        Ok((value, size)) => Ok((AttrValue { via: None, value }, size)),
+        Err(reason) => Err(reason),
+    }
 }
 
 /// The value of form `form` at the front of `b`, of which `lim` bytes are left to the unit's end,
@@ -170,7 +193,6 @@ fn indirect(ctx: Ctx, b: &[u8], lim: u64) -> Result<(AttrValue<'_>, usize), Reas
 ///
 /// `implicit` is the constant of the declaration, there where the form is implicit_const. A refused
 /// value is one field: its fault stands at its first byte, whatever part of it is broken.
-#[tactic(auto, unfolding(crate::specs::ReadForm::read_attribute))]
 pub fn lend_value(
     ctx: Ctx,
     form: u64,
@@ -179,12 +201,10 @@ pub fn lend_value(
     lim: u64,
 ) -> Result<(AttrValue<'_>, usize), Reason>
     requires { IsContext ctx }
-    ensures exact { Lends attribute_of result (read_attribute ctx form implicit b.now lim) }
+    ensures found { IfOk result (λ x. Taken (attribute ctx form (option_map sleb_of implicit)) b.now lim (attribute_of x.0) x.1) }
+    ensures broken { IfErr result (λ reason. (attribute ctx form (option_map sleb_of implicit)).Break b.now lim 0 reason) }
+    ensures exact { read_attribute ctx form (option_map sleb_of implicit) b.now lim ≡ lent_outcome attribute_of result }
     ensures room { IfOk result (λ x. (x.1 ≤ length b.now) × (x.1 ≤ lim)) }
 {
-    if form == 0x16 {
-        return indirect(ctx, b, lim);
-    }
-    let (value, size) = formed(ctx, form, implicit, b, lim)?;
-    Ok((AttrValue { via: None, value }, size))
+    by_form(ctx, form, implicit, b, lim)
 }

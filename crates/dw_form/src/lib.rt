@@ -2,8 +2,13 @@
 #![tactic(auto)]
 
 mod lend;
+mod read;
 mod shape;
+mod stored;
 mod value;
 
+pub use lend::lend_value;
+pub use read::{ValueError, read_value};
 pub use shape::{Ctx, Shape};
+pub use stored::Stored;
 pub use value::{AttrValue, Value};

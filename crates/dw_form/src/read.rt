@@ -1,0 +1,59 @@
+//! Reading values.
+ghost use Rattle.std.specs.Prelude.{◌≡◌, ◌≤◌, ◌++◌, ℕ, length, vec_len, IfOk, IfErr, OnErr, option_map};
+ghost use Rattle.dw_leb.specs.Part.{Taken};
+ghost use Rattle.dw_leb.specs.View.{sleb_of};
+ghost use Rattle.dw_form.specs.Form.{Attribute, attribute, IsContext};
+ghost use Rattle.dw_form.specs.Kept.{content, bytes_in, StoredFits};
+ghost use Rattle.dw_form.specs.Told.{Refuses};
+
+use crate::lend::lend_value;
+use crate::shape::Ctx;
+use crate::stored::Stored;
+use dw_leb::{Reason, Sleb};
+use std::alloc::Global;
+use thiserror::Error;
+
+/// Why no value was read.
+#[derive(Clone, Copy, Debug, PartialEq, Eq, Error)]
+pub enum ValueError {
+    /// The bytes are refused.
+    #[error("{0:?}")]
+    Bad(Reason),
+    /// The pool could not grow.
+    #[error("memory")]
+    NoMemory,
+}
+
+/// Reads the value of form `form` at the front of `b`, of which `lim` bytes are left to the unit's
+/// end; gives it and the count of its bytes. Its text or block goes to the end of `pool`; on an
+/// error the pool is as before.
+///
+/// `implicit` is the constant of the declaration, there exactly where the form is implicit_const.
+/// A refused value is one field: its fault stands at its first byte, whatever part of it is broken.
+/// Nothing grows by a length that was only announced.
+pub fn read_value(
+    _alloc: Global,
+    ctx: Ctx,
+    form: u64,
+    implicit: Option<Sleb>,
+    b: &[u8],
+    lim: u64,
+    pool: &mut Vec<u8>,
+) -> Result<(Stored, usize), ValueError>
+    requires { IsContext ctx }
+    ensures found { IfOk result (λ x. Taken (attribute ctx form (option_map sleb_of implicit)) b.now lim (content pool.new.items x.0) x.1) }
+    ensures broken { IfErr result (Refuses (attribute ctx form (option_map sleb_of implicit)) b.now lim) }
+    ensures pool { IfOk result (λ x. pool.new.items ≡ pool.old.items ++ bytes_in (content pool.new.items x.0)) }
+    ensures fits { IfOk result (λ x. StoredFits (vec_len pool.new) x.0) }
+    ensures unchanged { OnErr result (pool.new.items ≡ pool.old.items) }
+    ensures room { IfOk result (λ x. (x.1 ≤ length b.now) × (x.1 ≤ lim)) }
+{
+    let (value, size) = match lend_value(ctx, form, implicit, b, lim) {
+        Ok(lent) => lent,
+        Err(reason) => return Err(ValueError::Bad(reason)),
+    };
+    match Stored::keep(&value, pool) {
+        Ok(stored) => Ok((stored, size)),
+        Err(_) => Err(ValueError::NoMemory),
+    }
+}
