@@ -4,3 +4,4 @@ pub mod DecideForm
 pub mod Lent
 pub mod Kept
 pub mod Told
+pub mod Pieces

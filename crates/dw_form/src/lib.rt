@@ -6,6 +6,7 @@ mod read;
 mod shape;
 mod stored;
 mod value;
+mod write;
 
 pub use lend::lend_value;
 pub use read::{ValueError, read_value};
