@@ -13,3 +13,4 @@ pub use read::{ValueError, read_value};
 pub use shape::{Ctx, Shape};
 pub use stored::Stored;
 pub use value::{AttrValue, Value};
+pub use write::{size_of, write_value};

@@ -1,14 +1,127 @@
 //! Writing values, and their sizes.
-ghost use Rattle.std.specs.Prelude.{◌≡◌, ◌≤◌, ◌<◌, ◌+◌, ◌^◌, ◌++◌, length};
+ghost use Rattle.std.specs.Prelude.{◌≡◌, ◌≤◌, ◌<◌, ◌+◌, ◌^◌, ◌++◌, length, None, IfSome};
+ghost use Rattle.dw_leb.specs.Watch.{inner_of, fault_of, told_by_write, Wrote};
 ghost use Rattle.dw_leb.specs.Number.{uleb, UlebFits};
-ghost use Rattle.dw_form.specs.Form.{ShapeFits, IsContext};
-ghost use Rattle.dw_form.specs.Pieces.{head_of, HeadFits, content_of, tail_of};
-ghost use Rattle.dw_form.specs.Lent.{value_of};
+ghost use Rattle.dw_form.specs.Form.{shape, ShapeFits, IsContext};
+ghost use Rattle.dw_form.specs.Pieces.{head_of, HeadFits, content_of, tail_of, all_pieces, form_in, via_bytes, HasSpelling, spelling};
+ghost use Rattle.dw_form.specs.Lent.{value_of, attribute_of};
 
 use crate::shape::{Ctx, Shape};
-use crate::value::Value;
+use crate::value::{AttrValue, Value};
 use arrayvec::ArrayVec;
-use dw_leb::{Uleb, write_fixed};
+use dw_leb::{Uleb, Watched, WriteError, write_all, write_fixed};
+use std::io::Write;
+
+/// Writes a value under form `form`, of which it has a spelling. After an error a beginning of the
+/// spelling was written. No memory is taken.
+pub fn write_value<W: Write>(
+    ctx: Ctx,
+    form: u64,
+    value: &AttrValue<'_>,
+    writer: &mut Watched<W>,
+) -> Result<(), WriteError>
+    requires context { IsContext ctx }
+    requires spelled { HasSpelling ctx form (attribute_of value.now) }
+    requires clear { fault_of writer.old ≡ None }
+    ensures written { Wrote (W.contents (inner_of writer.old)) (W.contents (inner_of writer.new)) (spelling ctx form (attribute_of value.now)) result }
+    ensures fault { fault_of writer.new ≡ told_by_write result }
+{
+    match shape_in(ctx, form, value) {
+        Some(shape) => write_pieces(ctx, shape, value, writer),
+        None => unreachable!(),
+    }
+}
+
+/// The bytes of the form that an indirect value names, the head, the content and the end.
+fn write_pieces<W: Write>(
+    ctx: Ctx,
+    shape: Shape,
+    value: &AttrValue<'_>,
+    writer: &mut Watched<W>,
+) -> Result<(), WriteError>
+    requires fits { HeadFits ctx shape (value_of value.now.value) }
+    requires sizes { ShapeFits shape }
+    requires clear { fault_of writer.old ≡ None }
+    ensures written { Wrote (W.contents (inner_of writer.old)) (W.contents (inner_of writer.new)) (all_pieces ctx shape (attribute_of value.now)) result }
+    ensures fault { fault_of writer.new ≡ told_by_write result }
+{
+    write_via(value, writer)?;
+    write_head(ctx, shape, &value.value, writer)?;
+    write_all(writer, content(&value.value))?;
+    write_all(writer, tail(&value.value))
+}
+
+fn write_via<W: Write>(
+    value: &AttrValue<'_>,
+    writer: &mut Watched<W>,
+) -> Result<(), WriteError>
+    requires { fault_of writer.old ≡ None }
+    ensures written { Wrote (W.contents (inner_of writer.old)) (W.contents (inner_of writer.new)) (via_bytes (attribute_of value.now).via) result }
+    ensures fault { fault_of writer.new ≡ told_by_write result }
+{
+    write_all(writer, via_part(value).as_slice())
+}
+
+fn write_head<W: Write>(
+    ctx: Ctx,
+    shape: Shape,
+    value: &Value<'_>,
+    writer: &mut Watched<W>,
+) -> Result<(), WriteError>
+    requires fits { HeadFits ctx shape (value_of value.now) }
+    requires sizes { ShapeFits shape }
+    requires clear { fault_of writer.old ≡ None }
+    ensures written { Wrote (W.contents (inner_of writer.old)) (W.contents (inner_of writer.new)) (head_of ctx shape (value_of value.now)) result }
+    ensures fault { fault_of writer.new ≡ told_by_write result }
+{
+    write_all(writer, head(ctx, shape, value).as_slice())
+}
+
+/// The count of bytes of a value's spelling under form `form`.
+pub fn size_of(ctx: Ctx, form: u64, value: &AttrValue<'_>) -> u64
+    requires context { IsContext ctx }
+    requires spelled { HasSpelling ctx form (attribute_of value.now) }
+    ensures { result ≡ length (spelling ctx form (attribute_of value.now)) }
+{
+    match shape_in(ctx, form, value) {
+        Some(shape) => size_of_pieces(ctx, shape, value),
+        None => unreachable!(),
+    }
+}
+
+fn size_of_pieces(ctx: Ctx, shape: Shape, value: &AttrValue<'_>) -> u64
+    requires fits { HeadFits ctx shape (value_of value.now.value) }
+    requires sizes { ShapeFits shape }
+    ensures { result ≡ length (all_pieces ctx shape (attribute_of value.now)) }
+{
+    let via = via_part(value).len();
+    let head = head(ctx, shape, &value.value).len();
+    let content = content(&value.value).len();
+    (via + head + content + tail(&value.value).len()) as u64
+}
+
+/// The shape of the form in effect.
+fn shape_in(ctx: Ctx, form: u64, value: &AttrValue<'_>) -> Option<Shape>
+    requires { IsContext ctx }
+    ensures shape { result ≡ shape (form_in form (attribute_of value.now).via) ctx.address_size ctx.format }
+    ensures sizes { IfSome result ShapeFits }
+{
+    let form = match value.via {
+        Some(via) => via.value,
+        None => form,
+    };
+    Shape::of(form, ctx.address_size, ctx.format)
+}
+
+/// The bytes of the form that an indirect value names.
+fn via_part(value: &AttrValue<'_>) -> ArrayVec<u8, 16>
+    ensures bytes { result.items ≡ via_bytes (attribute_of value.now).via }
+{
+    match value.via {
+        Some(via) => via.bytes(),
+        None => ArrayVec::new(),
+    }
+}
 
 /// What stands before the content: a number, or a block's length.
 fn head(ctx: Ctx, shape: Shape, value: &Value<'_>) -> ArrayVec<u8, 16>

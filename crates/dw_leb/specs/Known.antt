@@ -2,7 +2,9 @@
 use Rattle.std.proofs.Common.{◌≡◌, ◌≤◌, ◌+◌, ◌-◌, ℕ, zero, suc, List, [], ◌∷◌, ◌++◌, length, take, drop, Option, None, Some, Ok, refl, sym, ap, ◌∙◌, append_assoc, append-nil, arith, length-drop}
 use Rattle.std.proofs.lemmas.List.{take_all, take-append-le, length-append}
 use Rattle.std.proofs.Math.Seq.{take-add, take-append-add}
-use Rattle.dw_leb.specs.Watch.{write_fault, AppendsFront}
+use Rattle.dw_leb.specs.Watch.{write_fault, AppendsFront, Wrote}
+use Rattle.dw_leb.specs.declared.errors.WriteError.{WriteError}
+use Rattle.std.specs.Prelude.{Result, Err, IsErr, OnOk}
 use Rattle.std.specs.Io.KnownBytes.{Appends, Consumes, Keeps}
 
 -- nothing is taken
@@ -78,3 +80,17 @@ front_behind a b c xs ys h k =
 -- what was written whole is a beginning of itself
 pub front_whole : (a b : Option (List ℕ)) (xs : List ℕ) → Appends a b xs → AppendsFront a b xs
 front_whole a b xs h = (length xs, omega arith, rw (take_all (length xs) xs (omega arith)) h)
+
+-- all of one list, and then what a call wrote of another
+pub wrote_then : {X : Type 0} (a b c : Option (List ℕ)) (xs ys : List ℕ) (r : Result X WriteError) → Appends a b xs → Wrote b c ys r → Wrote a c (xs ++ ys) r
+wrote_then a b c xs ys (Ok x) h k = appends_more a b c xs ys h k
+wrote_then a b c xs ys (Err e) h k = front_behind a b c xs ys h k
+
+-- an error in the first of two lists
+pub wrote_err : {X : Type 0} (a b : Option (List ℕ)) (xs ys : List ℕ) (r : Result X WriteError) → IsErr r → AppendsFront a b xs → Wrote a b (xs ++ ys) r
+wrote_err a b xs ys (Ok x) e h = absurd cc
+wrote_err a b xs ys (Err e) i h = front_of_both a b xs ys h
+
+pub wrote_of : {X : Type 0} (a b : Option (List ℕ)) (xs : List ℕ) (r : Result X WriteError) → OnOk r (Appends a b xs) → AppendsFront a b xs → Wrote a b xs r
+wrote_of a b xs (Ok x) h k = h
+wrote_of a b xs (Err e) h k = k

@@ -77,3 +77,8 @@ ReadsAll view old new (Ok x) = Consumes old new (view x) × IsAtEnd new
 ReadsAll view old new (Err (reads.Fault f)) = ⊥
 ReadsAll view old new (Err reads.NoMemory) = (bytes : List ℕ) × Consumes old new bytes
 ReadsAll view old new (Err (reads.Io kind)) = (bytes : List ℕ) × Consumes old new bytes
+
+-- What a call that writes these bytes wrote: at Ok all of them, after an error a beginning.
+abbrev pub Wrote : {X : Type 0} → Option (List ℕ) → Option (List ℕ) → List ℕ → Result X WriteError → Type 0
+Wrote old new bytes (Ok x) = Appends old new bytes
+Wrote old new bytes (Err e) = AppendsFront old new bytes

@@ -1,7 +1,7 @@
 //! Whole transfers over watched readers and writers.
 ghost use Rattle.std.specs.Prelude.{◌≡◌, ◌≤◌, ◌<◌, ◌-◌, ℕ, length, None, IfOk, IfErr, OnOk, vec_len, vec_items};
 ghost use Rattle.std.specs.Io.KnownBytes.{Appends, Consumes, IsAtEnd};
-ghost use Rattle.dw_leb.specs.Watch.{inner_of, fault_of, told_by_read, told_by_write, AppendsFront, ReadsExactly, ReadsAll, FailsToRead};
+ghost use Rattle.dw_leb.specs.Watch.{inner_of, fault_of, told_by_read, told_by_write, AppendsFront, Wrote, ReadsExactly, ReadsAll, FailsToRead};
 
 use crate::errors::{Fault, ReadError, Reason, Section, WriteError};
 use crate::watch::Watched;
@@ -119,6 +119,7 @@ pub fn write_all<W: Write>(writer: &mut Watched<W>, bytes: &[u8]) -> Result<(), 
         (W.contents (inner_of writer.old))
         (W.contents (inner_of writer.new))
         bytes.now }
+    ensures written { Wrote (W.contents (inner_of writer.old)) (W.contents (inner_of writer.new)) bytes.now result }
     ensures fault { fault_of writer.new ≡ told_by_write result }
 {
     let mut at = 0;
