@@ -11,7 +11,9 @@ use Rattle.dw_leb.specs.declared.order.Format.{Format}
 use Rattle.dw_leb.specs.Number.{offset_size, initial_length, length_limit}
 use Rattle.dw_form.specs.declared.shape.Ctx.{Ctx}
 use Rattle.dw_abbrev.specs.Table.{Table, TableAt}
-use Rattle.dw_unit.specs.Header.{Kind, Compile, Partial, TypeUnit, Skeleton, Header, bad_version, bad_type, numbers, added_sizes, kind_number, kind_fields, fields, Fields, fields_of, context_of}
+use Rattle.dw_unit.specs.declared.kind.Kind.{Kind}
+use Rattle.dw_unit.specs.declared.kind.Kind.TheVariants.{Compile, Partial, TypeUnit, Skeleton}
+use Rattle.dw_unit.specs.Header.{Header, bad_version, bad_type, numbers, added_sizes, kind_number, kind_fields, fields, Fields, fields_of, context_of}
 use Rattle.dw_unit.specs.Tree.{Tree, tree, nesting, nulls, AreNulls, PaddingBreaks}
 use Rattle.dw_unit.specs.Unit.{Contents, body_bytes, unit_bytes, header_of, table_offset, Headed, HeaderBreaks, EntriesBreak, BodyBreaks, UnitBreaks, Fails, UnitIn}
 use Rattle.dw_leb.specs.declared.errors.Section.{Section}

@@ -7,11 +7,8 @@ use Rattle.dw_leb.specs.declared.order.Order.{Order}
 use Rattle.dw_leb.specs.declared.order.Format.{Format}
 use Rattle.dw_leb.specs.Number.{offset_size, fixed}
 use Rattle.dw_form.specs.declared.shape.Ctx.{Ctx}
-
-pub data Kind : Type 0 where
-  Compile Partial : Kind
-  TypeUnit : ℕ → ℕ → Kind  -- the signature, and the type's offset
-  Skeleton : ℕ → Kind
+use Rattle.dw_unit.specs.declared.kind.Kind.{Kind}
+use Rattle.dw_unit.specs.declared.kind.Kind.TheVariants.{Compile, Partial, TypeUnit, Skeleton}
 
 pub record Header : Type 0 where
   pub order : Order

@@ -8,3 +8,5 @@ pub mod Laws
 pub mod DecideTree
 pub mod DecideUnit
 pub mod Offsets
+pub mod Told
+pub mod HeaderFields

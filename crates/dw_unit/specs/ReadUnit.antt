@@ -14,7 +14,9 @@ use Rattle.dw_form.specs.Form.{Attribute}
 use Rattle.dw_form.specs.ReadForm.{read_attribute}
 use Rattle.dw_abbrev.specs.Table.{Pair, Table, declared, is_null}
 use Rattle.dw_abbrev.specs.ReadTable.{read_table_at}
-use Rattle.dw_unit.specs.Header.{Kind, Compile, Partial, TypeUnit, Skeleton, Header, added_sizes, bad_version, bad_type, bad_address_size, Fields}
+use Rattle.dw_unit.specs.declared.kind.Kind.{Kind}
+use Rattle.dw_unit.specs.declared.kind.Kind.TheVariants.{Compile, Partial, TypeUnit, Skeleton}
+use Rattle.dw_unit.specs.Header.{Header, added_sizes, bad_version, bad_type, bad_address_size, Fields}
 use Rattle.dw_unit.specs.Tree.{Tree, leaf, branch, Forest, none, more, Body, pairs_of, children_of, bad_root, bad_child, nesting, not_null}
 use Rattle.dw_unit.specs.Unit.{Contents, header_of}
 
