@@ -1,5 +1,5 @@
 -- Unit headers (section 7.5.1).
-use Rattle.std.specs.Prelude.{◌≡◌, ℕ, List, [], ◌∷◌, Option, Some, None, nat_lt, ◌==◌, if◌then◌else◌, ◌&&◌}
+use Rattle.std.specs.Prelude.{◌≡◌, ◌≤◌, ◌<◌, ◌^◌, ℕ, List, [], ◌∷◌, Option, Some, None, nat_lt, ◌==◌, if◌then◌else◌, ◌&&◌}
 use Rattle.dw_leb.specs.declared.errors.Reason.{Reason}
 use Rattle.dw_leb.specs.declared.errors.Reason.TheVariants.{BadVersion, BadUnitType, BadAddressSize}
 use Rattle.dw_leb.specs.Part.{Part, ◌then◌, judged, seen, nothing}
@@ -72,3 +72,16 @@ fields_of h = (5, (kind_number h.kind, (h.address_size, (h.abbrev_offset, kind_f
 
 abbrev pub context_of : Header → Ctx
 context_of h = record { order = h.order; format = h.format; address_size = h.address_size }
+
+-- the fields of a kind fit their sizes
+abbrev pub KindFits : Format → Kind → Type 0
+KindFits format (TypeUnit signature offset) = (signature < 2 ^ 64) × (offset < 256 ^ offset_size format)
+KindFits format (Skeleton id) = id < 2 ^ 64
+KindFits format _ = Unit {0}
+
+-- what has a spelling: an address has 1 to 8 bytes, and each offset fits the format's size
+pub record HeaderFits (h : Header) : Type 0 where
+  pub some : 1 ≤ h.address_size
+  pub most : h.address_size ≤ 8
+  pub offset : h.abbrev_offset < 256 ^ offset_size h.format
+  pub kind : KindFits h.format h.kind

@@ -10,3 +10,4 @@ pub mod DecideUnit
 pub mod Offsets
 pub mod Told
 pub mod HeaderFields
+pub mod HeaderLemmas

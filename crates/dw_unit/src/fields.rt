@@ -3,7 +3,7 @@ ghost use Rattle.std.specs.Prelude.{◌≡◌, ◌≤◌, ◌<◌, ◌+◌, ◌^
 ghost use Rattle.dw_leb.specs.Number.{offset_size};
 ghost use Rattle.dw_leb.specs.Reader.{checked, ◌and_then◌};
 ghost use Rattle.dw_leb.specs.ReadNumber.{read_fixed as fixed_reader};
-ghost use Rattle.dw_unit.specs.Header.{added_sizes, kind_number, kind_fields, bad_type, bad_address_size};
+ghost use Rattle.dw_unit.specs.Header.{fields, added_sizes, kind_number, kind_fields, bad_type, bad_address_size};
 ghost use Rattle.dw_unit.specs.ReadUnit.{read_numbers, read_fields};
 ghost use Rattle.dw_unit.specs.Told.{told};
 ghost use Rattle.dw_unit.specs.HeaderFields.{after_type, after_version, all_fields};
@@ -162,8 +162,22 @@ fn typed(order: Order, format: Format, b: &[u8], lim: u64) -> Result<(HeaderFiel
 }
 
 /// All fields after the length: `lim` is the unit_length.
-#[tactic(auto, unfolding(crate::specs::ReadUnit::read_fields))]
 pub(crate) fn header_fields(
+    order: Order,
+    format: Format,
+    b: &[u8],
+    lim: u64,
+) -> Result<(HeaderFields, usize), Bad>
+    ensures exact { read_fields order format b.now lim ≡ told all_fields result }
+    ensures fits { IfOk result (λ x. (fields order format).Fits (all_fields x.0)) }
+    ensures room { IfOk result (λ x. (x.1 ≤ length b.now) × (x.1 ≤ lim) × (x.1 ≤ 28)) }
+    ensures near { IfErr result (λ e. e.offset ≤ 20) }
+{
+    versioned(order, format, b, lim)
+}
+
+#[tactic(auto, unfolding(crate::specs::ReadUnit::read_fields))]
+fn versioned(
     order: Order,
     format: Format,
     b: &[u8],

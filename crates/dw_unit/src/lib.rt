@@ -3,6 +3,8 @@
 
 mod bad;
 mod fields;
+mod header;
 mod kind;
 
+pub use header::Header;
 pub use kind::Kind;
