@@ -229,7 +229,7 @@ kind_numbers order format (suc (suc (suc (suc zero)))) added range fits = (refl,
 kind_numbers order format (suc (suc (suc (suc (suc n))))) added range fits = absurd (omega (arith, range.1))
 
 -- the fields of the header that fields make
-kind_there : (format : Format) (order : Order) (x : Fields) → (fields order format).Fits x → fields_of (header_from order format x) ≡ x
+pub kind_there : (format : Format) (order : Order) (x : Fields) → (fields order format).Fits x → fields_of (header_from order format x) ≡ x
 kind_there format order x fits =
     let k = kind_numbers order format x.1.0 x.1.1.1.1 (type_range x.1.0 fits.1.0.1) fits.1.1.1.1 in
     let five : x.0 ≡ 5 = version_is x.0 fits.0.1 in

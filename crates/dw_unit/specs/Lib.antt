@@ -11,3 +11,4 @@ pub mod Offsets
 pub mod Told
 pub mod HeaderFields
 pub mod HeaderLemmas
+pub mod HeadRead

@@ -1,8 +1,11 @@
 //! Unit headers (section 7.5.1).
 ghost use Rattle.std.specs.Prelude.{◌≡◌, ◌≤◌, ◌<◌, ◌+◌, ◌^◌, ℕ, length, nat_lt, IsSome, IfSome, IsTrue, ◌↔◌};
 ghost use Rattle.dw_leb.specs.Number.{offset_size};
-ghost use Rattle.dw_unit.specs.Header.{HeaderFits, KindFits, context_of};
+ghost use Rattle.dw_unit.specs.HeaderFields.{all_fields};
+ghost use Rattle.dw_unit.specs.ReadUnit.{header_from};
+ghost use Rattle.dw_unit.specs.Header.{HeaderFits, KindFits, context_of, fields as header_part};
 
+use crate::fields::HeaderFields;
 use crate::kind::Kind;
 use dw_form::Ctx;
 use dw_leb::{Format, Order};
@@ -57,6 +60,21 @@ impl Header {
             address_size,
             abbrev_offset,
         })
+    }
+
+    /// A header of fields that fit.
+    #[tactic(auto, using(crate::specs::HeaderLemmas::header_fits, crate::specs::HeaderLemmas::header_back))]
+    pub(crate) fn of(order: Order, format: Format, fields: HeaderFields) -> Header
+        requires { (header_part order format).Fits (all_fields fields) }
+        ensures { result ≡ header_from order format (all_fields fields) }
+    {
+        Header {
+            order,
+            format,
+            kind: fields.kind,
+            address_size: fields.address_size,
+            abbrev_offset: fields.abbrev_offset,
+        }
     }
 
     /// The byte order of its fixed numbers.

@@ -3,8 +3,10 @@
 
 mod bad;
 mod fields;
+mod head;
 mod header;
 mod kind;
 
+pub use head::read_header;
 pub use header::Header;
 pub use kind::Kind;
