@@ -1,5 +1,5 @@
 -- A watched reader or writer, and the fault that it keeps.
-use Rattle.std.specs.Prelude.{◌≡◌, ◌≤◌, ◌<◌, ℕ, zero, List, ◌∷◌, length, take, Option, Some, None, Result, Ok, Err}
+use Rattle.std.specs.Prelude.{◌≡◌, ◌≤◌, ◌<◌, ℕ, zero, List, ◌∷◌, length, take, Option, Some, None, Result, Ok, Err, ⊤}
 use Rattle.std.specs.Io.KnownBytes.{Appends, Consumes, IsAtEnd, Keeps}
 use Rattle.std.specs.IoError.{error_kind}
 use Rattle.std.specs.declared.io.Error.{Error}
@@ -77,3 +77,10 @@ ReadsAll view old new (Ok x) = Consumes old new (view x) × IsAtEnd new
 ReadsAll view old new (Err (reads.Fault f)) = ⊥
 ReadsAll view old new (Err reads.NoMemory) = (bytes : List ℕ) × Consumes old new bytes
 ReadsAll view old new (Err (reads.Io kind)) = (bytes : List ℕ) × Consumes old new bytes
+
+-- At NoMemory there was something to keep: of known bytes at least one was taken.
+abbrev pub KeptSome : {X : Type 0} → Option (List ℕ) → Option (List ℕ) → Result X ReadError → Type 0
+KeptSome old new (Ok x) = ⊤
+KeptSome old new (Err (reads.Fault f)) = ⊤
+KeptSome old new (Err reads.NoMemory) = (bytes : List ℕ) × (0 < length bytes) × Consumes old new bytes
+KeptSome old new (Err (reads.Io kind)) = ⊤
