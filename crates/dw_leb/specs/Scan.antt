@@ -1,4 +1,4 @@
--- How the code finds a LEB128 number: first its last byte, then its value.
+-- How the code finds a LEB128 number: first its last byte, then its value; and how it reads fixed numbers and lengths.
 use Rattle.std.specs.Prelude.{◌≡◌, ℕ, suc, ◌+◌, ◌-◌, ◌*◌, ◌^◌, ◌%◌, ◌<◌, min, Bool, true, false, List, [], ◌∷◌, length, take, drop, position, Option, Some, None, Result, Ok, Err, nat_lt, if◌then◌else◌, ℤ}
 use Rattle.byteorder.specs.Endian.{big_number, little_number, big_bytes, little_bytes}
 use Rattle.dw_leb.specs.Part.{Reason, LebTooBig, PastUnit, Truncated, ReservedLength, LengthTooBig}
