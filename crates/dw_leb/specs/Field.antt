@@ -1,11 +1,10 @@
 -- What a call that reads one field answers, from what the plain reader answers.
 use Rattle.std.specs.Prelude.{◌≡◌, ℕ, List, length, Result, Ok, Err, IfOk, IfErr}
-use Rattle.std.proofs.Common.{sym, ap, ◌∙◌, ◌≤◌, ◌<◌, ◌^◌, ◌++◌, suc, zero, get_or, [], ◌∷◌, subst, arith}
-use Rattle.std.specs.List.{AllByRecursion}
+use Rattle.std.proofs.Common.{sym, ap, ◌∙◌, ◌≤◌, ◌<◌, ◌^◌, suc, get_or, [], ◌∷◌, subst, arith}
 use Rattle.dw_leb.specs.Part.{Reason, Part, Taken}
 use Rattle.dw_leb.specs.Number.{Order, fixed}
 use Rattle.dw_leb.specs.Reader.{Outcome, Found, Broken, Reader, answer}
-use Rattle.dw_leb.specs.Decide.{Decides, Says, AreBytes, found}
+use Rattle.dw_leb.specs.Decide.{Decides, Says, AreBytes}
 
 -- a part that breaks at its first byte alone
 abbrev pub IsField : {X : Type 0} → Part X → Type 0

@@ -1,6 +1,6 @@
 -- Numbers in bytes: fixed sizes, LEB128 with its written width (section 7.6), initial lengths (sections 7.2.2 and 7.4), and lists of bytes.
 -- In a break, bytes is the rest of the input and lim the count of bytes that are left to the unit's end.
-use Rattle.std.specs.Prelude.{◌≡◌, ℕ, zero, suc, ◌+◌, ◌-◌, ◌*◌, ◌/◌, ◌%◌, ◌^◌, ◌<◌, ◌≤◌, min, ◌⊎◌, Bool, true, false, List, [], ◌∷◌, ◌++◌, length, take, reverse, Option, Some, None, nat_lt, nat_le, ◌==◌, if◌then◌else◌, ℤ, pos, negsuc, ◌&&◌}
+use Rattle.std.specs.Prelude.{◌≡◌, ℕ, zero, suc, ◌+◌, ◌-◌, ◌*◌, ◌/◌, ◌%◌, ◌^◌, ◌<◌, ◌≤◌, min, ◌⊎◌, List, [], ◌∷◌, ◌++◌, length, take, reverse, Option, Some, None, nat_lt, nat_le, ◌==◌, if◌then◌else◌, ℤ, pos, negsuc, ◌&&◌}
 use Rattle.std.specs.List.{AllByRecursion}
 pub use Rattle.dw_leb.specs.declared.order.Order.{Order}
 pub use Rattle.dw_leb.specs.declared.order.Order.TheVariants.{Little, Big}

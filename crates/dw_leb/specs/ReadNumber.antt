@@ -1,6 +1,6 @@
 -- Numbers, texts and lengths read by a plain, slow reader.
-use Rattle.std.specs.Prelude.{ℕ, zero, suc, ◌+◌, ◌-◌, ◌*◌, ◌^◌, min, List, [], ◌∷◌, length, take, reverse, Option, Some, None, nat_lt, ◌==◌, if◌then◌else◌, ℤ, pos, negsuc}
-use Rattle.dw_leb.specs.Part.{Reason, Truncated, PastUnit}
+use Rattle.std.specs.Prelude.{ℕ, suc, ◌+◌, ◌-◌, ◌*◌, ◌^◌, min, List, [], ◌∷◌, length, take, reverse, Option, Some, None, nat_lt, ◌==◌, if◌then◌else◌, ℤ, pos, negsuc}
+use Rattle.dw_leb.specs.Part.{Truncated, PastUnit}
 use Rattle.dw_leb.specs.Number.{Order, Little, Big, Format, Dwarf32, Dwarf64, unended, unmarked, Unsigned, Signed, above_u64, outside_i64, reserved, too_far}
 use Rattle.dw_leb.specs.Reader.{Outcome, Found, Broken, Reader, made, checked, one_field, read_optional, ◌and_then◌}
 
