@@ -1,16 +1,16 @@
 -- Fixed numbers and lengths: what the code computes is what the plain reader reads and the grammar spells.
-use Rattle.std.proofs.Common.{◌≡◌, ◌≤◌, ◌<◌, ◌+◌, ◌-◌, ◌*◌, ◌/◌, ◌%◌, ◌^◌, ℕ, zero, suc, Bool, true, false, cond, List, [], ◌∷◌, ◌++◌, length, take, drop, reverse, Option, Some, None, Ok, Err, Result, IfOk, refl, sym, ap, subst, ◌∙◌, arith, append-nil}
-use Rattle.std.specs.Prelude.{nat_lt, nat_le, ◌==◌, ◌&&◌, if◌then◌else◌}
-use Rattle.std.proofs.lemmas.Bool.{ltb-true, ltb-false, lt-ltb, le-ltb, le-leb, lt-leb, eqb-true, eq-eqb, ne_eqb}
-use Rattle.std.proofs.lemmas.List.{length-append, length-reverse, length-take-le, reverse-append}
-use Rattle.std.proofs.Math.Nat.{pow-suc, one-le-pow, div-div-eq-div-mul, mod-eq_of_lt, div-one}
+use Rattle.std.proofs.Common.{◌≡◌, ◌≤◌, ◌<◌, ◌+◌, ◌*◌, ◌/◌, ◌%◌, ◌^◌, ℕ, zero, suc, Bool, true, false, List, [], ◌∷◌, ◌++◌, length, take, drop, reverse, Option, Some, None, Ok, Err, Result, IfOk, refl, sym, ap, ◌∙◌, arith}
+use Rattle.std.specs.Prelude.{nat_lt, nat_le, ◌==◌, if◌then◌else◌}
+use Rattle.std.proofs.lemmas.Bool.{ltb-true, ltb-false, le-leb, lt-leb, eq-eqb, ne_eqb}
+use Rattle.std.proofs.lemmas.List.{length-reverse, length-take-le, reverse-append}
+use Rattle.std.proofs.Math.Nat.{pow-suc, div-div-eq-div-mul, div-one}
 use Rattle.std.specs.Int.{byte_at, bytes_high_first, bytes_low_first}
-use Rattle.byteorder.specs.Endian.{big_from, little_from, big_bytes, little_bytes, big_number, little_number}
+use Rattle.byteorder.specs.Endian.{big_from, little_from}
 use Rattle.byteorder.specs.Numbers.{big_from-cons, little_from-cons}
-use Rattle.dw_leb.specs.Part.{Reason, PastUnit, Truncated, ReservedLength, LengthTooBig, Taken}
-use Rattle.dw_leb.specs.Number.{Order, Little, Big, Format, Dwarf32, Dwarf64, digits, fixed_bytes, fixed, reserved, too_far, length_size, initial_length, length_limit}
+use Rattle.dw_leb.specs.Part.{Reason, PastUnit, Truncated, ReservedLength, LengthTooBig}
+use Rattle.dw_leb.specs.Number.{Order, Little, Big, Format, Dwarf32, Dwarf64, digits, fixed_bytes, fixed, reserved, too_far, length_limit}
 use Rattle.dw_leb.specs.Reader.{Outcome, Found, Broken, answer, mapped, paired, behind, judged_outcome, refused_if, at_front, read_optional}
-use Rattle.dw_leb.specs.ReadNumber.{undigits, ordered, bytes_of, read_fixed, initial_from, read_length}
+use Rattle.dw_leb.specs.ReadNumber.{undigits, ordered, read_fixed, initial_from, read_length}
 use Rattle.dw_leb.specs.Scan.{fixed_number, fixed_scan, fixed_cells, length_within, length_wide, length_of, length_scan}
 use Rattle.dw_leb.specs.Decide.{AreBytes}
 use Rattle.dw_leb.specs.Field.{found_by, small_by}

@@ -2,12 +2,12 @@
 use Rattle.std.proofs.Common.{◌≡◌, ℕ, zero, suc, ◌+◌, ◌-◌, ◌*◌, ◌^◌, ◌<◌, ◌≤◌, Bool, true, false, cond, List, [], ◌∷◌, length, Option, Some, None, refl, sym, ap, arith, ◌∙◌, inl, inr}
 use Rattle.std.specs.Prelude.{if◌then◌else◌, nat_lt, ◌==◌, ℤ, pos, negsuc}
 use Rattle.std.proofs.Math.Nat.{pow-suc}
-use Rattle.std.proofs.lemmas.Bool.{ltb-true, ltb-false, lt-ltb, le-ltb, eqb-true, eq-eqb}
+use Rattle.std.proofs.lemmas.Bool.{ltb-true, ltb-false, lt-ltb, le-ltb, eqb-true}
 use Rattle.std.proofs.lemmas.List.{length-append}
-use Rattle.dw_leb.specs.Part.{Reason, LebTooBig, Part, ◌then◌, judged, seen, viewed, nothing, optional}
+use Rattle.dw_leb.specs.Part.{LebTooBig, Part, ◌then◌, judged, seen, viewed, optional}
 use Rattle.dw_leb.specs.Field.{IsField}
 use Rattle.dw_leb.specs.Number.{UlebFits, SlebFits, marked, fixed_bytes, length_size, length_limit, Order, Format, Dwarf32, Dwarf64, fixed, groups, Unsigned, Signed, uleb_groups, UlebHolds, SlebHolds, above_u64, uleb, extent, residue, sleb_groups, outside_i64, sleb, reserved, as_initial, too_far, initial_length}
-use Rattle.dw_leb.specs.Reader.{Reader, made, returned, read_optional}
+use Rattle.dw_leb.specs.Reader.{made}
 use Rattle.dw_leb.specs.ReadNumber.{undigits, read_fixed, read_groups, uleb_from, signed_from, sleb_from, read_uleb, read_sleb, initial_from, read_length}
 use Rattle.dw_leb.specs.Decide.{IsTotalView, viewed_decides, Decides, IsView, then_decides, judged_decides, whole_decides, seen_decides, optional_decides}
 use Rattle.dw_leb.specs.Stay.{Stays, then_stays, judged_stays, whole_stays, optional_stays}

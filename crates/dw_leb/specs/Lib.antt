@@ -15,3 +15,5 @@ pub mod Known
 pub mod Devices
 pub mod Laws
 pub mod View
+pub mod ItemSteps
+pub mod Towards

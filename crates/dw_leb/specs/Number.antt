@@ -1,5 +1,6 @@
--- Numbers in bytes: fixed sizes, LEB128 with its written width (section 7.6), initial lengths (section 7.4), and lists of bytes.
-use Rattle.std.specs.Prelude.{◌≡◌, ℕ, zero, suc, ◌+◌, ◌-◌, ◌*◌, ◌/◌, ◌%◌, ◌^◌, ◌<◌, ◌≤◌, min, ◌⊎◌, Bool, true, false, List, [], ◌∷◌, ◌++◌, length, take, reverse, Option, Some, None, nat_lt, nat_le, ◌==◌, if◌then◌else◌, ℤ, pos, negsuc, ◌&&◌}
+-- Numbers in bytes: fixed sizes, LEB128 with its written width (section 7.6), initial lengths (sections 7.2.2 and 7.4), and lists of bytes.
+-- In a break, bytes is the rest of the input and lim the count of bytes that are left to the unit's end.
+use Rattle.std.specs.Prelude.{◌≡◌, ℕ, zero, suc, ◌+◌, ◌-◌, ◌*◌, ◌/◌, ◌%◌, ◌^◌, ◌<◌, ◌≤◌, min, ◌⊎◌, List, [], ◌∷◌, ◌++◌, length, take, reverse, Option, Some, None, nat_lt, nat_le, ◌==◌, if◌then◌else◌, ℤ, pos, negsuc, ◌&&◌}
 use Rattle.std.specs.List.{AllByRecursion}
 pub use Rattle.dw_leb.specs.declared.order.Order.{Order}
 pub use Rattle.dw_leb.specs.declared.order.Order.TheVariants.{Little, Big}
@@ -47,6 +48,7 @@ marked [] = []
 marked (d ∷ []) = d ∷ []
 marked (d ∷ e ∷ ds) = (d + 128) ∷ marked (e ∷ ds)
 
+-- the reason where none of the first 16 of m bytes ends a number
 abbrev pub unmarked : ℕ → ℕ → Reason
 unmarked m lim = if nat_le 16 m then LebTooLong else unended m lim
 
@@ -59,11 +61,12 @@ groups = record {
       (offset ≡ 0) × AllByRecursion (λ b. 128 ≤ b) (take (min 16 m) bytes) × (reason ≡ unmarked m lim);
 }
 
--- a number with its written width
+-- an unsigned number with its written width
 pub record Unsigned : Type 0 where
   pub value : ℕ
   pub width : ℕ
 
+-- a signed number with its written width
 pub record Signed : Type 0 where
   pub value : ℤ
   pub width : ℕ
@@ -72,9 +75,11 @@ pub record Signed : Type 0 where
 abbrev pub uleb_groups : Unsigned → List ℕ
 uleb_groups u = digits 128 u.width u.value
 
+-- so many groups hold the value
 abbrev pub UlebHolds : Unsigned → Type 0
 UlebHolds u = u.value < 128 ^ u.width
 
+-- refused above 2 ^ 64 - 1
 abbrev pub above_u64 : Unsigned → Option Reason
 above_u64 u = if nat_lt u.value (2 ^ 64) then None else Some LebTooBig
 
@@ -89,16 +94,17 @@ pub record UlebFits (u : Unsigned) : Type 0 where
   pub held : u.value < 128 ^ u.width
   pub range : u.value < 2 ^ 64
 
--- of -n the distance from -1, so that both ends of a range in two's complement are one bound
+-- the number itself, and of a negative one its distance from -1 (negsuc n is -n - 1), so that both ends of a range in two's complement are one bound
 abbrev pub extent : ℤ → ℕ
 extent (pos n) = n
 extent (negsuc n) = n
 
--- the value modulo 128 ^ width
+-- the value in two's complement of so many groups: modulo 128 ^ width
 abbrev pub residue : ℕ → ℤ → ℕ
 residue width (pos n) = n
 residue width (negsuc n) = 128 ^ width - suc n
 
+-- the base-128 digits of the value in two's complement
 abbrev pub sleb_groups : Signed → List ℕ
 sleb_groups s = digits 128 s.width (residue s.width s.value)
 
@@ -106,6 +112,7 @@ sleb_groups s = digits 128 s.width (residue s.width s.value)
 abbrev pub SlebHolds : Signed → Type 0
 SlebHolds s = 2 * extent s.value < 128 ^ s.width
 
+-- refused outside of -2 ^ 63 to 2 ^ 63 - 1
 abbrev pub outside_i64 : Signed → Option Reason
 outside_i64 s = if nat_lt (extent s.value) (2 ^ 63) then None else Some LebTooBig
 
@@ -120,7 +127,7 @@ pub record SlebFits (s : Signed) : Type 0 where
   pub held : 2 * extent s.value < 128 ^ s.width
   pub range : extent s.value < 2 ^ 63
 
--- the bytes of an initial length, and of a section offset
+-- how many bytes an initial length has, and a section offset
 abbrev pub length_size : Format → ℕ
 length_size Dwarf32 = 4
 length_size Dwarf64 = 12
@@ -129,6 +136,7 @@ abbrev pub offset_size : Format → ℕ
 offset_size Dwarf32 = 4
 offset_size Dwarf64 = 8
 
+-- refused from 0xfffffff0 to 0xfffffffe
 abbrev pub reserved : ℕ → Option Reason
 reserved x = if nat_le 0xfffffff0 x && nat_lt x 0xffffffff then Some ReservedLength else None
 
@@ -137,7 +145,7 @@ abbrev pub as_initial : Format × ℕ → Option (ℕ × Option ℕ)
 as_initial (Dwarf32, n) = Some (n, None)
 as_initial (Dwarf64, n) = Some (0xffffffff, Some n)
 
--- what begins at start ends by 2 ^ 63 - 1
+-- refused where a unit whose length field begins at start ends past 2 ^ 63 - 1
 abbrev pub too_far : ℕ → Format × ℕ → Option Reason
 too_far start x = if nat_lt (start + length_size x.0 + x.1) (2 ^ 63) then None else Some LengthTooBig
 

@@ -1,13 +1,15 @@
 -- Numbers, texts and lengths read by a plain, slow reader.
-use Rattle.std.specs.Prelude.{ℕ, zero, suc, ◌+◌, ◌-◌, ◌*◌, ◌^◌, min, List, [], ◌∷◌, length, take, reverse, Option, Some, None, nat_lt, ◌==◌, if◌then◌else◌, ℤ, pos, negsuc}
-use Rattle.dw_leb.specs.Part.{Reason, Truncated, PastUnit}
+use Rattle.std.specs.Prelude.{ℕ, suc, ◌+◌, ◌-◌, ◌*◌, ◌^◌, min, List, [], ◌∷◌, length, take, reverse, Option, Some, None, nat_lt, ◌==◌, if◌then◌else◌, ℤ, pos, negsuc}
+use Rattle.dw_leb.specs.Part.{Truncated, PastUnit}
 use Rattle.dw_leb.specs.Number.{Order, Little, Big, Format, Dwarf32, Dwarf64, unended, unmarked, Unsigned, Signed, above_u64, outside_i64, reserved, too_far}
 use Rattle.dw_leb.specs.Reader.{Outcome, Found, Broken, Reader, made, checked, one_field, read_optional, ◌and_then◌}
 
+-- the number of these digits in a base, the least first
 abbrev pub undigits : ℕ → List ℕ → ℕ
 undigits base [] = 0
 undigits base (d ∷ ds) = d + base * undigits base ds
 
+-- the bytes, the least significant first
 abbrev pub ordered : Order → List ℕ → List ℕ
 ordered Little bytes = bytes
 ordered Big bytes = reverse bytes
@@ -19,7 +21,7 @@ bytes_of n bytes lim = if nat_lt lim n then Broken 0 PastUnit else (if nat_lt (l
 abbrev pub read_fixed : Order → ℕ → Reader ℕ
 read_fixed order n = made (λ bytes. undigits 256 (ordered order bytes)) (bytes_of n)
 
--- the bytes before the first that passes, or none
+-- the bytes before the first 0, or none
 abbrev pub before_zero : List ℕ → Option (List ℕ)
 before_zero [] = None
 before_zero (b ∷ bytes) = if b == 0 then Some [] else elim (before_zero bytes) [ None ↦ None | Some front ↦ Some (b ∷ front) ]
@@ -31,7 +33,7 @@ text_outcome m lim (Some front) = Found front (length front + 1)
 abbrev pub read_text : Reader (List ℕ)
 read_text bytes lim = let m = min (length bytes) lim in text_outcome m lim (before_zero (take m bytes))
 
--- the groups up to the first byte below 128
+-- the groups up to the first byte below 128, or none
 abbrev pub groups_of : List ℕ → Option (List ℕ)
 groups_of [] = None
 groups_of (b ∷ bytes) = if nat_lt b 128 then Some (b ∷ []) else elim (groups_of bytes) [ None ↦ None | Some front ↦ Some ((b - 128) ∷ front) ]
@@ -59,6 +61,7 @@ read_uleb = checked (made uleb_from read_groups) above_u64
 abbrev pub read_sleb : Reader Signed
 read_sleb = checked (made sleb_from read_groups) outside_i64
 
+-- the format and the length that the first number tells, or the first and the second
 abbrev pub initial_from : ℕ × Option ℕ → Format × ℕ
 initial_from (n, None) = (Dwarf32, n)
 initial_from (n, Some m) = (Dwarf64, m)

@@ -1,5 +1,5 @@
 -- A plain, slow reader: it computes what the parts of the grammar say. Bodies are proved against it.
-use Rattle.std.specs.Prelude.{◌≡◌, ℕ, zero, suc, ◌+◌, ◌-◌, Bool, true, false, List, [], ◌∷◌, ◌++◌, length, drop, Option, Some, None, Result, Ok, Err, if◌then◌else◌}
+use Rattle.std.specs.Prelude.{ℕ, zero, suc, ◌+◌, ◌-◌, Bool, true, false, List, [], ◌∷◌, ◌++◌, length, drop, Option, Some, None, Result, Ok, Err, if◌then◌else◌}
 use Rattle.dw_leb.specs.Part.{Reason, Truncated}
 
 -- a value and its size, or the offset of the broken field
@@ -7,6 +7,7 @@ pub data Outcome (X : Type 0) : Type 0 where
   Found : X → ℕ → Outcome X
   Broken : ℕ → Reason → Outcome X
 
+-- what the rest of the input, and the count of bytes left to the unit's end, give
 abbrev pub Reader : Type 0 → Type 0
 Reader X = List ℕ → ℕ → Outcome X
 
@@ -19,6 +20,7 @@ behind (Found a size) next bytes lim = paired a size (next a (drop size bytes) (
 behind (Broken offset reason) next bytes lim = Broken offset reason
 
 infixr 12 ◌and_then◌
+-- one value and then another behind it, which may hang on the first
 abbrev pub ◌and_then◌ : {A B : Type 0} → Reader A → (A → Reader B) → Reader (A × B)
 (R and_then S) bytes lim = behind (R bytes lim) S bytes lim
 
@@ -26,6 +28,7 @@ abbrev pub mapped : {A X : Type 0} → (A → X) → Outcome A → Outcome X
 mapped f (Found a size) = Found (f a) size
 mapped f (Broken offset reason) = Broken offset reason
 
+-- a value made of what is read
 abbrev pub made : {A X : Type 0} → (A → X) → Reader A → Reader X
 made f R bytes lim = mapped f (R bytes lim)
 
@@ -37,6 +40,7 @@ abbrev pub judged_outcome : {A : Type 0} → (A → Option Reason) → Outcome A
 judged_outcome meaning (Found a size) = refused_if (meaning a) a size
 judged_outcome meaning (Broken offset reason) = Broken offset reason
 
+-- what is read is refused at its first byte where its meaning is
 abbrev pub checked : {A : Type 0} → Reader A → (A → Option Reason) → Reader A
 checked R meaning bytes lim = judged_outcome meaning (R bytes lim)
 
@@ -44,6 +48,7 @@ abbrev pub at_front : {A : Type 0} → Outcome A → Outcome A
 at_front (Found a size) = Found a size
 at_front (Broken offset reason) = Broken 0 reason
 
+-- one field: it breaks at its first byte
 abbrev pub one_field : {A : Type 0} → Reader A → Reader A
 one_field R bytes lim = at_front (R bytes lim)
 

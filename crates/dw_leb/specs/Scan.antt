@@ -1,5 +1,5 @@
--- How the code finds a LEB128 number: first its last byte, then its value.
-use Rattle.std.specs.Prelude.{◌≡◌, ℕ, suc, ◌+◌, ◌-◌, ◌*◌, ◌^◌, ◌%◌, ◌<◌, min, Bool, true, false, List, [], ◌∷◌, length, take, drop, position, Option, Some, None, Result, Ok, Err, nat_lt, if◌then◌else◌, ℤ}
+-- How the code finds a LEB128 number: first its last byte, then its value; and how it reads fixed numbers and lengths.
+use Rattle.std.specs.Prelude.{◌≡◌, ℕ, ◌+◌, ◌^◌, ◌%◌, min, Bool, List, [], ◌∷◌, length, take, drop, position, Option, Some, None, Result, Ok, Err, nat_lt, if◌then◌else◌}
 use Rattle.byteorder.specs.Endian.{big_number, little_number, big_bytes, little_bytes}
 use Rattle.dw_leb.specs.Part.{Reason, LebTooBig, PastUnit, Truncated, ReservedLength, LengthTooBig}
 use Rattle.dw_leb.specs.Number.{Order, Little, Big, Format, Dwarf32, Dwarf64, Unsigned, Signed, unmarked, extent, length_size}

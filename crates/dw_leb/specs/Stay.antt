@@ -1,7 +1,7 @@
 -- The laws that follow for a part that a reader decides, and breaks that stay whatever bytes follow.
 use Rattle.std.proofs.Common.{Bool, true, false, ◌≡◌, ◌≢◌, ℕ, ◌+◌, ◌-◌, ◌≤◌, List, ◌++◌, length, drop, Option, refl, sym, ap, ◌∙◌, append_assoc, arith, inl, inr}
 use Rattle.std.proofs.lemmas.List.{drop_at}
-use Rattle.dw_leb.specs.Part.{Reason, Truncated, Breaks, Part, After, Refused, ◌then◌, judged, whole, nothing, refused, absent, optional}
+use Rattle.dw_leb.specs.Part.{Reason, Truncated, Breaks, Part, After, Refused, ◌then◌, judged, whole, nothing, refused, optional}
 use Rattle.dw_leb.specs.Reader.{Reader}
 use Rattle.dw_leb.specs.Decide.{Decides, found, found_value, broken_value, found_broken}
 

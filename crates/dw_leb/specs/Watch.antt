@@ -1,5 +1,5 @@
 -- A watched reader or writer, and the fault that it keeps.
-use Rattle.std.specs.Prelude.{◌≡◌, ◌≤◌, ◌<◌, ℕ, zero, List, ◌∷◌, length, take, Option, Some, None, Result, Ok, Err}
+use Rattle.std.specs.Prelude.{◌≡◌, ◌≤◌, ◌<◌, ℕ, zero, List, ◌∷◌, length, take, Option, Some, None, Result, Ok, Err, ⊤}
 use Rattle.std.specs.Io.KnownBytes.{Appends, Consumes, IsAtEnd, Keeps}
 use Rattle.std.specs.IoError.{error_kind}
 use Rattle.std.specs.declared.io.Error.{Error}
@@ -58,7 +58,7 @@ abbrev pub truncated : Fault
 truncated = record { section = sections.Info; offset = 0; reason = reasons.Truncated }
 
 -- What a read of exactly n bytes answers and takes, by the bytes left before and after. An answer that
--- tells a truncated input took all that was left, which was less; any other error took no byte more.
+-- tells a truncated input took all that was left, which was less; after any other error at most n bytes are taken.
 abbrev pub ReadsExactly : {X : Type 0} → (X → List ℕ) → Option (List ℕ) → Option (List ℕ) → ℕ → Result X ReadError → Type 0
 ReadsExactly view old new n (Ok x) = (length (view x) ≡ n) × Consumes old new (view x)
 ReadsExactly view old new n (Err (reads.Fault f)) = (f ≡ truncated) × ((bytes : List ℕ) × (length bytes < n) × Consumes old new bytes) × IsAtEnd new
@@ -71,7 +71,7 @@ FailsToRead old new (reads.Fault f) = (f ≡ truncated) × Keeps old new × IsAt
 FailsToRead old new reads.NoMemory = ⊥
 FailsToRead old new (reads.Io kind) = Keeps old new
 
--- What a read of all that is left answers and takes.
+-- What a read of all that is left answers and takes. After an error some bytes are taken; the end of the input is none.
 abbrev pub ReadsAll : {X : Type 0} → (X → List ℕ) → Option (List ℕ) → Option (List ℕ) → Result X ReadError → Type 0
 ReadsAll view old new (Ok x) = Consumes old new (view x) × IsAtEnd new
 ReadsAll view old new (Err (reads.Fault f)) = ⊥
@@ -82,3 +82,10 @@ ReadsAll view old new (Err (reads.Io kind)) = (bytes : List ℕ) × Consumes old
 abbrev pub Wrote : {X : Type 0} → Option (List ℕ) → Option (List ℕ) → List ℕ → Result X WriteError → Type 0
 Wrote old new bytes (Ok x) = Appends old new bytes
 Wrote old new bytes (Err e) = AppendsFront old new bytes
+
+-- At NoMemory there was something to keep: of known bytes at least one was taken.
+abbrev pub KeptSome : {X : Type 0} → Option (List ℕ) → Option (List ℕ) → Result X ReadError → Type 0
+KeptSome old new (Ok x) = ⊤
+KeptSome old new (Err (reads.Fault f)) = ⊤
+KeptSome old new (Err reads.NoMemory) = (bytes : List ℕ) × (0 < length bytes) × Consumes old new bytes
+KeptSome old new (Err (reads.Io kind)) = ⊤

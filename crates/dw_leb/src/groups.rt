@@ -9,7 +9,7 @@ use arrayvec::ArrayVec;
 /// The most bytes in which a number is written.
 const MOST: usize = 16;
 
-/// How many bytes the number at the front has.
+/// How many bytes the number at the front of `b` has, where `lim` are left to the unit's end.
 pub(crate) fn width_at(b: &[u8], lim: u64) -> Result<usize, Reason>
     ensures exact { HasWidth b.now result (front_at b.now lim) }
     ensures some { IfOk result (λ w. (1 ≤ w) × (w ≤ 16) × (w ≤ length b.now) × (w ≤ lim)) }
@@ -29,7 +29,7 @@ fn last_at(b: &[u8]) -> Option<usize>
     b.iter().position(|x| *x < 128)
 }
 
-/// Why none of the first 16 of `m` bytes ends a number.
+/// Why no number was found, where none of the first 16 of `m` bytes ends one.
 fn unended(m: u64, lim: u64) -> Reason
     ensures { result ≡ unmarked m lim }
 {
@@ -58,7 +58,7 @@ pub(crate) fn number(b: &[u8]) -> u128
     value
 }
 
-/// How many numbers have this many groups.
+/// How many numbers have this many groups: 128 to the power of `width`.
 pub(crate) fn place(width: u8) -> u128
     requires { width ≤ 16 }
     ensures value { result ≡ 128 ^ width }
@@ -67,7 +67,8 @@ pub(crate) fn place(width: u8) -> u128
     128u128.pow(width as u32)
 }
 
-/// The groups of a number in this many bytes.
+/// The lowest `width` groups of a number, the least significant first, with bit 7 set on all but the
+/// last.
 #[tactic(auto, using(crate::proofs::GroupLemmas::spell_step))]
 pub(crate) fn spell(value: u128, width: u8) -> ArrayVec<u8, 16>
     requires some { 1 ≤ width }

@@ -320,35 +320,31 @@ fn steps_alone(rt: HostRuntime) -> Result<(), Fail> {
 
 #[test]
 fn numbers_of_reasons(rt: HostRuntime) {
-    let reasons = [
-        Reason::Truncated,
-        Reason::PastUnit,
-        Reason::ReservedLength,
-        Reason::BadVersion,
-        Reason::BadUnitType,
-        Reason::BadAddressSize,
-        Reason::LebTooLong,
-        Reason::LebTooBig,
-        Reason::NoRoot,
-        Reason::UnknownCode,
-        Reason::UnknownForm,
-        Reason::BadIndirect,
-        Reason::TooDeep,
-        Reason::SecondRoot,
-        Reason::AbbrevOffset,
-        Reason::BadChildren,
-        Reason::HalfPair,
-        Reason::DuplicateCode,
-        Reason::TooManyPairs,
-        Reason::LengthTooBig,
-        Reason::NotYet,
-    ];
-    let mut number = 0;
-    for reason in reasons {
-        number += 1;
+    for (reason, number) in [
+        (Reason::Truncated, 1),
+        (Reason::PastUnit, 2),
+        (Reason::ReservedLength, 3),
+        (Reason::BadVersion, 4),
+        (Reason::BadUnitType, 5),
+        (Reason::BadAddressSize, 6),
+        (Reason::LebTooLong, 7),
+        (Reason::LebTooBig, 8),
+        (Reason::NoRoot, 9),
+        (Reason::UnknownCode, 10),
+        (Reason::UnknownForm, 11),
+        (Reason::BadIndirect, 12),
+        (Reason::TooDeep, 13),
+        (Reason::SecondRoot, 14),
+        (Reason::AbbrevOffset, 15),
+        (Reason::BadChildren, 16),
+        (Reason::HalfPair, 17),
+        (Reason::DuplicateCode, 18),
+        (Reason::TooManyPairs, 19),
+        (Reason::LengthTooBig, 20),
+        (Reason::NotYet, 21),
+    ] {
         assert_eq!(rt; reason as u8, number, "of {reason:?}");
     }
-    assert_eq!(rt; number, 21);
 }
 
 #[test]

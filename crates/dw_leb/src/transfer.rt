@@ -1,7 +1,7 @@
 //! Whole transfers over watched readers and writers.
 ghost use Rattle.std.specs.Prelude.{◌≡◌, ◌≤◌, ◌<◌, ◌-◌, ℕ, length, None, IfOk, IfErr, OnOk, vec_len, vec_items};
 ghost use Rattle.std.specs.Io.KnownBytes.{Appends, Consumes, IsAtEnd};
-ghost use Rattle.dw_leb.specs.Watch.{inner_of, fault_of, told_by_read, told_by_write, AppendsFront, Wrote, ReadsExactly, ReadsAll, FailsToRead};
+ghost use Rattle.dw_leb.specs.Watch.{inner_of, fault_of, told_by_read, told_by_write, AppendsFront, Wrote, ReadsExactly, ReadsAll, FailsToRead, KeptSome};
 
 use crate::errors::{Fault, ReadError, Reason, Section, WriteError};
 use crate::watch::Watched;
@@ -66,6 +66,7 @@ pub fn read_exactly<R: Read>(
         (R.remaining (inner_of reader.old))
         (R.remaining (inner_of reader.new))
         n result }
+    ensures memory { KeptSome (R.remaining (inner_of reader.old)) (R.remaining (inner_of reader.new)) result }
     ensures fault { fault_of reader.new ≡ told_by_read result }
 {
     let mut bytes = Vec::new(alloc);
@@ -88,6 +89,7 @@ pub fn read_all<R: Read>(alloc: Global, reader: &mut Watched<R>) -> Result<Vec<u
         (R.remaining (inner_of reader.old))
         (R.remaining (inner_of reader.new))
         result }
+    ensures memory { KeptSome (R.remaining (inner_of reader.old)) (R.remaining (inner_of reader.new)) result }
     ensures fault { fault_of reader.new ≡ told_by_read result }
 {
     let mut bytes = Vec::new(alloc);

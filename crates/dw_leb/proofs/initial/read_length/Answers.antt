@@ -1,4 +1,4 @@
-use Rattle.std.proofs.Common.{◌≡◌, ◌∙◌, ap, sym, arith, ℕ, length}
+use Rattle.std.proofs.Common.{◌∙◌, sym, arith}
 use Rattle.dw_leb.specs.Number.{initial_length, length_limit, length_size}
 use Rattle.dw_leb.specs.ReadNumber.{read_length as length_reader}
 use Rattle.dw_leb.specs.DecideNumber.{initial_length_decides, initial-size, length_field}

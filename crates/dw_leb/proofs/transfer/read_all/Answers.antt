@@ -1,4 +1,4 @@
-use Rattle.std.proofs.Common.{◌++◌, take}
+use Rattle.std.proofs.Common.{◌++◌, take, arith, length-append}
 use Rattle.dw_leb.specs.Known.{consumes_more}
 use Rattle.dw_leb.proofs.transfer.read_all.Goals as goal
 
@@ -7,3 +7,11 @@ returns-then-is_err-clause-bytes g c = (
   c.loop-got.bytes.items ++ take c.in-Ok.got c.read.new.buf,
   consumes_more _ _ _ _ _ c.loop-got.invariant.taken c.in-Ok.ensures.bytes.0,
 )
+
+pub returns-then-is_err-clause-memory : goal.returns-then-is_err-clause-memory
+returns-then-is_err-clause-memory g c =
+    let got = take c.in-Ok.got c.read.new.buf in (
+      c.loop-got.bytes.items ++ got,
+      omega (arith, length-append c.loop-got.bytes.items got, c.in-Ok.ensures.bound.1, c.if-got-eq0.false),
+      consumes_more _ _ _ _ _ c.loop-got.invariant.taken c.in-Ok.ensures.bytes.0,
+    )

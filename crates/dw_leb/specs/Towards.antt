@@ -1,0 +1,38 @@
+-- Writing several lists of bytes, one behind the other.
+use Rattle.std.proofs.Common.{◌≡◌, ◌+◌, ◌<◌, ◌≤◌, ℕ, zero, suc, List, [], ◌∷◌, ◌++◌, length, drop, get_or, Option, refl, sym, ap, subst, ◌∙◌, append_assoc, append-nil, arith}
+use Rattle.std.specs.Prelude.{Result, Ok, Err, OnOk}
+use Rattle.std.specs.Io.KnownBytes.{Appends}
+use Rattle.dw_leb.specs.Watch.{AppendsFront}
+use Rattle.dw_leb.specs.Known.{appends_none, appends_more, front_of_both, front_behind, front_whole}
+
+-- Of all the bytes some are written, from a to b, and the rest is not.
+pub record Towards (a b : Option (List ℕ)) (rest all : List ℕ) : Type 0 where
+  pub front : List ℕ
+  pub split : front ++ rest ≡ all
+  pub written : Appends a b front
+
+pub towards_start : (a : Option (List ℕ)) (all : List ℕ) → Towards a a all all
+towards_start a all = record { front = []; split = refl; written = appends_none a }
+
+pub towards_step : (a b c : Option (List ℕ)) (x rest all : List ℕ) → Towards a b (x ++ rest) all → Appends b c x → Towards a c rest all
+towards_step a b c x rest all t h = record { front = t.front ++ x; split = append_assoc t.front x rest ∙ t.split; written = appends_more a b c t.front x t.written h }
+
+pub towards_fails : (a b c : Option (List ℕ)) (x rest all : List ℕ) → Towards a b (x ++ rest) all → AppendsFront b c x → AppendsFront a c all
+towards_fails a b c x rest all t h = subst (λ (s : List ℕ). AppendsFront a c s) t.split (front_behind a b c t.front (x ++ rest) t.written (front_of_both b c x rest h))
+
+pub towards_front : (a b c : Option (List ℕ)) (x all : List ℕ) → Towards a b x all → AppendsFront b c x → AppendsFront a c all
+towards_front a b c x all t h = subst (λ (s : List ℕ). AppendsFront a c s) t.split (front_behind a b c t.front x t.written h)
+
+pub towards_last : (a b c : Option (List ℕ)) (x all : List ℕ) → Towards a b x all → Appends b c x → Appends a c all
+towards_last a b c x all t h = subst (λ (s : List ℕ). Appends a c s) t.split (appends_more a b c t.front x t.written h)
+
+pub towards_end : (a b : Option (List ℕ)) (all : List ℕ) → Towards a b [] all → Appends a b all
+towards_end a b all t = subst (λ (s : List ℕ). Appends a b s) (sym (append-nil t.front) ∙ t.split) t.written
+
+-- the last of them, whose answer is handed on
+pub towards_handed : {X E : Type 0} (r : Result X E) (a b c : Option (List ℕ)) (x all : List ℕ) → Towards a b x all → OnOk r (Appends b c x) → OnOk r (Appends a c all)
+towards_handed (Ok v) a b c x all t h = towards_last a b c x all t h
+towards_handed (Err e) a b c x all t h = tt
+
+pub towards_all : (a b : Option (List ℕ)) (all : List ℕ) → Towards a b [] all → AppendsFront a b all
+towards_all a b all t = front_whole a b all (towards_end a b all t)
