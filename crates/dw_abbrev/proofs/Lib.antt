@@ -1,0 +1,5 @@
+pub mod PairLemmas
+pub mod DeclLemmas
+pub mod TableLemmas
+pub mod SpellLemmas
+pub mod Kept

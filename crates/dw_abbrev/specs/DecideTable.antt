@@ -85,7 +85,7 @@ declaration_there x fits =
     let ends = and_parts _ _ (items_end pair_head is_end pair_rest [] x.1.1.1.0 x.1.1.1.1 fits.1.1) in
     rw (flag_there x.1.1.0 fits.1.0.1, pairs_there x.1.1.1.0, null_is x.1.1.1.1.0 ends.0, null_is x.1.1.1.1.1 ends.1) refl
 
-declarations_back : (ds : List Declaration) → map declaration_from (map declaration_parts ds) ≡ ds
+pub declarations_back : (ds : List Declaration) → map declaration_from (map declaration_parts ds) ≡ ds
 declarations_back [] = refl
 declarations_back (d ∷ ds) = rw (declaration_back d, declarations_back ds) refl
 
@@ -127,7 +127,7 @@ abbrev pub TableSays : List ℕ → ℕ → Outcome Table → Type 0
 TableSays section offset (Found t size) = TableAt section offset t
 TableSays section offset (Broken at reason) = TableBreaks section offset at reason
 
-AreBytes-drop : (n : ℕ) (bytes : List ℕ) → AreBytes bytes → AreBytes (drop n bytes)
+pub AreBytes-drop : (n : ℕ) (bytes : List ℕ) → AreBytes bytes → AreBytes (drop n bytes)
 AreBytes-drop zero bytes h = h
 AreBytes-drop (suc n) [] h = tt
 AreBytes-drop (suc n) (b ∷ bytes) h = AreBytes-drop n bytes h.1

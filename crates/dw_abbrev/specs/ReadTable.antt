@@ -8,14 +8,31 @@ use Rattle.dw_leb.specs.Reader.{Outcome, Found, Broken, Reader, made, checked, r
 use Rattle.dw_leb.specs.ReadNumber.{read_fixed, read_uleb, read_sleb}
 use Rattle.dw_abbrev.specs.Table.{Pair, Declaration, Table, is_null, half, is_end, too_many, bad_flag, Described, repeats, unbounded}
 
+-- a name and a form, after so many pairs of their declaration
+abbrev pub read_names : ℕ → Reader (Unsigned × Unsigned)
+read_names before = checked (checked (read_uleb and_then λ _. read_uleb) half) (too_many before)
+
+abbrev pub read_constant : Unsigned × Unsigned → Reader (Option Signed)
+read_constant x = read_optional (x.1.value == 0x21) read_sleb
+
 abbrev pub read_pairs : Reader (List ((Unsigned × Unsigned) × Option Signed) × (Unsigned × Unsigned))
-read_pairs = read_repeated (λ before. checked (checked (read_uleb and_then λ _. read_uleb) half) (too_many (length before))) is_end (λ x. read_optional (x.1.value == 0x21) read_sleb)
+read_pairs = read_repeated (λ before. read_names (length before)) is_end read_constant
+
+abbrev pub flag_number : Bool → ℕ
+flag_number b = if b then 1 else 0
+
+abbrev pub read_flag : Reader ℕ
+read_flag = checked (read_fixed Little 1) bad_flag
 
 abbrev pub read_described : Reader Described
-read_described = read_uleb and_then λ _. checked (read_fixed Little 1) bad_flag and_then λ _. read_pairs
+read_described = read_uleb and_then λ _. read_flag and_then λ _. read_pairs
+
+-- a code, after other declarations of its table
+abbrev pub read_code : List (Unsigned × Described) → Reader Unsigned
+read_code before = checked read_uleb (repeats before)
 
 abbrev pub read_declarations : Reader (List (Unsigned × Described) × Unsigned)
-read_declarations = read_repeated (λ before. checked read_uleb (repeats before)) is_null (λ _. read_described)
+read_declarations = read_repeated read_code is_null (λ _. read_described)
 
 abbrev pub pair_from : (Unsigned × Unsigned) × Option Signed → Pair
 pair_from x = record { name = x.0.0; form = x.0.1; constant = x.1 }

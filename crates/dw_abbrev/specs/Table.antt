@@ -7,6 +7,7 @@ use Rattle.dw_leb.specs.declared.order.Order.TheVariants.{Little}
 use Rattle.dw_leb.specs.Number.{Unsigned, Signed, fixed, uleb, sleb}
 use Rattle.dw_leb.specs.Repeat.{repeated}
 
+-- an attribute specification; a constant stands with the form implicit_const
 pub record Pair : Type 0 where
   pub name : Unsigned
   pub form : Unsigned
@@ -28,6 +29,10 @@ pub record Table : Type 0 where
 abbrev pub is_null : Unsigned → Bool
 is_null u = u.value == 0
 
+-- a zero of its own width
+abbrev pub IsZero : Unsigned → Type 0
+IsZero u = u.value ≡ 0
+
 -- the most pairs that a declaration has
 abbrev pub most_pairs : ℕ
 most_pairs = 1024
@@ -41,6 +46,14 @@ is_end x = is_null x.0 && is_null x.1
 -- a pair after so many others: the ending pair doesn't count
 abbrev pub too_many : ℕ → Unsigned × Unsigned → Option Reason
 too_many before x = if is_end x || nat_lt before most_pairs then None else Some TooManyPairs
+
+-- why a pair is refused: as half a pair first
+abbrev pub first_of : Option Reason → Option Reason → Option Reason
+first_of (Some reason) later = Some reason
+first_of None later = later
+
+abbrev pub refused_pair : ℕ → Unsigned × Unsigned → Option Reason
+refused_pair before x = first_of (half x) (too_many before x)
 
 -- pairs of name and form, with a constant after form 0x21, until the pair 0, 0
 abbrev pub pairs : Part (List ((Unsigned × Unsigned) × Option Signed) × (Unsigned × Unsigned))
@@ -58,7 +71,7 @@ Described = Unsigned × (ℕ × (List ((Unsigned × Unsigned) × Option Signed) 
 
 abbrev pub is_among : ℕ → List (Unsigned × Described) → Bool
 is_among code [] = false
-is_among code (x ∷ xs) = (x.0.value == code) || is_among code xs
+is_among code (x ∷ xs) = (code == x.0.value) || is_among code xs
 
 abbrev pub repeats : List (Unsigned × Described) → Unsigned → Option Reason
 repeats before code = if is_among code.value before then Some DuplicateCode else None
@@ -75,8 +88,12 @@ pair_parts p = ((p.name, p.form), p.constant)
 abbrev pub zero_of : ℕ → Unsigned
 zero_of width = record { value = 0; width = width }
 
+-- what stands behind the code
+abbrev pub described_of : Declaration → Described
+described_of d = (d.tag, ((if d.children then 1 else 0), (map pair_parts d.pairs, (zero_of d.name_zero, zero_of d.form_zero))))
+
 abbrev pub declaration_parts : Declaration → Unsigned × Described
-declaration_parts d = (d.code, (d.tag, ((if d.children then 1 else 0), (map pair_parts d.pairs, (zero_of d.name_zero, zero_of d.form_zero)))))
+declaration_parts d = (d.code, described_of d)
 
 abbrev pub table_parts : Table → Option (List (Unsigned × Described) × Unsigned)
 table_parts t = Some (map declaration_parts t.declarations, zero_of t.last_zero)
@@ -105,7 +122,7 @@ TableBreaks section offset at reason =
 -- the declaration of a code
 abbrev pub declared_in : List Declaration → ℕ → Option Declaration
 declared_in [] code = None
-declared_in (d ∷ ds) code = if d.code.value == code then Some d else declared_in ds code
+declared_in (d ∷ ds) code = if code == d.code.value then Some d else declared_in ds code
 
 abbrev pub declared : Table → ℕ → Option Declaration
 declared t code = declared_in t.declarations code

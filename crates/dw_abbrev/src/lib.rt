@@ -1,2 +1,16 @@
-//! Abbreviation tables of DWARF 5.
+//! Abbreviation tables of DWARF 5 (section 7.5.3), with every width in which they are written.
 #![tactic(auto)]
+
+mod decl;
+mod fields;
+pub mod laws;
+mod pair;
+mod table;
+mod tables;
+#[cfg(test)]
+mod tests;
+
+pub use decl::Decl;
+pub use pair::Pair;
+pub use table::Table;
+pub use tables::Tables;

@@ -1,0 +1,117 @@
+-- The steps of reading a table.
+use Rattle.std.proofs.Common.{◌≡◌, ◌+◌, ◌-◌, ◌<◌, ◌≤◌, ℕ, Bool, true, false, cond, eqb, List, [], ◌∷◌, ◌++◌, length, drop, Option, Some, None, is_some, refl, sym, ap, subst, ◌∙◌, arith, inl, inr}
+use Rattle.std.specs.Prelude.{map, ◌||◌, if◌then◌else◌}
+use Rattle.std.specs.Map.{lookup}
+use Rattle.std.proofs.lemmas.List.{map-append}
+use Rattle.dw_leb.specs.declared.errors.Reason.{Reason}
+use Rattle.dw_leb.specs.declared.errors.Reason.TheVariants.{DuplicateCode}
+use Rattle.dw_leb.specs.declared.errors.ReadError.{ReadError}
+use Rattle.dw_leb.specs.declared.errors.ReadError.TheVariants as reads
+use Rattle.dw_leb.specs.Number.{Unsigned}
+use Rattle.dw_leb.specs.Reader.{Outcome}
+use Rattle.dw_leb.specs.ReadNumber.{read_uleb}
+use Rattle.dw_leb.specs.Decide.{AreBytes, Says, found, broken}
+use Rattle.dw_abbrev.specs.Table.{Declaration, Table, Described, declared_in, is_among, is_null, repeats, described_of, declaration_parts, table, unbounded, TableAt, TableBreaks}
+use Rattle.dw_abbrev.specs.ReadTable.{read_code, read_described, read_declarations, table_from, read_table}
+use Rattle.dw_abbrev.specs.DecideTable.{declarations_back, AreBytes-drop, table_decides}
+use Rattle.dw_abbrev.specs.TableView.{decls_in, AreKeyed}
+use Rattle.dw_abbrev.specs.Tells.{TellsFault}
+use Rattle.dw_abbrev.specs.Place.{Gives, Fails, fault_at, checked_fails, checked_refuses, checked_passes, made_fails, made_gives, ReadTo, nothing_yet, one_item, items_end, head_fails, body_fails}
+
+-- ---- look-ups by code
+
+pub looked_up : (es : List (ℕ × Declaration)) (c : ℕ) → AreKeyed es → lookup (eqb c) es ≡ declared_in (decls_in es) c
+looked_up [] c h = refl
+looked_up (e ∷ es) c h = ap (λ (k : ℕ). cond (eqb c k) (Some e.1) (lookup (eqb c) es)) h.0 ∙ ap (cond (eqb c e.1.code.value) (Some e.1)) (looked_up es c h.1)
+
+among_step : {X : Type 0} (v : Bool) (x : X) (o : Option X) (b : Bool) → b ≡ is_some o → v || b ≡ is_some (cond v (Some x) o)
+among_step true x o b e = refl
+among_step false x o b e = e
+
+pub among_keys : (es : List (ℕ × Declaration)) (c : ℕ) → AreKeyed es → is_among c (map declaration_parts (decls_in es)) ≡ is_some (lookup (eqb c) es)
+among_keys [] c h = refl
+among_keys (e ∷ es) c h =
+    among_step (eqb c e.1.code.value) e.1 (lookup (eqb c) es) _ (among_keys es c h.1)
+    ∙ ap (λ (k : ℕ). is_some (cond (eqb c k) (Some e.1) (lookup (eqb c) es))) (sym h.0)
+
+pub keyed-push : (es : List (ℕ × Declaration)) (d : Declaration) → AreKeyed es → AreKeyed (es ++ (d.code.value, d) ∷ [])
+keyed-push [] d h = (refl, tt)
+keyed-push (e ∷ es) d h = (h.0, keyed-push es d h.1)
+
+pub decls-push : (es : List (ℕ × Declaration)) (d : Declaration) → decls_in (es ++ (d.code.value, d) ∷ []) ≡ decls_in es ++ d ∷ []
+decls-push [] d = refl
+decls-push (e ∷ es) d = ap (λ ds. e.1 ∷ ds) (decls-push es d)
+
+pub no_value : {X : Type 0} (o : Option X) → false ≡ is_some o → o ≡ None
+no_value None e = refl
+no_value (Some x) e = absurd cc
+
+-- ---- a code
+
+module _ (section : List ℕ) (at : ℕ) (es : List (ℕ × Declaration)) (keyed : AreKeyed es) (code : Unsigned) (next : ℕ) (g : Gives read_uleb section at code next) where
+  pub code_repeats : true ≡ is_some (lookup (eqb code.value) es) → Fails (read_code (map declaration_parts (decls_in es))) section at (fault_at at DuplicateCode)
+  code_repeats e = checked_refuses read_uleb (repeats (map declaration_parts (decls_in es))) section at code next g DuplicateCode
+      (ap (λ (b : Bool). if b then Some DuplicateCode else None) (among_keys es code.value keyed ∙ sym e))
+
+  pub code_passes : false ≡ is_some (lookup (eqb code.value) es) → Gives (read_code (map declaration_parts (decls_in es))) section at code next
+  code_passes e = checked_passes read_uleb (repeats (map declaration_parts (decls_in es))) section at code next g
+      (ap (λ (b : Bool). if b then Some DuplicateCode else None) (among_keys es code.value keyed ∙ sym e))
+
+-- ---- declarations
+
+abbrev pub DeclsTo : List ℕ → ℕ → List (ℕ × Declaration) → ℕ → Type 0
+DeclsTo section start es here = ReadTo read_code is_null (λ _. read_described) section start (map declaration_parts (decls_in es)) here
+
+pub no_decls : (section : List ℕ) (start : ℕ) → start ≤ length section → DeclsTo section start [] start
+no_decls section start within = nothing_yet read_code is_null (λ _. read_described) section start within
+
+module _ (section : List ℕ) (start : ℕ) (es : List (ℕ × Declaration)) (here : ℕ) (r : DeclsTo section start es here) where
+  pub code_fails : (e : ReadError) → Fails (read_code (map declaration_parts (decls_in es))) section here e → Fails read_table section start e
+  unfolding read_table
+  code_fails e h = made_fails table_from read_declarations section start e (head_fails read_code is_null (λ _. read_described) section start (map declaration_parts (decls_in es)) here r e h)
+
+  module _ (code : Unsigned) (behind : ℕ) (g : Gives (read_code (map declaration_parts (decls_in es))) section here code behind) where
+    pub table_there : is_null code ≡ true → Gives read_table section start (record { declarations = decls_in es; last_zero = code.width }) behind
+    unfolding read_table
+    table_there e = subst (λ (ds : List Declaration). Gives read_table section start (record { declarations = ds; last_zero = code.width }) behind) (declarations_back (decls_in es))
+        (made_gives table_from read_declarations section start (map declaration_parts (decls_in es), code) behind
+        (items_end read_code is_null (λ _. read_described) section start (map declaration_parts (decls_in es)) here r code behind g e))
+
+    pub declaration_fails : is_null code ≡ false → (e : ReadError) → Fails read_described section behind e → Fails read_table section start e
+    unfolding read_table
+    declaration_fails f e h = made_fails table_from read_declarations section start e (body_fails read_code is_null (λ _. read_described) section start (map declaration_parts (decls_in es)) here r code behind g f e h)
+
+    pub one_declaration : is_null code ≡ false → here < behind → (d : Declaration) → d.code ≡ code → (next : ℕ) → Gives read_described section behind (described_of d) next
+        → DeclsTo section start (es ++ (d.code.value, d) ∷ []) next
+    one_declaration f lt d same next h =
+        let e : map declaration_parts (decls_in (es ++ (d.code.value, d) ∷ [])) ≡ map declaration_parts (decls_in es) ++ (d.code, described_of d) ∷ [] =
+        ap (map declaration_parts) (decls-push es d) ∙ map-append declaration_parts (decls_in es) (d ∷ []) in
+        subst (λ (xs : List (Unsigned × Described)). ReadTo read_code is_null (λ _. read_described) section start xs next) (sym e)
+        (subst (λ (u : Unsigned). ReadTo read_code is_null (λ _. read_described) section start (map declaration_parts (decls_in es) ++ (u, described_of d) ∷ []) next) (sym same)
+        (one_item read_code is_null (λ _. read_described) section start (map declaration_parts (decls_in es)) here r code behind g lt f (described_of d) next h))
+
+-- ---- a table
+
+module _ (section : List ℕ) (at : ℕ) (fit : AreBytes section) where
+  abbrev lim : ℕ
+  lim = unbounded section
+
+  said : Says table (drop at section) lim (read_table (drop at section) lim)
+  said = table_decides.says (drop at section) lim (AreBytes-drop at section fit)
+
+  pub table_fits : (t : Table) (next : ℕ) → Gives read_table section at t next → table.Fits t
+  table_fits t next g =
+      let h : Says table (drop at section) lim (found t (next - at)) = subst (λ (o : Outcome Table). Says table (drop at section) lim o) (g.reads lim (omega arith)) said in
+      h.fits
+
+  pub table_at : at < length section → (t : Table) (next : ℕ) → Gives read_table section at t next → TableAt section at t
+  table_at lt t next g =
+      let h : Says table (drop at section) lim (found t (next - at)) = subst (λ (o : Outcome Table). Says table (drop at section) lim o) (g.reads lim (omega arith)) said in
+      record { inside = lt; fits = h.fits; rest = h.rest; split = h.split }
+
+  pub table_tells : at < length section → (e : ReadError) → Fails read_table section at e → TellsFault section at e
+  table_tells lt (reads.Fault f) g =
+      let h : Says table (drop at section) lim (broken Table (f.offset - at) f.reason) = subst (λ (o : Outcome Table). Says table (drop at section) lim o) (g.reads lim (omega arith)) said in
+      (g.in_table, inr (lt, (f.offset - at, omega (arith, g.forward), h)))
+  table_tells lt reads.NoMemory g = tt
+  table_tells lt (reads.Io kind) g = absurd g

@@ -1,0 +1,19 @@
+use Rattle.std.proofs.Common.{◌≤◌, ◌-◌, length}
+use Rattle.std.specs.Prelude.{map}
+use Rattle.dw_abbrev.specs.Table.{is_null, declaration_parts}
+use Rattle.dw_abbrev.specs.TableView.{decls_in, AreKeyed}
+use Rattle.dw_abbrev.specs.ReadTable.{read_code, read_described}
+use Rattle.dw_abbrev.specs.Place.{ReadTo}
+use Rattle.dw_abbrev.proofs.table.Table.scan.Given as goal
+
+-- the declarations up to here are read
+abbrev pub invariant-loop-decls : goal.invariant-loop-decls
+invariant-loop-decls l =
+    record {
+      read : ReadTo read_code is_null (λ _. read_described) l.section l.at (map declaration_parts (decls_in l.decls.entries)) l.here;
+      keyed : AreKeyed l.decls.entries;
+      within : l.here ≤ length l.section;
+    }
+
+abbrev pub decreases-loop-decls : goal.decreases-loop-decls
+decreases-loop-decls l = length l.section - l.here

@@ -1,0 +1,14 @@
+-- Pairs of the program as pairs of the grammar.
+use Rattle.std.specs.Prelude.{List, Option, map, option_map}
+use Rattle.dw_leb.specs.Number.{Unsigned, Signed}
+use Rattle.dw_leb.specs.View.{uleb_of, sleb_of}
+use Rattle.dw_abbrev.specs.Table.{Pair as ThePair, pair_parts}
+use Rattle.dw_abbrev.specs.declared.pair.Pair.{Pair}
+use Rattle.dw_abbrev.specs.declared.pair.Pairs.{Pairs}
+
+abbrev pub pair_of : Pair → ThePair
+pair_of p = record { name = uleb_of p.name; form = uleb_of p.form; constant = option_map sleb_of p.constant }
+
+-- pairs that are read, as the plain reader sees them
+abbrev pub pairs_of : Pairs → List ((Unsigned × Unsigned) × Option Signed) × (Unsigned × Unsigned)
+pairs_of p = (map pair_parts (map pair_of p.list.items), (uleb_of p.name_zero, uleb_of p.form_zero))

@@ -1,0 +1,121 @@
+//! Abbreviation declarations (section 7.5.3).
+ghost use Rattle.std.specs.Prelude.{◌≡◌, ◌<◌, ◌≤◌, length, None, IfOk, IfErr, OnOk, map};
+ghost use Rattle.std.specs.Io.KnownBytes.{Appends};
+ghost use Rattle.dw_leb.specs.View.{uleb_of};
+ghost use Rattle.dw_leb.specs.Watch.{inner_of, fault_of, told_by_write, AppendsFront};
+ghost use Rattle.dw_abbrev.specs.Spelling.{declaration_bytes};
+ghost use Rattle.dw_abbrev.specs.Table.{described_of};
+ghost use Rattle.dw_abbrev.specs.ReadTable.{read_described};
+ghost use Rattle.dw_abbrev.specs.PairView.{pair_of};
+ghost use Rattle.dw_abbrev.specs.Place.{Gives, Fails};
+
+use crate::fields::{flag_at, uleb_at, write_flag, write_uleb};
+use crate::pair::{Pair, pairs_at, write_pairs};
+use dw_leb::{ReadError, Uleb, Watched, WriteError};
+use std::alloc::Global;
+use std::io::Write;
+use std::marker::Model;
+
+/// An abbreviation declaration: what the entries of a code have in common.
+#[derive(Debug, Drop)]
+pub struct Decl {
+    code: Uleb,
+    tag: Uleb,
+    children: bool,
+    pairs: Vec<Pair>,
+    name_zero: Uleb,
+    form_zero: Uleb,
+}
+
+impl Model for Decl {
+    ghost use Rattle.dw_abbrev.specs.Table.{Declaration, IsZero};
+
+    ghost Value = { Declaration };
+
+    ghost use Rattle.std.specs.Prelude.{map};
+    ghost use Rattle.dw_leb.specs.View.{uleb_of};
+    ghost use Rattle.dw_abbrev.specs.PairView.{pair_of};
+
+    ghost view = { λ d. record { code = uleb_of d.code; tag = uleb_of d.tag; children = d.children; pairs = map pair_of d.pairs.items; name_zero = d.name_zero.width; form_zero = d.form_zero.width } };
+
+    ghost invariant = { λ d. IsZero (uleb_of d.name_zero) × IsZero (uleb_of d.form_zero) };
+}
+
+impl Decl {
+    /// The abbreviation code, by which entries name the declaration. It isn't 0.
+    pub fn code(&self) -> Uleb
+        ensures { uleb_of result ≡ self.now.code }
+    {
+        self.code
+    }
+
+    /// The tag of the entries, `DW_TAG_..`.
+    pub fn tag(&self) -> Uleb
+        ensures { uleb_of result ≡ self.now.tag }
+    {
+        self.tag
+    }
+
+    /// Whether the entries have children.
+    pub fn has_children(&self) -> bool
+        ensures { result ≡ self.now.children }
+    {
+        self.children
+    }
+
+    /// The attribute specifications, in the order of the entries' values.
+    pub fn pairs(&self) -> &[Pair]
+        ensures { map pair_of result.now ≡ self.now.pairs }
+    {
+        self.pairs.as_slice()
+    }
+
+    /// The counts of bytes, 1 to 16, in which the two zeros behind the pairs are written.
+    pub fn zeros(&self) -> (u8, u8)
+        ensures { result ≡ (self.now.name_zero, self.now.form_zero) }
+    {
+        (self.name_zero.width, self.form_zero.width)
+    }
+
+    /// Writes the declaration, the two zeros behind its pairs included.
+    pub(crate) fn write<W: Write>(&self, writer: &mut Watched<W>) -> Result<(), WriteError>
+        requires { fault_of writer.old ≡ None }
+        ensures ok { OnOk result (Appends (W.contents (inner_of writer.old)) (W.contents (inner_of writer.new)) (declaration_bytes self.now)) }
+        ensures front { AppendsFront (W.contents (inner_of writer.old)) (W.contents (inner_of writer.new)) (declaration_bytes self.now) }
+        ensures fault { fault_of writer.new ≡ told_by_write result }
+    {
+        write_uleb(writer, self.code)?;
+        write_uleb(writer, self.tag)?;
+        write_flag(writer, self.children)?;
+        write_pairs(writer, self.pairs.as_slice())?;
+        write_uleb(writer, self.name_zero)?;
+        write_uleb(writer, self.form_zero)
+    }
+}
+
+/// The declaration of a code: what stands behind the code, at `at`, and where what follows begins.
+pub(crate) fn decl_at(
+    alloc: Global,
+    section: &[u8],
+    at: usize,
+    code: Uleb,
+) -> Result<(Decl, usize), ReadError>
+    requires { at ≤ length section.now }
+    ensures ok { IfOk result (λ x. Gives read_described section.now at (described_of x.0) x.1) }
+    ensures code { IfOk result (λ x. x.0.code ≡ uleb_of code) }
+    ensures forward { IfOk result (λ x. (at < x.1) × (x.1 ≤ length section.now)) }
+    ensures err { IfErr result (λ e. Fails read_described section.now at e) }
+{
+    let (tag, behind_tag) = uleb_at(section, at)?;
+    let (children, behind_flag) = flag_at(section, behind_tag)?;
+    let (pairs, next) = pairs_at(alloc, section, behind_flag)?;
+    let decl = Decl {
+        code,
+        tag,
+        children,
+        pairs: pairs.list,
+        name_zero: pairs.name_zero,
+        form_zero: pairs.form_zero,
+    };
+    Ok((decl, next))
+}

@@ -1,0 +1,99 @@
+//! The fields of tables, each read at its offset from the first byte of `.debug_abbrev`, and
+//! written. Only the section's end bounds a table.
+ghost use Rattle.std.specs.Prelude.{◌≡◌, ◌<◌, ◌≤◌, length, None, IfOk, IfErr, OnOk};
+ghost use Rattle.std.specs.Io.KnownBytes.{Appends};
+ghost use Rattle.dw_leb.specs.Number.{uleb, sleb};
+ghost use Rattle.dw_leb.specs.View.{uleb_of, sleb_of};
+ghost use Rattle.dw_leb.specs.Watch.{inner_of, fault_of, told_by_write, AppendsFront};
+ghost use Rattle.dw_abbrev.specs.Spelling.{flag_bytes};
+ghost use Rattle.dw_leb.specs.ReadNumber.{read_uleb, read_sleb};
+ghost use Rattle.dw_abbrev.specs.ReadTable.{read_flag, flag_number};
+ghost use Rattle.dw_abbrev.specs.Place.{Gives, Fails, fault_at};
+
+use dw_leb::{
+    Fault, Order, ReadError, Reason, Section, Sleb, Uleb, Watched, WriteError, read_fixed,
+    write_all,
+};
+use std::io::Write;
+
+/// The fault of the field at `at`.
+pub(crate) fn fault(at: usize, reason: Reason) -> ReadError
+    ensures { result ≡ fault_at at reason }
+{
+    ReadError::Fault(Fault {
+        section: Section::Abbrev,
+        offset: at as u64,
+        reason,
+    })
+}
+
+/// The unsigned number at `at`, and where what follows begins.
+pub(crate) fn uleb_at(section: &[u8], at: usize) -> Result<(Uleb, usize), ReadError>
+    requires { at ≤ length section.now }
+    ensures ok { IfOk result (λ x. Gives read_uleb section.now at (uleb_of x.0) x.1) }
+    ensures forward { IfOk result (λ x. (at < x.1) × (x.1 ≤ length section.now)) }
+    ensures err { IfErr result (λ e. Fails read_uleb section.now at e) }
+{
+    match Uleb::read(&section[at..], u64::MAX) {
+        Ok(n) => Ok((n, at + n.width as usize)),
+        Err(reason) => Err(fault(at, reason)),
+    }
+}
+
+/// The signed number at `at`, and where what follows begins.
+pub(crate) fn sleb_at(section: &[u8], at: usize) -> Result<(Sleb, usize), ReadError>
+    requires { at ≤ length section.now }
+    ensures ok { IfOk result (λ x. Gives read_sleb section.now at (sleb_of x.0) x.1) }
+    ensures forward { IfOk result (λ x. (at < x.1) × (x.1 ≤ length section.now)) }
+    ensures err { IfErr result (λ e. Fails read_sleb section.now at e) }
+{
+    match Sleb::read(&section[at..], u64::MAX) {
+        Ok(n) => Ok((n, at + n.width as usize)),
+        Err(reason) => Err(fault(at, reason)),
+    }
+}
+
+/// The children flag at `at`, and where what follows begins.
+pub(crate) fn flag_at(section: &[u8], at: usize) -> Result<(bool, usize), ReadError>
+    requires { at ≤ length section.now }
+    ensures ok { IfOk result (λ x. Gives read_flag section.now at (flag_number x.0) x.1) }
+    ensures forward { IfOk result (λ x. (at < x.1) × (x.1 ≤ length section.now)) }
+    ensures err { IfErr result (λ e. Fails read_flag section.now at e) }
+{
+    match read_fixed(Order::Little, 1, &section[at..], u64::MAX) {
+        Ok(0) => Ok((false, at + 1)),
+        Ok(1) => Ok((true, at + 1)),
+        Ok(_) => Err(fault(at, Reason::BadChildren)),
+        Err(reason) => Err(fault(at, reason)),
+    }
+}
+
+/// Writes an unsigned number.
+pub(crate) fn write_uleb<W: Write>(writer: &mut Watched<W>, n: Uleb) -> Result<(), WriteError>
+    requires { fault_of writer.old ≡ None }
+    ensures ok { OnOk result (Appends (W.contents (inner_of writer.old)) (W.contents (inner_of writer.new)) (uleb.spell (uleb_of n))) }
+    ensures front { AppendsFront (W.contents (inner_of writer.old)) (W.contents (inner_of writer.new)) (uleb.spell (uleb_of n)) }
+    ensures fault { fault_of writer.new ≡ told_by_write result }
+{
+    write_all(writer, n.bytes().as_slice())
+}
+
+/// Writes a signed number.
+pub(crate) fn write_sleb<W: Write>(writer: &mut Watched<W>, n: Sleb) -> Result<(), WriteError>
+    requires { fault_of writer.old ≡ None }
+    ensures ok { OnOk result (Appends (W.contents (inner_of writer.old)) (W.contents (inner_of writer.new)) (sleb.spell (sleb_of n))) }
+    ensures front { AppendsFront (W.contents (inner_of writer.old)) (W.contents (inner_of writer.new)) (sleb.spell (sleb_of n)) }
+    ensures fault { fault_of writer.new ≡ told_by_write result }
+{
+    write_all(writer, n.bytes().as_slice())
+}
+
+/// Writes a children flag.
+pub(crate) fn write_flag<W: Write>(writer: &mut Watched<W>, flag: bool) -> Result<(), WriteError>
+    requires { fault_of writer.old ≡ None }
+    ensures ok { OnOk result (Appends (W.contents (inner_of writer.old)) (W.contents (inner_of writer.new)) (flag_bytes flag)) }
+    ensures front { AppendsFront (W.contents (inner_of writer.old)) (W.contents (inner_of writer.new)) (flag_bytes flag) }
+    ensures fault { fault_of writer.new ≡ told_by_write result }
+{
+    write_all(writer, &[flag as u8])
+}

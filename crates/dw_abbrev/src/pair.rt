@@ -1,0 +1,162 @@
+//! Attribute specifications: the pairs of name and form (section 7.5.3).
+ghost use Rattle.std.specs.Prelude.{◌≡◌, ◌<◌, ◌≤◌, length, None, IfOk, IfErr, OnOk, map, option_map};
+ghost use Rattle.std.specs.Io.KnownBytes.{Appends};
+ghost use Rattle.dw_leb.specs.View.{uleb_of, sleb_of};
+ghost use Rattle.dw_leb.specs.Watch.{inner_of, fault_of, told_by_write, AppendsFront};
+ghost use Rattle.dw_abbrev.specs.Spelling.{pair_bytes, pairs_bytes};
+ghost use Rattle.dw_abbrev.specs.Table.{is_end as ends_pairs, refused_pair};
+ghost use Rattle.dw_abbrev.specs.ReadTable.{read_names, read_constant, read_pairs};
+ghost use Rattle.dw_abbrev.specs.PairView.{pair_of, pairs_of};
+ghost use Rattle.dw_abbrev.specs.Place.{Gives, Fails};
+
+use crate::fields::{fault, sleb_at, uleb_at, write_sleb, write_uleb};
+use dw_leb::{ReadError, Reason, Sleb, Uleb, Watched, WriteError};
+use std::alloc::Global;
+use std::io::Write;
+
+/// The form of attributes whose value stands in the declaration, `DW_FORM_implicit_const`.
+const IMPLICIT_CONST: u64 = 0x21;
+
+/// The most pairs of a declaration.
+const MOST_PAIRS: usize = 1024;
+
+/// An attribute specification: the name of an attribute and the form of its values.
+#[derive(Clone, Copy, Debug, PartialEq, Eq)]
+pub struct Pair {
+    /// The attribute's name, `DW_AT_..`.
+    pub name: Uleb,
+    /// The form of its values, `DW_FORM_..`.
+    pub form: Uleb,
+    /// The value that a pair of the form `DW_FORM_implicit_const` has itself.
+    pub constant: Option<Sleb>,
+}
+
+/// The pairs of a declaration, and the two zeros that end them.
+#[derive(Drop)]
+pub(crate) struct Pairs {
+    pub(crate) list: Vec<Pair>,
+    pub(crate) name_zero: Uleb,
+    pub(crate) form_zero: Uleb,
+}
+
+/// Whether a name and a form end the pairs.
+fn is_end(name: Uleb, form: Uleb) -> bool
+    ensures { result ≡ ends_pairs (uleb_of name, uleb_of form) }
+{
+    name.value == 0 && form.value == 0
+}
+
+/// Why a name and a form are refused, after `before` pairs of their declaration.
+fn refusal(name: Uleb, form: Uleb, before: usize) -> Option<Reason>
+    ensures { result ≡ refused_pair before (uleb_of name, uleb_of form) }
+{
+    if (name.value == 0) != (form.value == 0) {
+        return Some(Reason::HalfPair);
+    }
+    if before >= MOST_PAIRS && !is_end(name, form) {
+        return Some(Reason::TooManyPairs);
+    }
+    None
+}
+
+/// The name and the form at `at`, and where what follows begins.
+fn names_at(section: &[u8], at: usize, before: usize) -> Result<((Uleb, Uleb), usize), ReadError>
+    requires { at ≤ length section.now }
+    ensures ok { IfOk result (λ x. Gives (read_names before) section.now at (uleb_of x.0.0, uleb_of x.0.1) x.1) }
+    ensures forward { IfOk result (λ x. (at < x.1) × (x.1 ≤ length section.now)) }
+    ensures err { IfErr result (λ e. Fails (read_names before) section.now at e) }
+{
+    let (name, form_at) = uleb_at(section, at)?;
+    let (form, next) = uleb_at(section, form_at)?;
+    match refusal(name, form, before) {
+        Some(reason) => Err(fault(at, reason)),
+        None => Ok(((name, form), next)),
+    }
+}
+
+/// The constant that a pair of this form has, at `at`, and where what follows begins.
+fn constant_at(
+    section: &[u8],
+    at: usize,
+    name: Uleb,
+    form: Uleb,
+) -> Result<(Option<Sleb>, usize), ReadError>
+    requires { at ≤ length section.now }
+    ensures ok { IfOk result (λ x. Gives (read_constant (uleb_of name, uleb_of form)) section.now at (option_map sleb_of x.0) x.1) }
+    ensures forward { IfOk result (λ x. (at ≤ x.1) × (x.1 ≤ length section.now)) }
+    ensures err { IfErr result (λ e. Fails (read_constant (uleb_of name, uleb_of form)) section.now at e) }
+{
+    if form.value != IMPLICIT_CONST {
+        return Ok((None, at));
+    }
+    let (constant, next) = sleb_at(section, at)?;
+    Ok((Some(constant), next))
+}
+
+/// The pairs at `at`, and where what follows begins. The vector grows by one pair at a time, each
+/// judged before.
+pub(crate) fn pairs_at(
+    alloc: Global,
+    section: &[u8],
+    at: usize,
+) -> Result<(Pairs, usize), ReadError>
+    requires { at ≤ length section.now }
+    ensures ok { IfOk result (λ x. Gives read_pairs section.now at (pairs_of x.0) x.1) }
+    ensures forward { IfOk result (λ x. (at < x.1) × (x.1 ≤ length section.now)) }
+    ensures zeros { IfOk result (λ x. (x.0.name_zero.value ≡ 0) × (x.0.form_zero.value ≡ 0)) }
+    ensures err { IfErr result (λ e. Fails read_pairs section.now at e) }
+{
+    let mut list = Vec::new(alloc);
+    let mut here = at;
+    loop {
+        let ((name, form), behind) = names_at(section, here, list.len())?;
+        if is_end(name, form) {
+            let pairs = Pairs {
+                list,
+                name_zero: name,
+                form_zero: form,
+            };
+            return Ok((pairs, behind));
+        }
+        let (constant, next) = constant_at(section, behind, name, form)?;
+        let pair = Pair {
+            name,
+            form,
+            constant,
+        };
+        if list.push(pair).is_err() {
+            return Err(ReadError::NoMemory);
+        }
+        here = next;
+    }
+}
+
+/// Writes pairs, one behind the other.
+pub(crate) fn write_pairs<W: Write>(
+    writer: &mut Watched<W>,
+    pairs: &[Pair],
+) -> Result<(), WriteError>
+    requires { fault_of writer.old ≡ None }
+    ensures ok { OnOk result (Appends (W.contents (inner_of writer.old)) (W.contents (inner_of writer.new)) (pairs_bytes (map pair_of pairs.now))) }
+    ensures front { AppendsFront (W.contents (inner_of writer.old)) (W.contents (inner_of writer.new)) (pairs_bytes (map pair_of pairs.now)) }
+    ensures fault { fault_of writer.new ≡ told_by_write result }
+{
+    for pair in pairs {
+        write_pair(writer, *pair)?;
+    }
+    Ok(())
+}
+
+fn write_pair<W: Write>(writer: &mut Watched<W>, pair: Pair) -> Result<(), WriteError>
+    requires { fault_of writer.old ≡ None }
+    ensures ok { OnOk result (Appends (W.contents (inner_of writer.old)) (W.contents (inner_of writer.new)) (pair_bytes (pair_of pair))) }
+    ensures front { AppendsFront (W.contents (inner_of writer.old)) (W.contents (inner_of writer.new)) (pair_bytes (pair_of pair)) }
+    ensures fault { fault_of writer.new ≡ told_by_write result }
+{
+    write_uleb(writer, pair.name)?;
+    write_uleb(writer, pair.form)?;
+    match pair.constant {
+        Some(constant) => write_sleb(writer, constant),
+        None => Ok(()),
+    }
+}

@@ -1,0 +1,155 @@
+//! Abbreviation tables (section 7.5.3).
+ghost use Rattle.std.specs.Prelude.{◌≡◌, ◌<◌, ◌≤◌, ◌∷◌, ◌++◌, [], length, map, nat_eq, None, IfOk, IfErr, OnOk, option_copied};
+ghost use Rattle.indexmap.specs.IndexMap.{get};
+ghost use Rattle.std.specs.Io.KnownBytes.{Appends};
+ghost use Rattle.dw_leb.specs.View.{uleb_of};
+ghost use Rattle.dw_leb.specs.Watch.{inner_of, fault_of, told_by_write, AppendsFront};
+ghost use Rattle.dw_abbrev.specs.Spelling.{declarations_bytes};
+ghost use Rattle.dw_abbrev.specs.Table.{table as part, declared, declaration_parts, TableAt};
+ghost use Rattle.dw_abbrev.specs.TableView.{decls_in, AreKeyed};
+ghost use Rattle.dw_abbrev.specs.Tells.{IsScan, TellsFault, refused_memory};
+ghost use Rattle.dw_abbrev.specs.Place.{Gives, Fails};
+ghost use Rattle.dw_abbrev.specs.ReadTable.{read_code, read_table};
+
+use crate::decl::{Decl, decl_at};
+use crate::fields::{fault, uleb_at, write_uleb};
+use dw_leb::{Fault, ReadError, Reason, Section, Uleb, Watched, WriteError};
+use indexmap::IndexMap;
+use std::alloc::Global;
+use std::io::Write;
+use std::marker::Model;
+
+/// An abbreviation table: declarations of distinct codes, and the zero that ends them.
+#[derive(Drop)]
+pub struct Table {
+    decls: IndexMap<u64, Decl>,
+    last_zero: Uleb,
+}
+
+impl Model for Table {
+    ghost use Rattle.dw_abbrev.specs.Table.{Table};
+
+    ghost Value = { Table };
+
+    ghost use Rattle.dw_leb.specs.View.{uleb_of};
+    ghost use Rattle.dw_abbrev.specs.Table.{table, IsZero};
+    ghost use Rattle.dw_abbrev.specs.TableView.{decls_in, AreKeyed};
+
+    ghost view = { λ t. record { declarations = decls_in t.decls.entries; last_zero = t.last_zero.width } };
+
+    ghost invariant = { λ t. record { keyed : AreKeyed t.decls.entries; zero : IsZero (uleb_of t.last_zero); fits : table.Fits (record { declarations = decls_in t.decls.entries; last_zero = t.last_zero.width }) } };
+}
+
+impl Table {
+    /// The table that begins at `offset` of the section `.debug_abbrev`, with every width in which
+    /// its numbers are written. What stands behind the table isn't looked at.
+    ///
+    /// The first broken field is the fault, with its offset from the section's first byte: an
+    /// `offset` at or past the section's end (`AbbrevOffset`), a number that the section's end cuts
+    /// (`Truncated`), that has no last byte among sixteen (`LebTooLong`) or that doesn't fit 64 bits
+    /// (`LebTooBig`), a code that was declared before (`DuplicateCode`), a children flag other than
+    /// 0 and 1 (`BadChildren`), a pair of which one number is 0 (`HalfPair`) and one past 1,024
+    /// others (`TooManyPairs`), both at the pair's name. `NoMemory` is answered where a growth by
+    /// one pair or one declaration was refused. Never `Io`.
+    pub fn read(alloc: Global, section: &[u8], offset: u64) -> Result<Table, ReadError>
+        ensures found { IfOk result (λ t. TableAt section.now offset t) }
+        ensures broken { IfErr result (λ e. TellsFault section.now offset e) }
+    {
+        if offset >= section.len() as u64 {
+            return Err(ReadError::Fault(Fault {
+                section: Section::Abbrev,
+                offset,
+                reason: Reason::AbbrevOffset,
+            }));
+        }
+        Table::scan(alloc, section, offset as usize)
+    }
+
+    fn scan(alloc: Global, section: &[u8], at: usize) -> Result<Table, ReadError>
+        requires { at ≤ length section.now }
+        ensures ok { IfOk result (λ t. IsScan section.now at t) }
+        ensures err { IfErr result (λ e. Fails read_table section.now at e) }
+    {
+        let mut decls = IndexMap::new(alloc);
+        let mut here = at;
+        loop {
+            let (code, behind) = code_at(&decls, section, here)?;
+            if code.value == 0 {
+                return Ok(Table {
+                    decls,
+                    last_zero: code,
+                });
+            }
+            let (decl, next) = decl_at(alloc, section, behind, code)?;
+            keep(&mut decls, decl)?;
+            here = next;
+        }
+    }
+
+    /// The declaration of a code.
+    pub fn get(&self, code: u64) -> Option<&Decl>
+        ensures { option_copied result ≡ declared self.now code }
+    {
+        self.decls.get(&code)
+    }
+
+    /// Writes the table, each number in its own width. It takes no memory. After an error a
+    /// beginning of the table was written.
+    pub fn write<W: Write>(&self, writer: &mut Watched<W>) -> Result<(), WriteError>
+        requires { fault_of writer.old ≡ None }
+        ensures ok { OnOk result (Appends (W.contents (inner_of writer.old)) (W.contents (inner_of writer.new)) (part.spell self.now)) }
+        ensures front { AppendsFront (W.contents (inner_of writer.old)) (W.contents (inner_of writer.new)) (part.spell self.now) }
+        ensures fault { fault_of writer.new ≡ told_by_write result }
+    {
+        write_decls(writer, &self.decls)?;
+        write_uleb(writer, self.last_zero)
+    }
+}
+
+/// The code at `at`, behind these declarations, and where what follows begins.
+fn code_at(
+    decls: &IndexMap<u64, Decl>,
+    section: &[u8],
+    at: usize,
+) -> Result<(Uleb, usize), ReadError>
+    requires within { at ≤ length section.now }
+    requires keyed { AreKeyed decls.now.entries }
+    ensures ok { IfOk result (λ x. Gives (read_code (map declaration_parts (decls_in decls.now.entries))) section.now at (uleb_of x.0) x.1) }
+    ensures forward { IfOk result (λ x. (at < x.1) × (x.1 ≤ length section.now)) }
+    ensures fresh { IfOk result (λ x. get nat_eq decls.now x.0.value ≡ None) }
+    ensures err { IfErr result (λ e. Fails (read_code (map declaration_parts (decls_in decls.now.entries))) section.now at e) }
+{
+    let (code, next) = uleb_at(section, at)?;
+    if decls.contains_key(&code.value) {
+        return Err(fault(at, Reason::DuplicateCode));
+    }
+    Ok((code, next))
+}
+
+/// Keeps a declaration of a new code, behind the others.
+fn keep(decls: &mut IndexMap<u64, Decl>, decl: Decl) -> Result<(), ReadError>
+    requires { get nat_eq decls.old decl.code.value ≡ None }
+    ensures ok { OnOk result (decls.new.entries ≡ decls.old.entries ++ (decl.code.value, decl) ∷ []) }
+    ensures err { IfErr result (λ e. e ≡ refused_memory) }
+{
+    match decls.insert(decl.code().value, decl) {
+        Ok(_) => Ok(()),
+        Err(_) => Err(ReadError::NoMemory),
+    }
+}
+
+/// Writes declarations, one behind the other.
+fn write_decls<W: Write>(
+    writer: &mut Watched<W>,
+    decls: &IndexMap<u64, Decl>,
+) -> Result<(), WriteError>
+    requires { fault_of writer.old ≡ None }
+    ensures ok { OnOk result (Appends (W.contents (inner_of writer.old)) (W.contents (inner_of writer.new)) (declarations_bytes (decls_in decls.now.entries))) }
+    ensures front { AppendsFront (W.contents (inner_of writer.old)) (W.contents (inner_of writer.new)) (declarations_bytes (decls_in decls.now.entries)) }
+    ensures fault { fault_of writer.new ≡ told_by_write result }
+{
+    for decl in decls.values() {
+        decl.write(writer)?;
+    }
+    Ok(())
+}

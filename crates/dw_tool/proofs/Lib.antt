@@ -1,0 +1,4 @@
+pub mod Appending
+pub mod Filled
+pub mod Helpless
+pub mod Subcommands

@@ -1,0 +1,9 @@
+//! The program over debugging entries: its command line, and the texts that it writes.
+#![tactic(auto)]
+
+pub mod command;
+pub mod line;
+pub mod names;
+#[cfg(test)]
+mod tests;
+pub mod text;

@@ -1,0 +1,186 @@
+use crate::command::{Command, Line, LineError};
+use crate::line::line;
+use crate::names::{attribute_name, tag_name};
+use crate::text::{
+    append, push_attribute, push_block, push_decimal, push_hexadecimal, push_quoted, push_signed,
+    push_tag,
+};
+use dw_leb::Order;
+use std::alloc::Global;
+use std::test::Fail;
+
+#[test]
+fn names_tags_and_attributes(rt: HostRuntime) {
+    for (tag, name) in [
+        (0x01, Some("array_type")),
+        (0x03, None),
+        (0x11, Some("compile_unit")),
+        (0x2e, Some("subprogram")),
+        (0x4a, Some("skeleton_unit")),
+        (0x4b, None),
+    ] {
+        assert!(rt; tag_name(tag) == name);
+    }
+    for (attribute, name) in [
+        (0x01, Some("sibling")),
+        (0x03, Some("name")),
+        (0x04, None),
+        (0x72, Some("str_offsets_base")),
+        (0x8c, Some("loclists_base")),
+        (0x2007, None),
+    ] {
+        assert!(rt; attribute_name(attribute) == name);
+    }
+}
+
+#[test]
+fn spells_numbers(rt: HostRuntime) -> Result<(), Fail> {
+    let mut out = Vec::new(rt.alloc());
+    push_hexadecimal(&mut out, 0x1122334455667788)?;
+    append(&mut out, b" ")?;
+    push_hexadecimal(&mut out, 0)?;
+    append(&mut out, b" ")?;
+    push_hexadecimal(&mut out, u128::MAX)?;
+    append(&mut out, b" ")?;
+    push_decimal(&mut out, 18446744073709551615)?;
+    append(&mut out, b" ")?;
+    push_signed(&mut out, -1)?;
+    append(&mut out, b" ")?;
+    push_signed(&mut out, -9223372036854775808)?;
+    assert!(rt;
+        out.as_slice()
+            == "0x1122334455667788 0x0 0xffffffffffffffffffffffffffffffff 18446744073709551615 -1 -9223372036854775808".as_bytes()
+    );
+    Ok(())
+}
+
+#[test]
+fn spells_names(rt: HostRuntime) -> Result<(), Fail> {
+    let mut out = Vec::new(rt.alloc());
+    push_tag(&mut out, 0x11)?;
+    append(&mut out, b" ")?;
+    push_tag(&mut out, 0x4109)?;
+    append(&mut out, b" ")?;
+    push_attribute(&mut out, 0x03)?;
+    append(&mut out, b" ")?;
+    push_attribute(&mut out, 0x2117)?;
+    assert!(rt;
+        out.as_slice() == "DW_TAG_compile_unit DW_TAG_0x4109 DW_AT_name DW_AT_0x2117".as_bytes()
+    );
+    Ok(())
+}
+
+#[test]
+fn spells_bytes(rt: HostRuntime) -> Result<(), Fail> {
+    let mut out = Vec::new(rt.alloc());
+    push_quoted(&mut out, b"a \"\\~\x7f\x00\xff")?;
+    append(&mut out, b" ")?;
+    push_block(&mut out, b"")?;
+    append(&mut out, b" ")?;
+    push_block(&mut out, b"\x03\xa0\xff")?;
+    assert!(rt; out.as_slice() == "\"a \\\"\\\\~\\x7f\\x00\\xff\" [0] [3] 03a0ff".as_bytes());
+    Ok(())
+}
+
+#[test]
+fn reads_a_line(rt: HostRuntime) {
+    let shown = line(rt.alloc(), &["show", "--info", "a", "--abbrev", "b"]).ok();
+    assert!(rt;
+        shown
+            == Some(Line {
+                command: Command::Show,
+                order: Order::Little,
+                info: "a",
+                abbrev: "b",
+            })
+    );
+    let copied = line(rt.alloc(), &["copy", "--abbrev=b", "--big", "--info=a"]).ok();
+    assert!(rt;
+        copied
+            == Some(Line {
+                command: Command::Copy,
+                order: Order::Big,
+                info: "a",
+                abbrev: "b",
+            })
+    );
+}
+
+#[test]
+fn takes_an_empty_path_and_a_lone_hyphen(rt: HostRuntime) {
+    let taken = line(rt.alloc(), &["show", "--info=", "--abbrev", "-"]).ok();
+    assert!(rt;
+        taken
+            == Some(Line {
+                command: Command::Show,
+                order: Order::Little,
+                info: "",
+                abbrev: "-",
+            })
+    );
+}
+
+// What the program should exit with.
+fn status(outcome: Result<Line<'_>, LineError>) -> i32 {
+    match outcome {
+        Ok(_) => 0,
+        Err(LineError::Parse(error)) => error.exit_code(),
+        Err(LineError::Memory) => 4,
+    }
+}
+
+// The words are a mistake.
+fn is_mistake(alloc: Global, words: &[&str]) -> bool {
+    status(line(alloc, words)) == 2
+}
+
+#[test]
+fn refuses_other_words(rt: HostRuntime) {
+    let alloc = rt.alloc();
+    assert!(rt; is_mistake(alloc, &[]));
+    assert!(rt; is_mistake(alloc, &["--version"]));
+    assert!(rt; is_mistake(alloc, &["sho", "--info", "a", "--abbrev", "b"]));
+    assert!(rt; is_mistake(alloc, &["show"]));
+    assert!(rt; is_mistake(alloc, &["show", "--info", "a"]));
+    assert!(rt; is_mistake(alloc, &["show", "--info", "a", "--abbrev"]));
+    assert!(rt;
+        is_mistake(
+            alloc,
+            &["show", "--info", "a", "--info", "a", "--abbrev", "b"]
+        )
+    );
+    assert!(rt;
+        is_mistake(
+            alloc,
+            &["show", "--info", "a", "--abbrev", "b", "--big", "--big"]
+        )
+    );
+    assert!(rt;
+        is_mistake(
+            alloc,
+            &["show", "--info", "a", "--abbrev", "b", "--big=true"]
+        )
+    );
+    assert!(rt; is_mistake(alloc, &["show", "--inf", "a", "--abbrev", "b"]));
+    assert!(rt; is_mistake(alloc, &["--info", "a", "show", "--abbrev", "b"]));
+    assert!(rt; is_mistake(alloc, &["--big", "show", "--info", "a", "--abbrev", "b"]));
+    assert!(rt; is_mistake(alloc, &["show", "--info", "a", "--abbrev", "b", "word"]));
+    assert!(rt; is_mistake(alloc, &["show", "--info", "a", "--abbrev", "b", "-"]));
+    assert!(rt; is_mistake(alloc, &["help", "word"]));
+}
+
+#[test]
+fn tells_help_from_mistakes(rt: HostRuntime) {
+    let asked: [&[&str]; 5] = [
+        &["--help"],
+        &["-h"],
+        &["copy", "--help"],
+        &["help"],
+        &["help", "show"],
+    ];
+    for words in asked {
+        let outcome = line(rt.alloc(), words);
+        assert!(rt; outcome.is_err());
+        assert!(rt; status(outcome) == 0, "{words:?}");
+    }
+}
