@@ -12,3 +12,4 @@ pub mod Told
 pub mod HeaderFields
 pub mod HeaderLemmas
 pub mod HeadRead
+pub mod Entries

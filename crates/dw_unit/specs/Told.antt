@@ -1,14 +1,22 @@
 -- What a call tells of the plain reader's outcome.
-use Rattle.std.specs.Prelude.{ℕ, List, Result, Ok, Err, IfOk}
+use Rattle.std.specs.Prelude.{◌≡◌, ℕ, List, Result, Ok, Err, IfOk}
 use Rattle.dw_leb.specs.Part.{Part}
 use Rattle.dw_leb.specs.Decide.{Says}
 use Rattle.dw_leb.specs.Reader.{Outcome, Found, Broken}
 use Rattle.dw_unit.specs.declared.bad.Bad.{Bad}
+use Rattle.dw_unit.specs.declared.bad.BodyError.{BodyError}
+use Rattle.dw_unit.specs.declared.bad.BodyError.TheVariants as errors
 
 -- a value that is seen by a view, and its size; or where and why the bytes break
 abbrev pub told : {X Y : Type 0} → (X → Y) → Result (X × ℕ) Bad → Outcome Y
 told view (Ok x) = Found (view x.0) x.1
 told view (Err e) = Broken e.offset e.reason
+
+-- the same of a call that takes memory: where a growth was refused it tells nothing
+abbrev pub Tells : {X Y : Type 0} → (X → Y) → Result (X × ℕ) BodyError → Outcome Y → Type 0
+Tells view (Ok x) o = o ≡ Found (view x.0) x.1
+Tells view (Err (errors.Bad e)) o = o ≡ Broken e.offset e.reason
+Tells view (Err errors.NoMemory) o = Unit {0}
 
 -- what is told of a decided part fits
 pub told_fits : {X Y : Type 0} (view : X → Y) (P : Part Y) (bytes : List ℕ) (lim : ℕ) (r : Result (X × ℕ) Bad) → Says P bytes lim (told view r) → IfOk r (λ x. P.Fits (view x.0))

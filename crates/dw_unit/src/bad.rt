@@ -29,3 +29,12 @@ impl Bad {
         }
     }
 }
+
+/// Why no entries were read.
+#[derive(Clone, Copy, Debug, PartialEq, Eq)]
+pub(crate) enum BodyError {
+    /// The bytes are refused.
+    Bad(Bad),
+    /// A growth was refused.
+    NoMemory,
+}

@@ -6,6 +6,7 @@ mod fields;
 mod head;
 mod header;
 mod kind;
+mod values;
 
 pub use head::read_header;
 pub use header::Header;
