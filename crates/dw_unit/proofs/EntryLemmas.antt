@@ -21,7 +21,9 @@ use Rattle.dw_form.specs.Kept.{content, kept_value, KeptFits, StoredFits, bytes_
 use Rattle.dw_abbrev.specs.Table.{Pair}
 use Rattle.dw_abbrev.specs.PairView.{pair_of}
 use Rattle.dw_abbrev.specs.declared.pair.Pair.{Pair as RustPair}
-use Rattle.dw_unit.specs.ReadUnit.{read_values}
+use Rattle.dw_unit.specs.ReadUnit.{read_values, read_padding}
+use Rattle.dw_unit.specs.Tree.{not_null}
+use Rattle.dw_unit.specs.DecideTree.{padding_step}
 use Rattle.dw_unit.specs.Entries.{put_front, contents, value_part, RefusedAt}
 use Rattle.dw_unit.specs.Told.{Tells}
 use Rattle.dw_unit.specs.declared.bad.BodyError.{BodyError}
@@ -137,3 +139,39 @@ pub value_refused : (k : Ctx) (all : List Pair) (b : List ℕ) (lim : ℕ) (ps :
 value_refused k all b lim ps i p lt e stored pool at read view (errors.Bad bad) h =
     value_breaks k all b lim ps i p lt e stored pool at read bad.reason h.1 ∙ ap (λ (n : ℕ). Broken n bad.reason) (sym h.0)
 value_refused k all b lim ps i p lt e stored pool at read view errors.NoMemory h = tt
+
+-- ---- padding
+
+put_width : (ws : List ℕ) (n : ℕ) (u : Unsigned) (m : ℕ) (o : Outcome (List ℕ)) → put_front ws n (mapped (λ x. x.0.width ∷ x.1) (paired u m o)) ≡ put_front (ws ++ u.width ∷ []) (n + m) o
+put_width ws n u m (Found ys own) =
+    ap (λ (zs : List ℕ). Found zs (n + (m + own))) (sym (append_assoc ws (u.width ∷ []) ys)) ∙ ap (λ (k : ℕ). Found ((ws ++ u.width ∷ []) ++ ys) k) (omega arith)
+put_width ws n u m (Broken offset reason) = ap (λ (k : ℕ). Broken k reason) (omega arith)
+
+pub no_padding : (bytes : List ℕ) (lim : ℕ) → read_padding (suc (length bytes)) bytes lim ≡ put_front [] 0 (read_padding (suc (length bytes) - 0) (drop 0 bytes) (lim - 0))
+no_padding bytes lim =
+    let a : suc (length bytes) - 0 ≡ suc (length bytes) = omega arith in
+    let b : lim - 0 ≡ lim = omega arith in
+    rw (a, b) (put_none (read_padding (suc (length bytes)) bytes lim))
+
+module _ (whole : Outcome (List ℕ)) (total : ℕ) (bytes : List ℕ) (ws : List ℕ) (count at lim : ℕ) (few : count < total) (read : whole ≡ put_front ws at (read_padding (total - count) bytes (lim - at))) where
+  one_more : total - count ≡ suc (total - (count + 1))
+  one_more = omega (arith, few)
+
+  pub padding_ends : lim ≤ at → whole ≡ Found ws at
+  padding_ends past =
+      let none : lim - at ≡ 0 = omega (arith, past) in
+      let end : at + 0 ≡ at = omega arith in
+      read ∙ rw (one_more, none) (ap (λ (k : ℕ). Found (ws ++ []) k) end ∙ ap (λ (zs : List ℕ). Found zs at) (append-nil ws))
+
+  module _ (left : at < lim) where
+    padding_goes : whole ≡ put_front ws at (mapped (λ x. x.0.width ∷ x.1) (behind (checked read_uleb not_null bytes (lim - at)) (λ _. read_padding (total - (count + 1))) bytes (lim - at)))
+    padding_goes = read ∙ rw one_more (ap (put_front ws at) (padding_step (total - (count + 1)) bytes (lim - at) (omega (arith, left))))
+
+    pub padding_breaks : (offset : ℕ) (reason : Reason) → checked read_uleb not_null bytes (lim - at) ≡ Broken offset reason → whole ≡ Broken (at + offset) reason
+    padding_breaks offset reason e = padding_goes ∙ rw e refl
+
+    pub padding_read : (u : Unsigned) (size : ℕ) → checked read_uleb not_null bytes (lim - at) ≡ Found u size
+        → whole ≡ put_front (ws ++ u.width ∷ []) (at + size) (read_padding (total - (count + 1)) (drop size bytes) (lim - (at + size)))
+    padding_read u size e =
+        let after : lim - at - size ≡ lim - (at + size) = omega arith in
+        padding_goes ∙ rw e (put_width ws at u size (read_padding (total - (count + 1)) (drop size bytes) (lim - at - size)) ∙ ap (λ (n : ℕ). put_front (ws ++ u.width ∷ []) (at + size) (read_padding (total - (count + 1)) (drop size bytes) n)) after)

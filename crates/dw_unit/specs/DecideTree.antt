@@ -192,7 +192,7 @@ null_decides = judged_decides uleb read_uleb not_null uleb_decides
 abbrev next_null : ℕ → Reader (Unsigned × List ℕ)
 next_null fuel = checked read_uleb not_null and_then λ _. read_padding fuel
 
-padding_step : (fuel : ℕ) (bytes : List ℕ) (lim : ℕ) → 0 < lim → read_padding (suc fuel) bytes lim ≡ mapped (λ x. x.0.width ∷ x.1) (next_null fuel bytes lim)
+pub padding_step : (fuel : ℕ) (bytes : List ℕ) (lim : ℕ) → 0 < lim → read_padding (suc fuel) bytes lim ≡ mapped (λ x. x.0.width ∷ x.1) (next_null fuel bytes lim)
 padding_step fuel bytes lim lt = rw (ne_eqb lim 0 (λ e. omega (arith, e))) refl
 
 pub padding_take : (fuel : ℕ) (ws rest : List ℕ) (lim : ℕ) → AreNulls ws → length (nulls ws) ≡ lim → length (nulls ws) ≤ fuel → read_padding fuel (nulls ws ++ rest) lim ≡ found ws (length (nulls ws))

@@ -2,6 +2,7 @@
 #![tactic(auto)]
 
 mod bad;
+mod codes;
 mod fields;
 mod head;
 mod header;

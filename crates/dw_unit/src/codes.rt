@@ -1,0 +1,83 @@
+//! Codes of entries, and the nulls after the root.
+ghost use Rattle.std.specs.Prelude.{◌≡◌, ◌≤◌, ◌<◌, ◌+◌, ◌-◌, ℕ, suc, length, vec_items, IfOk, IfErr};
+ghost use Rattle.dw_leb.specs.View.{uleb_of};
+ghost use Rattle.dw_leb.specs.Reader.{checked};
+ghost use Rattle.dw_leb.specs.ReadNumber.{read_uleb};
+ghost use Rattle.dw_unit.specs.Tree.{bad_root, not_null};
+ghost use Rattle.dw_unit.specs.ReadUnit.{read_padding};
+ghost use Rattle.dw_unit.specs.Entries.{IsLeafCode};
+ghost use Rattle.dw_unit.specs.Told.{told, Tells};
+
+use crate::bad::{Bad, BodyError};
+use dw_abbrev::Table;
+use dw_leb::{Reason, Uleb};
+use std::alloc::Global;
+
+/// The code of the root entry at the front of `b`, of which `lim` bytes are left to the unit's end.
+pub(crate) fn root_code(table: &Table, b: &[u8], lim: u64) -> Result<(Uleb, usize), Bad>
+    ensures exact { checked read_uleb (bad_root table.now) b.now lim ≡ told uleb_of result }
+    ensures leaf { IfOk result (λ x. IsLeafCode table.now x.0.value) }
+    ensures room { IfOk result (λ x. (x.1 ≤ length b.now) × (x.1 ≤ lim)) }
+    ensures near { IfErr result (λ e. e.offset ≡ 0) }
+{
+    let code = match Uleb::read(b, lim) {
+        Ok(code) => code,
+        Err(reason) => return Err(Bad::here(reason)),
+    };
+    if code.value == 0 {
+        return Err(Bad::here(Reason::NoRoot));
+    }
+    match table.get(code.value) {
+        None => Err(Bad::here(Reason::UnknownCode)),
+        Some(decl) => {
+            if decl.has_children() {
+                return Err(Bad::here(Reason::NotYet));
+            }
+            Ok((code, code.width as usize))
+        }
+    }
+}
+
+/// A null at the front of `b`, where an entry would be a second root.
+fn null_code(b: &[u8], lim: u64) -> Result<(Uleb, usize), Bad>
+    ensures exact { checked read_uleb not_null b.now lim ≡ told uleb_of result }
+    ensures null { IfOk result (λ x. x.0.value ≡ 0) }
+    ensures room { IfOk result (λ x. (x.1 ≤ length b.now) × (x.1 ≤ lim) × (1 ≤ x.1)) }
+    ensures near { IfErr result (λ e. e.offset ≡ 0) }
+{
+    match Uleb::read(b, lim) {
+        Ok(code) => {
+            if code.value == 0 {
+                Ok((code, code.width as usize))
+            } else {
+                Err(Bad::here(Reason::SecondRoot))
+            }
+        }
+        Err(reason) => Err(Bad::here(reason)),
+    }
+}
+
+/// The widths of the nulls from the front of `b` to the unit's end, before which `lim` bytes are
+/// left.
+pub(crate) fn padding_at(
+    alloc: Global,
+    b: &[u8],
+    lim: u64,
+) -> Result<(Vec<u8>, usize), BodyError>
+    ensures exact { Tells vec_items result (read_padding (suc (length b.now)) b.now lim) }
+    ensures room { IfOk result (λ x. x.1 ≤ length b.now) }
+{
+    let mut widths = Vec::new(alloc);
+    let mut at = 0;
+    while (at as u64) < lim {
+        let (null, size) = match null_code(&b[at..], lim - at as u64) {
+            Ok(found) => found,
+            Err(e) => return Err(BodyError::Bad(e.behind(at))),
+        };
+        if widths.push(null.width).is_err() {
+            return Err(BodyError::NoMemory);
+        }
+        at += size;
+    }
+    Ok((widths, at))
+}
