@@ -147,11 +147,11 @@ put_width ws n u m (Found ys own) =
     ap (λ (zs : List ℕ). Found zs (n + (m + own))) (sym (append_assoc ws (u.width ∷ []) ys)) ∙ ap (λ (k : ℕ). Found ((ws ++ u.width ∷ []) ++ ys) k) (omega arith)
 put_width ws n u m (Broken offset reason) = ap (λ (k : ℕ). Broken k reason) (omega arith)
 
-pub no_padding : (bytes : List ℕ) (lim : ℕ) → read_padding (suc (length bytes)) bytes lim ≡ put_front [] 0 (read_padding (suc (length bytes) - 0) (drop 0 bytes) (lim - 0))
-no_padding bytes lim =
-    let a : suc (length bytes) - 0 ≡ suc (length bytes) = omega arith in
+pub no_padding : (fuel : ℕ) (bytes : List ℕ) (lim : ℕ) → read_padding fuel bytes lim ≡ put_front [] 0 (read_padding (fuel - 0) (drop 0 bytes) (lim - 0))
+no_padding fuel bytes lim =
+    let a : fuel - 0 ≡ fuel = omega arith in
     let b : lim - 0 ≡ lim = omega arith in
-    rw (a, b) (put_none (read_padding (suc (length bytes)) bytes lim))
+    rw (a, b) (put_none (read_padding fuel bytes lim))
 
 module _ (whole : Outcome (List ℕ)) (total : ℕ) (bytes : List ℕ) (ws : List ℕ) (count at lim : ℕ) (few : count < total) (read : whole ≡ put_front ws at (read_padding (total - count) bytes (lim - at))) where
   one_more : total - count ≡ suc (total - (count + 1))

@@ -3,6 +3,10 @@ use Rattle.std.specs.Prelude.{◌≡◌, ℕ, ◌+◌, List, [], ◌∷◌, ◌+
 use Rattle.std.proofs.Common.{refl}
 use Rattle.dw_leb.specs.Part.{Part}
 use Rattle.dw_leb.specs.Reader.{Outcome, Found, Broken}
+use Rattle.dw_leb.specs.Number.{Unsigned}
+use Rattle.dw_leb.specs.View.{uleb_of}
+use Rattle.dw_leb.specs.declared.unsigned.Uleb.{Uleb}
+use Rattle.dw_unit.specs.Tree.{Tree, leaf}
 use Rattle.dw_form.specs.declared.shape.Ctx.{Ctx}
 use Rattle.dw_form.specs.declared.read.ValueError.{ValueError}
 use Rattle.dw_form.specs.declared.read.ValueError.TheVariants as value_errors
@@ -50,3 +54,11 @@ RefusedAt P bytes lim at errors.NoMemory = Unit {0}
 pub refuses_at : {X : Type 0} (P : Part X) (bytes : List ℕ) (lim at : ℕ) (e : ValueError) → Refuses P bytes lim e → RefusedAt P bytes lim at (refused_at at e)
 refuses_at P bytes lim at (value_errors.Bad reason) h = (refl, h)
 refuses_at P bytes lim at value_errors.NoMemory h = tt
+
+-- the root entry, and its outcome by that of its values
+abbrev pub root_view : Uleb × Values → Tree
+root_view x = leaf (uleb_of x.0) (values_of x.1)
+
+abbrev pub root_then : Unsigned → ℕ → Outcome (List Attribute) → Outcome Tree
+root_then code size (Found values own) = Found (leaf code values) (size + own)
+root_then code size (Broken offset reason) = Broken (size + offset) reason

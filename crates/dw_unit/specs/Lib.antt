@@ -13,3 +13,5 @@ pub mod HeaderFields
 pub mod HeaderLemmas
 pub mod HeadRead
 pub mod Entries
+pub mod WholeUnit
+pub mod EntriesView

@@ -1,5 +1,5 @@
 -- What a call tells of the plain reader's outcome.
-use Rattle.std.specs.Prelude.{◌≡◌, ℕ, List, Result, Ok, Err, IfOk}
+use Rattle.std.specs.Prelude.{◌≡◌, ◌≤◌, ◌+◌, ℕ, List, Result, Ok, Err, IfOk}
 use Rattle.dw_leb.specs.Part.{Part}
 use Rattle.dw_leb.specs.Decide.{Says}
 use Rattle.dw_leb.specs.Reader.{Outcome, Found, Broken}
@@ -17,6 +17,16 @@ abbrev pub Tells : {X Y : Type 0} → (X → Y) → Result (X × ℕ) BodyError 
 Tells view (Ok x) o = o ≡ Found (view x.0) x.1
 Tells view (Err (errors.Bad e)) o = o ≡ Broken e.offset e.reason
 Tells view (Err errors.NoMemory) o = Unit {0}
+
+-- a broken field begins within so many bytes
+abbrev pub IsNear : ℕ → BodyError → Type 0
+IsNear n (errors.Bad e) = e.offset ≤ n
+IsNear n errors.NoMemory = Unit {0}
+
+-- the same error, counted from so many bytes before
+abbrev pub error_behind : ℕ → BodyError → BodyError
+error_behind size (errors.Bad e) = errors.Bad (record { offset = size + e.offset; reason = e.reason })
+error_behind size errors.NoMemory = errors.NoMemory
 
 -- what is told of a decided part fits
 pub told_fits : {X Y : Type 0} (view : X → Y) (P : Part Y) (bytes : List ℕ) (lim : ℕ) (r : Result (X × ℕ) Bad) → Says P bytes lim (told view r) → IfOk r (λ x. P.Fits (view x.0))

@@ -1,5 +1,6 @@
 //! Where bytes break.
-ghost use Rattle.std.specs.Prelude.{◌≡◌, ◌<◌, ◌+◌, ◌^◌};
+ghost use Rattle.std.specs.Prelude.{◌≡◌, ◌<◌, ◌+◌, ◌-◌, ◌^◌};
+ghost use Rattle.dw_unit.specs.Told.{IsNear, error_behind};
 
 use dw_leb::Reason;
 
@@ -37,4 +38,17 @@ pub(crate) enum BodyError {
     Bad(Bad),
     /// A growth was refused.
     NoMemory,
+}
+
+impl BodyError {
+    /// The same field, counted from `size` bytes before.
+    pub(crate) fn behind(self, size: usize) -> BodyError
+        requires { IsNear (2 ^ 64 - 1 - size) self }
+        ensures { result ≡ error_behind size self }
+    {
+        match self {
+            BodyError::Bad(e) => BodyError::Bad(e.behind(size)),
+            BodyError::NoMemory => BodyError::NoMemory,
+        }
+    }
 }

@@ -1,12 +1,12 @@
 //! Codes of entries, and the nulls after the root.
-ghost use Rattle.std.specs.Prelude.{◌≡◌, ◌≤◌, ◌<◌, ◌+◌, ◌-◌, ℕ, suc, length, vec_items, IfOk, IfErr};
+ghost use Rattle.std.specs.Prelude.{◌≡◌, ◌≤◌, ◌<◌, ◌+◌, ◌-◌, ℕ, length, vec_items, IfOk, IfErr};
 ghost use Rattle.dw_leb.specs.View.{uleb_of};
 ghost use Rattle.dw_leb.specs.Reader.{checked};
 ghost use Rattle.dw_leb.specs.ReadNumber.{read_uleb};
 ghost use Rattle.dw_unit.specs.Tree.{bad_root, not_null};
 ghost use Rattle.dw_unit.specs.ReadUnit.{read_padding};
 ghost use Rattle.dw_unit.specs.Entries.{IsLeafCode};
-ghost use Rattle.dw_unit.specs.Told.{told, Tells};
+ghost use Rattle.dw_unit.specs.Told.{told, Tells, IsNear};
 
 use crate::bad::{Bad, BodyError};
 use dw_abbrev::Table;
@@ -64,8 +64,9 @@ pub(crate) fn padding_at(
     b: &[u8],
     lim: u64,
 ) -> Result<(Vec<u8>, usize), BodyError>
-    ensures exact { Tells vec_items result (read_padding (suc (length b.now)) b.now lim) }
+    ensures exact { (fuel : ℕ) → length b.now < fuel → Tells vec_items result (read_padding fuel b.now lim) }
     ensures room { IfOk result (λ x. x.1 ≤ length b.now) }
+    ensures near { IfErr result (IsNear (length b.now)) }
 {
     let mut widths = Vec::new(alloc);
     let mut at = 0;

@@ -3,6 +3,7 @@
 
 mod bad;
 mod codes;
+mod entries;
 mod fields;
 mod head;
 mod header;

@@ -7,7 +7,7 @@ ghost use Rattle.dw_form.specs.Kept.{StoredFits, content, bytes_in};
 ghost use Rattle.dw_abbrev.specs.PairView.{pair_of};
 ghost use Rattle.dw_unit.specs.ReadUnit.{read_values};
 ghost use Rattle.dw_unit.specs.Entries.{values_of, value_part, RefusedAt, refused_at};
-ghost use Rattle.dw_unit.specs.Told.{Tells};
+ghost use Rattle.dw_unit.specs.Told.{Tells, IsNear};
 
 use crate::bad::{Bad, BodyError};
 use dw_abbrev::Pair;
@@ -34,6 +34,7 @@ pub(crate) fn values_at(
     ensures exact { Tells values_of result (read_values ctx (map pair_of pairs.now) b.now lim) }
     ensures fits { IfOk result (λ x. AllByRecursion (StoredFits (vec_len x.0.pool)) x.0.stored.items) }
     ensures room { IfOk result (λ x. (x.1 ≤ length b.now) × (x.1 ≤ lim)) }
+    ensures near { IfErr result (IsNear (length b.now)) }
 {
     let mut stored = Vec::new(alloc);
     let mut pool = Vec::new(alloc);
@@ -63,6 +64,7 @@ fn value_at(
     requires left { at ≤ lim }
     ensures found { IfOk result (λ x. Taken (value_part ctx pair.now) (drop at b.now) (lim - at) (content pool.new.items x.0) x.1) }
     ensures broken { IfErr result (RefusedAt (value_part ctx pair.now) (drop at b.now) (lim - at) at) }
+    ensures near { IfErr result (IsNear (length b.now)) }
     ensures pool { IfOk result (λ x. pool.new.items ≡ pool.old.items ++ bytes_in (content pool.new.items x.0)) }
     ensures fits { IfOk result (λ x. StoredFits (vec_len pool.new) x.0) }
     ensures room { IfOk result (λ x. (at + x.1 ≤ length b.now) × (at + x.1 ≤ lim)) }
@@ -76,7 +78,8 @@ fn value_at(
 
 /// The error of a value that begins at `at`.
 fn refused(at: usize, e: ValueError) -> BodyError
-    ensures { result ≡ refused_at at e }
+    ensures error { result ≡ refused_at at e }
+    ensures near { IsNear at result }
 {
     match e {
         ValueError::Bad(reason) => BodyError::Bad(Bad { offset: at, reason }),

@@ -1,4 +1,4 @@
-use Rattle.std.proofs.Common.{◌≡◌, ◌≤◌, ◌-◌, suc, drop, length, vec_len}
+use Rattle.std.proofs.Common.{◌≡◌, ◌≤◌, ◌<◌, ◌-◌, ℕ, drop, length, vec_len}
 use Rattle.dw_unit.specs.ReadUnit.{read_padding}
 use Rattle.dw_unit.specs.Entries.{put_front}
 use Rattle.dw_unit.proofs.codes.padding_at.Given as goal
@@ -7,7 +7,7 @@ use Rattle.dw_unit.proofs.codes.padding_at.Given as goal
 abbrev pub invariant-loop-at : goal.invariant-loop-at
 invariant-loop-at l =
     record {
-      read : read_padding (suc (length l.b)) l.b l.lim ≡ put_front l.widths.items l.at (read_padding (suc (length l.b) - vec_len l.widths) (drop l.at l.b) (l.lim - l.at));
+      read : (fuel : ℕ) → length l.b < fuel → read_padding fuel l.b l.lim ≡ put_front l.widths.items l.at (read_padding (fuel - vec_len l.widths) (drop l.at l.b) (l.lim - l.at));
       within : l.at ≤ length l.b;
       few : vec_len l.widths ≤ l.at;
     }

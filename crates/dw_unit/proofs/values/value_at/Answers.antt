@@ -19,5 +19,5 @@ returns-in-Err-clause-broken c =
     let whole : take (length c.args.b.now - c.args.at) bytes ≡ bytes = take_all (length c.args.b.now - c.args.at) bytes (omega (arith, length-drop c.args.at c.args.b.now)) in
     let told : Refuses (value_part c.args.ctx c.args.pair.now) bytes (c.args.lim - c.args.at) c.in-Err.e =
     subst (λ (b : List ℕ). Refuses (value_part c.args.ctx c.args.pair.now) b (c.args.lim - c.args.at) c.in-Err.e) whole c.in-Err.ensures.broken in
-    subst (λ (r : BodyError). RefusedAt (value_part c.args.ctx c.args.pair.now) bytes (c.args.lim - c.args.at) c.args.at r) (sym c.refused.ensures)
+    subst (λ (r : BodyError). RefusedAt (value_part c.args.ctx c.args.pair.now) bytes (c.args.lim - c.args.at) c.args.at r) (sym c.refused.ensures.error)
     (refuses_at (value_part c.args.ctx c.args.pair.now) bytes (c.args.lim - c.args.at) c.args.at c.in-Err.e told)
