@@ -1,2 +1,3 @@
 pub mod EntryLemmas
 pub mod RootLemmas
+pub mod UnitLemmas

@@ -236,7 +236,7 @@ kind_there format order x fits =
     rw (k.0, k.1, ← five) refl
 
 module _ (order : Order) (section bytes : List ℕ) (format : Format) (n : ℕ) (x : Fields) (rest : List ℕ) (headed : Headed order bytes format n x rest) where
-  entries_answer : (t : Table) → TableAt section (table_offset x) t → (o : Outcome (Tree × List ℕ)) → EntriesSay (header_of order format x) t rest (n - length (field_bytes order format x)) o
+  pub entries_answer : (t : Table) → TableAt section (table_offset x) t → (o : Outcome (Tree × List ℕ)) → EntriesSay (header_of order format x) t rest (n - length (field_bytes order format x)) o
       → AnswerSays order section bytes (answer_entries (header_from order format x) (length (len_bytes order format n) + length (field_bytes order format x)) o)
   entries_answer t place (Broken own reason) h = inr (format, n, x, rest, t, own, headed, place, refl, h)
   entries_answer t place (Found y size) h =

@@ -29,21 +29,33 @@ HeaderFault order bytes f = (f.section ≡ Info) × HeaderBreaks order bytes f.o
 
 -- ---- the plain reader
 
-abbrev pub head_fields : Order → Format → ℕ → ℕ → Outcome Fields → Outcome (Header × ℕ)
-head_fields order format n before (Found x size) = Found (header_from order format x, n) (before + size)
+-- a header, the unit_length, and how many bytes of it are left behind the header
+abbrev pub Heading : Type 0
+Heading = Header × ℕ × ℕ
+
+abbrev pub head_fields : Order → Format → ℕ → ℕ → Outcome Fields → Outcome Heading
+head_fields order format n before (Found x size) = Found (header_from order format x, n, n - size) (before + size)
 head_fields order format n before (Broken offset reason) = Broken (before + offset) reason
 
-abbrev pub head_length : Order → List ℕ → Outcome (Format × ℕ) → Outcome (Header × ℕ)
+abbrev pub head_length : Order → List ℕ → Outcome (Format × ℕ) → Outcome Heading
 head_length order bytes (Found x size) = head_fields order x.0 x.1 size (read_fields order x.0 (drop size bytes) x.1)
 head_length order bytes (Broken offset reason) = Broken offset reason
 
-abbrev pub read_head : Order → List ℕ → Outcome (Header × ℕ)
+abbrev pub read_head : Order → List ℕ → Outcome Heading
 read_head order bytes = head_length order bytes (read_length order 0 bytes length_limit)
 
 -- ---- what it reads stands there
 
-abbrev pub HeadSays : Order → List ℕ → Outcome (Header × ℕ) → Type 0
-HeadSays order bytes (Found x size) = HeaderAt order bytes x.0 x.1
+-- a header stands at the front, so many bytes with its length field, and so many of the unit_length are left
+pub record HeadFound (order : Order) (bytes : List ℕ) (h : Header) (n left at : ℕ) : Type 0 where
+  pub order_is : h.order ≡ order
+  pub rest : List ℕ
+  pub headed : Headed order bytes h.format n (fields_of h) rest
+  pub at_is : length ((initial_length order 0).spell (h.format, n)) + length ((fields order h.format).spell (fields_of h)) ≡ at
+  pub left_is : n - length ((fields order h.format).spell (fields_of h)) ≡ left
+
+abbrev pub HeadSays : Order → List ℕ → Outcome Heading → Type 0
+HeadSays order bytes (Found x size) = HeadFound order bytes x.0 x.1 x.2 size
 HeadSays order bytes (Broken offset reason) = HeaderBreaks order bytes offset reason
 
 fields_say : (order : Order) (bytes : List ℕ) (format : Format) (n : ℕ) (after : List ℕ) (size : ℕ) → (initial_length order 0).Fits (format, n) → bytes ≡ (initial_length order 0).spell (format, n) ++ after → length ((initial_length order 0).spell (format, n)) ≡ size
@@ -51,12 +63,19 @@ fields_say : (order : Order) (bytes : List ℕ) (format : Format) (n : ℕ) (aft
 fields_say order bytes format n after size fits split sized (Broken own reason) h = inr (format, n, after, own, fits, split, ap (λ (k : ℕ). k + own) (sym sized), h)
 fields_say order bytes format n after size fits split sized (Found x more) h =
     let same : fields_of (header_from order format x) ≡ x = kind_there format order x h.fits in
-    (refl, h.rest, record {
-      length_fits = fits;
-      fields_fit = subst (λ (z : Fields). (fields order format).Fits z) (sym same) h.fits;
-      split = split ∙ ap (λ (b : List ℕ). (initial_length order 0).spell (format, n) ++ b) (h.split ∙ ap (λ (z : Fields). (fields order format).spell z ++ h.rest) (sym same));
-      within = subst (λ (z : Fields). length ((fields order format).spell z) ≤ n) (sym same) (omega (arith, h.is_size, h.within));
-    })
+    let sized_fields : length ((fields order format).spell (fields_of (header_from order format x))) ≡ more = ap (λ (z : Fields). length ((fields order format).spell z)) same ∙ h.is_size in
+    record {
+      order_is = refl;
+      rest = h.rest;
+      headed = record {
+        length_fits = fits;
+        fields_fit = subst (λ (z : Fields). (fields order format).Fits z) (sym same) h.fits;
+        split = split ∙ ap (λ (b : List ℕ). (initial_length order 0).spell (format, n) ++ b) (h.split ∙ ap (λ (z : Fields). (fields order format).spell z ++ h.rest) (sym same));
+        within = subst (λ (z : Fields). length ((fields order format).spell z) ≤ n) (sym same) (omega (arith, h.is_size, h.within));
+      };
+      at_is = ap (λ (k : ℕ). k + length ((fields order format).spell (fields_of (header_from order format x)))) sized ∙ ap (λ (k : ℕ). size + k) sized_fields;
+      left_is = ap (λ (k : ℕ). n - k) sized_fields;
+    }
 
 length_say : (order : Order) (bytes : List ℕ) → AreBytes bytes → (o : Outcome (Format × ℕ)) → Says (initial_length order 0) bytes length_limit o → HeadSays order bytes (head_length order bytes o)
 length_say order bytes fit (Broken offset reason) h = inl h

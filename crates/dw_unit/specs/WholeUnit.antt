@@ -4,6 +4,14 @@ use Rattle.dw_leb.specs.Number.{Unsigned}
 use Rattle.dw_leb.specs.declared.order.Order.{Order}
 use Rattle.dw_leb.specs.declared.errors.ReadError.{ReadError}
 use Rattle.dw_leb.specs.declared.errors.ReadError.TheVariants as reads
+use Rattle.std.specs.Prelude.{◌+◌, vec_len}
+use Rattle.std.specs.List.{AllByRecursion}
+use Rattle.dw_leb.specs.declared.errors.Section.TheVariants.{Info}
+use Rattle.dw_unit.specs.declared.bad.BodyError.{BodyError}
+use Rattle.dw_unit.specs.declared.bad.BodyError.TheVariants as errors
+use Rattle.dw_unit.specs.declared.values.Values.{Values}
+use Rattle.dw_unit.specs.Entries.{IsLeafCode}
+use Rattle.dw_form.specs.Kept.{StoredFits}
 use Rattle.dw_form.specs.Form.{Attribute}
 use Rattle.dw_abbrev.specs.Table.{Table, TableAt}
 use Rattle.dw_unit.specs.Header.{Header}
@@ -42,3 +50,15 @@ abbrev pub TellsFault : List ℕ → Order → List ℕ → ReadError → Type 0
 TellsFault section order bytes (reads.Fault f) = Fails order section bytes f.section f.offset f.reason
 TellsFault section order bytes reads.NoMemory = Unit {0}
 TellsFault section order bytes (reads.Io kind) = ⊥
+
+-- what a unit keeps: a code without children, spans that lie in the pool, a spelling, and its size
+pub record IsUnit (u : WholeUnit) (values : Values) (size : ℕ) : Type 0 where
+  pub fits : UnitFits u.table (contents_of u)
+  pub leaf_code : IsLeafCode u.table u.code.value
+  pub stored : AllByRecursion (StoredFits (vec_len values.pool)) values.stored.items
+  pub sized : length (bytes_of u) ≡ size
+
+-- the error of reading a unit where its entries, which begin at a place, give this one
+abbrev pub unit_error_of : ℕ → BodyError → ReadError
+unit_error_of at (errors.Bad e) = reads.Fault (record { section = Info; offset = at + e.offset; reason = e.reason })
+unit_error_of at errors.NoMemory = reads.NoMemory

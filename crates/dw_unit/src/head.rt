@@ -21,7 +21,7 @@ pub fn read_header(order: Order, b: &[u8]) -> Result<(Header, u64), Fault>
     ensures broken { IfErr result (HeaderFault order b.now) }
 {
     match head_at(order, b) {
-        Ok((found, _)) => Ok(found),
+        Ok(((header, unit_length, _), _)) => Ok((header, unit_length)),
         Err(e) => Err(info_fault(e)),
     }
 }
@@ -37,10 +37,11 @@ pub(crate) fn info_fault(e: Bad) -> Fault
     }
 }
 
-/// The header with the unit_length, and the count of their bytes.
-pub(crate) fn head_at(order: Order, b: &[u8]) -> Result<((Header, u64), usize), Bad>
+/// The header with the unit_length and what is left of it behind the header; and the count of the
+/// bytes of header and length.
+pub(crate) fn head_at(order: Order, b: &[u8]) -> Result<((Header, u64, u64), usize), Bad>
     ensures exact { read_head order b.now ≡ told (λ x. x) result }
-    ensures room { IfOk result (λ x. (x.1 ≤ length b.now) × (x.1 ≤ length_size x.0.0.format + x.0.1) × (length_size x.0.0.format ≤ x.1) × (x.0.1 < 2 ^ 63)) }
+    ensures room { IfOk result (λ x. x.1 ≤ length b.now) }
     ensures near { IfErr result (λ e. e.offset ≤ 32) }
 {
     let (format, unit_length) = match read_length(order, 0, b) {
@@ -49,7 +50,10 @@ pub(crate) fn head_at(order: Order, b: &[u8]) -> Result<((Header, u64), usize), 
     };
     let size = length_bytes(format);
     match header_fields(order, format, &b[size..], unit_length) {
-        Ok((fields, more)) => Ok(((Header::of(order, format, fields), unit_length), size + more)),
+        Ok((fields, more)) => {
+            let header = Header::of(order, format, fields);
+            Ok(((header, unit_length, unit_length - more as u64), size + more))
+        }
         Err(e) => Err(e.behind(size)),
     }
 }

@@ -8,8 +8,12 @@ mod fields;
 mod head;
 mod header;
 mod kind;
+mod reader;
+mod unit;
 mod values;
 
 pub use head::read_header;
 pub use header::Header;
 pub use kind::Kind;
+pub use reader::read_unit;
+pub use unit::Unit;
