@@ -11,6 +11,7 @@ mod kind;
 mod reader;
 mod unit;
 mod values;
+mod writer;
 
 pub use head::read_header;
 pub use header::Header;

@@ -1,0 +1,134 @@
+//! Writing a unit.
+ghost use Rattle.std.specs.Prelude.{◌≡◌, ◌≤◌, ◌<◌, ◌+◌, ◌-◌, ◌^◌, ℕ, length, map, vec_len, None};
+ghost use Rattle.std.specs.List.{AllByRecursion};
+ghost use Rattle.dw_leb.specs.Watch.{inner_of, fault_of, told_by_write, Wrote};
+ghost use Rattle.dw_leb.specs.Number.{uleb};
+ghost use Rattle.dw_abbrev.specs.Table.{zero_of};
+ghost use Rattle.dw_form.specs.Form.{IsContext};
+ghost use Rattle.dw_form.specs.Kept.{StoredFits, content};
+ghost use Rattle.dw_abbrev.specs.PairView.{pair_of};
+ghost use Rattle.dw_unit.specs.Header.{fields, fields_of, numbers, added_sizes, kind_number, kind_fields, KindFits};
+ghost use Rattle.dw_unit.specs.Tree.{values, nulls, AreNulls};
+ghost use Rattle.dw_unit.specs.Entries.{contents, value_part};
+ghost use Rattle.dw_unit.specs.WholeUnit.{bytes_of};
+
+use crate::fields::offset_bytes;
+use crate::head::length_bytes;
+use crate::header::Header;
+use crate::kind::Kind;
+use crate::unit::Unit;
+use arrayvec::ArrayVec;
+use dw_abbrev::Pair;
+use dw_form::{Ctx, Stored, write_value};
+use dw_leb::{
+    Format, Order, Uleb, Watched, WriteError, write_all, write_fixed, write_length,
+};
+use std::io::Write;
+
+/// The number of a kind (section 7.5.1).
+fn unit_type(kind: Kind) -> u8
+    ensures number { result ≡ kind_number kind }
+    ensures small { result ≤ 4 }
+{
+    match kind {
+        Kind::Compile => 1,
+        Kind::TypeUnit { .. } => 2,
+        Kind::Partial => 3,
+        Kind::Skeleton { .. } => 4,
+    }
+}
+
+/// What the unit type adds to a header.
+fn added_bytes(order: Order, format: Format, kind: Kind) -> ArrayVec<u8, 16>
+    requires { KindFits format kind }
+    ensures spelling { result.items ≡ (numbers order (added_sizes format (kind_number kind))).spell (kind_fields kind) }
+{
+    match kind {
+        Kind::Compile | Kind::Partial => ArrayVec::new(),
+        Kind::TypeUnit {
+            signature,
+            type_offset,
+        } => {
+            let mut bytes = write_fixed(order, 8, signature as u128);
+            let offset = write_fixed(order, offset_bytes(format), type_offset as u128);
+            let _fits = bytes.try_extend_from_slice(offset.as_slice());
+            bytes
+        }
+        Kind::Skeleton { dwo_id } => write_fixed(order, 8, dwo_id as u128),
+    }
+}
+
+/// Writes nulls of these widths.
+fn write_nulls<W: Write>(widths: &[u8], writer: &mut Watched<W>) -> Result<(), WriteError>
+    requires nulls { AreNulls widths.now }
+    requires clear { fault_of writer.old ≡ None }
+    ensures written { Wrote (W.contents (inner_of writer.old)) (W.contents (inner_of writer.new)) (nulls widths.now) result }
+    ensures fault { fault_of writer.new ≡ told_by_write result }
+{
+    let mut left = widths;
+    while let Some((width, others)) = left.split_first() {
+        write_null(*width, writer)?;
+        left = others;
+    }
+    Ok(())
+}
+
+fn write_null<W: Write>(width: u8, writer: &mut Watched<W>) -> Result<(), WriteError>
+    requires null { uleb.Fits (zero_of width) }
+    requires clear { fault_of writer.old ≡ None }
+    ensures written { Wrote (W.contents (inner_of writer.old)) (W.contents (inner_of writer.new)) (uleb.spell (zero_of width)) result }
+    ensures fault { fault_of writer.new ≡ told_by_write result }
+{
+    match Uleb::with_width(0, width) {
+        Some(null) => write_all(writer, null.bytes().as_slice()),
+        None => unreachable!(),
+    }
+}
+
+/// Writes values under the pairs of their declaration.
+fn write_values<W: Write>(
+    ctx: Ctx,
+    pairs: &[Pair],
+    stored: &[Stored],
+    pool: &[u8],
+    writer: &mut Watched<W>,
+) -> Result<(), WriteError>
+    requires context { IsContext ctx }
+    requires spans { AllByRecursion (StoredFits (length pool.now)) stored.now }
+    requires fits { (values ctx (map pair_of pairs.now)).Fits (contents stored.now pool.now) }
+    requires clear { fault_of writer.old ≡ None }
+    ensures written { Wrote (W.contents (inner_of writer.old)) (W.contents (inner_of writer.new)) ((values ctx (map pair_of pairs.now)).spell (contents stored.now pool.now)) result }
+    ensures fault { fault_of writer.new ≡ told_by_write result }
+{
+    let mut pairs_left = pairs;
+    let mut left = stored;
+    while let Some((pair, other_pairs)) = pairs_left.split_first() {
+        match left.split_first() {
+            Some((value, others)) => {
+                write_one(ctx, pair, value, pool, writer)?;
+                left = others;
+            }
+            None => unreachable!(),
+        }
+        pairs_left = other_pairs;
+    }
+    Ok(())
+}
+
+/// Writes the value of a pair.
+fn write_one<W: Write>(
+    ctx: Ctx,
+    pair: &Pair,
+    stored: &Stored,
+    pool: &[u8],
+    writer: &mut Watched<W>,
+) -> Result<(), WriteError>
+    requires context { IsContext ctx }
+    requires span { StoredFits (length pool.now) stored.now }
+    requires fits { (value_part ctx pair.now).Fits (content pool.now stored.now) }
+    requires clear { fault_of writer.old ≡ None }
+    ensures written { Wrote (W.contents (inner_of writer.old)) (W.contents (inner_of writer.new)) ((value_part ctx pair.now).spell (content pool.now stored.now)) result }
+    ensures fault { fault_of writer.new ≡ told_by_write result }
+{
+    write_value(ctx, pair.form.value, &stored.lend(pool), writer)
+}
