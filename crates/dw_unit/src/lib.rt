@@ -18,3 +18,4 @@ pub use header::Header;
 pub use kind::Kind;
 pub use reader::read_unit;
 pub use unit::Unit;
+pub use writer::write_unit;

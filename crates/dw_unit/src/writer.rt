@@ -1,24 +1,26 @@
 //! Writing a unit.
-ghost use Rattle.std.specs.Prelude.{◌≡◌, ◌≤◌, ◌<◌, ◌+◌, ◌-◌, ◌^◌, ℕ, length, map, vec_len, None};
+ghost use Rattle.std.specs.Prelude.{◌≡◌, ◌≤◌, ◌<◌, ◌+◌, ◌-◌, ◌^◌, ◌++◌, ℕ, length, map, vec_len, None};
 ghost use Rattle.std.specs.List.{AllByRecursion};
 ghost use Rattle.dw_leb.specs.Watch.{inner_of, fault_of, told_by_write, Wrote};
-ghost use Rattle.dw_leb.specs.Number.{uleb};
+ghost use Rattle.dw_leb.specs.Number.{uleb, initial_length, FitsLength};
+ghost use Rattle.dw_leb.specs.View.{uleb_of};
 ghost use Rattle.dw_abbrev.specs.Table.{zero_of};
 ghost use Rattle.dw_form.specs.Form.{IsContext};
 ghost use Rattle.dw_form.specs.Kept.{StoredFits, content};
 ghost use Rattle.dw_abbrev.specs.PairView.{pair_of};
 ghost use Rattle.dw_unit.specs.Header.{fields, fields_of, numbers, added_sizes, kind_number, kind_fields, KindFits};
-ghost use Rattle.dw_unit.specs.Tree.{values, nulls, AreNulls};
-ghost use Rattle.dw_unit.specs.Entries.{contents, value_part};
+ghost use Rattle.dw_unit.specs.Tree.{values, nulls, AreNulls, tree, leaf, nesting};
+ghost use Rattle.dw_unit.specs.Entries.{contents, value_part, values_of, IsLeafCode};
 ghost use Rattle.dw_unit.specs.WholeUnit.{bytes_of};
 
 use crate::fields::offset_bytes;
-use crate::head::length_bytes;
+use crate::head::length_bytes as initial_size;
 use crate::header::Header;
 use crate::kind::Kind;
 use crate::unit::Unit;
 use arrayvec::ArrayVec;
-use dw_abbrev::Pair;
+use crate::values::Values;
+use dw_abbrev::{Pair, Table};
 use dw_form::{Ctx, Stored, write_value};
 use dw_leb::{
     Format, Order, Uleb, Watched, WriteError, write_all, write_fixed, write_length,
@@ -56,6 +58,71 @@ fn added_bytes(order: Order, format: Format, kind: Kind) -> ArrayVec<u8, 16>
         }
         Kind::Skeleton { dwo_id } => write_fixed(order, 8, dwo_id as u128),
     }
+}
+
+/// Writes the unit: exactly its one spelling, each number in the width that it holds. It takes no
+/// memory. After an error a beginning of the unit was written (section 7.5).
+///
+/// Errors: `Io` where the writer fails, `WriteZero` where it takes no more bytes.
+pub fn write_unit<W: Write>(unit: &Unit, writer: &mut Watched<W>) -> Result<(), WriteError>
+    requires { fault_of writer.old ≡ None }
+    ensures written { Wrote (W.contents (inner_of writer.old)) (W.contents (inner_of writer.new)) (bytes_of unit.now) result }
+    ensures fault { fault_of writer.new ≡ told_by_write result }
+{
+    let header = unit.header;
+    let behind = unit.size - initial_size(header.format()) as u64;
+    write_head(header, behind, writer)?;
+    write_root(header.context(), &unit.table, &unit.code, &unit.values, writer)?;
+    write_nulls(unit.padding.as_slice(), writer)
+}
+
+/// Writes an initial length, and the fields of a header behind it.
+fn write_head<W: Write>(header: Header, n: u64, writer: &mut Watched<W>) -> Result<(), WriteError>
+    requires fits { FitsLength header.format n }
+    requires clear { fault_of writer.old ≡ None }
+    ensures written { Wrote (W.contents (inner_of writer.old)) (W.contents (inner_of writer.new)) ((initial_length header.order 0).spell (header.format, n) ++ (fields header.order header.format).spell (fields_of header)) result }
+    ensures fault { fault_of writer.new ≡ told_by_write result }
+{
+    write_all(writer, write_length(header.order(), header.format(), n).as_slice())?;
+    write_all(writer, field_bytes(header).as_slice())
+}
+
+/// The fields of a header.
+fn field_bytes(header: Header) -> ArrayVec<u8, 32>
+    ensures spelling { result.items ≡ (fields header.order header.format).spell (fields_of header) }
+{
+    let (order, format) = (header.order(), header.format());
+    let context = header.context();
+    let mut bytes = ArrayVec::new();
+    let _fits = bytes.try_extend_from_slice(write_fixed(order, 2, 5).as_slice());
+    let _fits = bytes.try_extend_from_slice(&[unit_type(header.kind()), context.address_size]);
+    let offset = write_fixed(order, offset_bytes(format), header.abbrev_offset() as u128);
+    let _fits = bytes.try_extend_from_slice(offset.as_slice());
+    let _fits = bytes.try_extend_from_slice(added_bytes(order, format, header.kind()).as_slice());
+    bytes
+}
+
+/// Writes a root without children.
+fn write_root<W: Write>(
+    ctx: Ctx,
+    table: &Table,
+    code: &Uleb,
+    values: &Values,
+    writer: &mut Watched<W>,
+) -> Result<(), WriteError>
+    requires context { IsContext ctx }
+    requires leaf_code { IsLeafCode table.now code.now.value }
+    requires spans { AllByRecursion (StoredFits (vec_len values.now.pool)) values.now.stored.items }
+    requires fits { (tree ctx table.now (nesting - 1)).Fits (leaf (uleb_of code.now) (values_of values.now)) }
+    requires clear { fault_of writer.old ≡ None }
+    ensures written { Wrote (W.contents (inner_of writer.old)) (W.contents (inner_of writer.new)) ((tree ctx table.now (nesting - 1)).spell (leaf (uleb_of code.now) (values_of values.now))) result }
+    ensures fault { fault_of writer.new ≡ told_by_write result }
+{
+    let Some(decl) = table.get(code.value) else {
+        unreachable!()
+    };
+    write_all(writer, code.bytes().as_slice())?;
+    write_values(ctx, decl.pairs(), values.stored.as_slice(), values.pool.as_slice(), writer)
 }
 
 /// Writes nulls of these widths.
