@@ -15,3 +15,4 @@ pub mod HeadRead
 pub mod Entries
 pub mod WholeUnit
 pub mod EntriesView
+pub mod LentEntry

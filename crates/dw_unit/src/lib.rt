@@ -4,6 +4,7 @@
 mod bad;
 mod codes;
 mod entries;
+mod entry;
 mod fields;
 mod head;
 mod header;
@@ -12,6 +13,7 @@ mod reader;
 mod unit;
 mod values;
 
+pub use entry::EntryRef;
 pub use head::read_header;
 pub use header::Header;
 pub use kind::Kind;

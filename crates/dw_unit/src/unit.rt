@@ -16,10 +16,10 @@ use std::rc::Rc;
 /// end. It has exactly one spelling, and keeps every width in which its numbers were written.
 #[derive(Drop)]
 pub struct Unit {
-    header: Header,
-    table: Rc<Table>,
-    code: Uleb,
-    values: Values,
+    pub(crate) header: Header,
+    pub(crate) table: Rc<Table>,
+    pub(crate) code: Uleb,
+    pub(crate) values: Values,
     padding: Vec<u8>,
     size: u64,
 }
