@@ -1,3 +1,4 @@
 pub mod EntryLemmas
 pub mod RootLemmas
 pub mod UnitLemmas
+pub mod LentLemmas

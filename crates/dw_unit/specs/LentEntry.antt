@@ -1,6 +1,5 @@
 -- Entries and attributes as they are lent (sections 2.2, 2.3, 7.5.2 and 7.5.3).
-use Rattle.std.specs.Prelude.{◌≡◌, ◌<◌, ◌^◌, ℕ, ◌+◌, List, [], ◌∷◌, length, Option, Some, None}
-use Rattle.std.specs.List.{AllByRecursion}
+use Rattle.std.specs.Prelude.{ℕ, ◌+◌, List, [], ◌∷◌, length, Option, Some, None}
 use Rattle.dw_leb.specs.declared.order.Format.{Format}
 use Rattle.dw_leb.specs.Number.{Unsigned, length_size, offset_size}
 use Rattle.dw_form.specs.declared.shape.Ctx.{Ctx}

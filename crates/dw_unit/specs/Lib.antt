@@ -16,3 +16,4 @@ pub mod Entries
 pub mod WholeUnit
 pub mod EntriesView
 pub mod LentEntry
+pub mod LentView

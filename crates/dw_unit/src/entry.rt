@@ -4,6 +4,7 @@ ghost use Rattle.dw_leb.specs.View.{uleb_of};
 ghost use Rattle.dw_leb.specs.Number.{length_size as length_bytes, offset_size as offset_bytes};
 ghost use Rattle.dw_unit.specs.LentEntry.{root_entry, header_size as header_bytes, added_size as added_bytes};
 
+use crate::attrs::Attrs;
 use crate::header::Header;
 use crate::kind::Kind;
 use crate::unit::Unit;
@@ -68,6 +69,25 @@ impl<'a> EntryRef<'a> {
         let unit = self.unit;
         match unit.table.get(unit.code.value) {
             Some(decl) => decl.tag().value,
+            None => unreachable!(),
+        }
+    }
+
+    /// Its attributes, in the order in which its declaration names them, which is that of their
+    /// values (section 7.5.2). No memory is taken.
+    pub fn attrs(&self) -> Attrs<'a>
+        ensures { result ≡ self.now.attributes }
+    {
+        let unit = self.unit;
+        let at = header_size(unit.header) + unit.code.width as u64;
+        match unit.table.get(unit.code.value) {
+            Some(decl) => Attrs::of(
+                unit.header.context(),
+                decl.pairs(),
+                unit.values.stored.as_slice(),
+                unit.values.pool.as_slice(),
+                at,
+            ),
             None => unreachable!(),
         }
     }

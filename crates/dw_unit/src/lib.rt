@@ -1,6 +1,7 @@
 //! Units of DWARF 5: headers, entries, and their reader and writer (section 7.5).
 #![tactic(auto)]
 
+mod attrs;
 mod bad;
 mod codes;
 mod entries;
@@ -13,6 +14,7 @@ mod reader;
 mod unit;
 mod values;
 
+pub use attrs::{AttrRef, Attrs};
 pub use entry::EntryRef;
 pub use head::read_header;
 pub use header::Header;
