@@ -47,7 +47,7 @@ module _ (k : Ctx) (c : Option Signed) where
     where
       by : (b : Bool) (via : Option Unsigned) → (by_indirection k c form b).Fits (record { via = via; value = a.value })
           → (by_indirection k (constant_in a.value) form b).Fits (record { via = via; value = a.value })
-            × ((by_indirection k (constant_in a.value) form b).spell (record { via = via; value = a.value }) ≡ (by_indirection k c form b).spell (record { via = via; value = a.value }))
+          × ((by_indirection k (constant_in a.value) form b).spell (record { via = via; value = a.value }) ≡ (by_indirection k c form b).spell (record { via = via; value = a.value }))
       by true via fits = (fits, refl)
       by false None fits = formed_same (shape form k.address_size k.format) a.value fits
       by false (Some u) fits = absurd fits

@@ -1,4 +1,4 @@
-use Rattle.std.proofs.Common.{◌≡◌, ◌∷◌, ◌+◌, ℕ, List, length, map, sym, ap, subst, ◌∙◌, arith, rules}
+use Rattle.std.proofs.Common.{◌≡◌, ◌+◌, ℕ, length, map, sym, ap, subst, ◌∙◌, arith, rules}
 use Rattle.dw_form.specs.Form.{Attribute}
 use Rattle.dw_form.specs.Kept.{content}
 use Rattle.dw_form.specs.Pieces.{HasSpelling, spelling}
