@@ -3,3 +3,4 @@ pub mod RootLemmas
 pub mod UnitLemmas
 pub mod WriteLemmas
 pub mod UnitWritten
+pub mod LentLemmas
