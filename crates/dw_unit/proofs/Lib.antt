@@ -1,0 +1,7 @@
+mod Samples
+mod NumberRows
+mod TableRows
+mod FormRows
+mod ValueRows
+mod HeaderRows
+mod UnitRows
