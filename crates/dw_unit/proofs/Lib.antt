@@ -5,3 +5,5 @@ mod FormRows
 mod ValueRows
 mod HeaderRows
 mod UnitRows
+mod EntryRows
+mod WrittenRows

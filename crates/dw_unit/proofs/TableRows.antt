@@ -3,26 +3,14 @@ use Rattle.std.specs.Prelude.{ℕ, negsuc, ◌≡◌, false, List, ◌∷◌, []
 use Rattle.std.specs.List.{repeat}
 use Rattle.std.proofs.Common.{refl}
 use Rattle.dw_leb.specs.declared.errors.Reason.TheVariants.{Truncated, LebTooLong, LebTooBig, AbbrevOffset, BadChildren, HalfPair, DuplicateCode, TooManyPairs}
-use Rattle.dw_leb.specs.Number.{Signed}
 use Rattle.dw_leb.specs.Reader.{Outcome, Found, Broken}
-use Rattle.dw_abbrev.specs.Table.{Pair, Declaration, Table}
+use Rattle.dw_abbrev.specs.Table.{Declaration, Table}
 use Rattle.dw_abbrev.specs.ReadTable.{read_table, read_table_at}
-use Rattle.dw_unit.proofs.Samples.{first_table, narrow}
-
--- widths of one byte
-abbrev pair : ℕ → ℕ → Option Signed → Pair
-pair name form constant = record { name = narrow name; form = narrow form; constant = constant }
-
--- without children, and with widths of one byte
-abbrev childless : ℕ → ℕ → List Pair → Declaration
-childless code tag pairs = record { code = narrow code; tag = narrow tag; children = false; pairs = pairs; name_zero = 1; form_zero = 1 }
-
-abbrev table_of : List Declaration → Table
-table_of declarations = record { declarations = declarations; last_zero = 1 }
+use Rattle.dw_unit.proofs.Samples.{first_table, narrow, pair, declaration, table_of}
 
 -- ---- tables that are read
 
-the_first_table : read_table_at first_table 0 ≡ Found (table_of (childless 1 0x11 (pair 3 8 None ∷ []) ∷ [])) 8
+the_first_table : read_table_at first_table 0 ≡ Found (table_of (declaration 1 0x11 false (pair 3 8 None ∷ []) ∷ [])) 8
 unfolding read_table read_table_at
 the_first_table = refl
 
@@ -36,21 +24,21 @@ unfolding read_table read_table_at
 widths_of_a_table = refl
 
 -- the constant of DW_FORM_implicit_const stands behind its form
-implicit_constant_table : read_table_at (0x01 ∷ 0x11 ∷ 0x00 ∷ 0x0b ∷ 0x21 ∷ 0xff ∷ 0x7f ∷ 0x00 ∷ 0x00 ∷ 0x00 ∷ []) 0 ≡ Found (table_of (childless 1 0x11 (pair 0x0b 0x21 (Some (record { value = negsuc 0; width = 2 })) ∷ []) ∷ [])) 10
+implicit_constant_table : read_table_at (0x01 ∷ 0x11 ∷ 0x00 ∷ 0x0b ∷ 0x21 ∷ 0xff ∷ 0x7f ∷ 0x00 ∷ 0x00 ∷ 0x00 ∷ []) 0 ≡ Found (table_of (declaration 1 0x11 false (pair 0x0b 0x21 (Some (record { value = negsuc 0; width = 2 })) ∷ []) ∷ [])) 10
 unfolding read_table read_table_at
 implicit_constant_table = refl
 
-second_table_of_a_section : read_table_at (first_table ++ (0x01 ∷ 0x11 ∷ 0x00 ∷ 0x0b ∷ 0x21 ∷ 0xff ∷ 0x7f ∷ 0x00 ∷ 0x00 ∷ 0x00 ∷ [])) 8 ≡ Found (table_of (childless 1 0x11 (pair 0x0b 0x21 (Some (record { value = negsuc 0; width = 2 })) ∷ []) ∷ [])) 10
+second_table_of_a_section : read_table_at (first_table ++ (0x01 ∷ 0x11 ∷ 0x00 ∷ 0x0b ∷ 0x21 ∷ 0xff ∷ 0x7f ∷ 0x00 ∷ 0x00 ∷ 0x00 ∷ [])) 8 ≡ Found (table_of (declaration 1 0x11 false (pair 0x0b 0x21 (Some (record { value = negsuc 0; width = 2 })) ∷ []) ∷ [])) 10
 unfolding read_table read_table_at
 second_table_of_a_section = refl
 
 -- an offset in the middle of one table can be the beginning of another
-table_from_the_middle : read_table_at (first_table ++ (0x01 ∷ 0x11 ∷ 0x00 ∷ 0x0b ∷ 0x21 ∷ 0xff ∷ 0x7f ∷ 0x00 ∷ 0x00 ∷ 0x00 ∷ [])) 3 ≡ Found (table_of (childless 3 8 [] ∷ childless 1 0x11 (pair 0x0b 0x21 (Some (record { value = negsuc 0; width = 2 })) ∷ []) ∷ [])) 15
+table_from_the_middle : read_table_at (first_table ++ (0x01 ∷ 0x11 ∷ 0x00 ∷ 0x0b ∷ 0x21 ∷ 0xff ∷ 0x7f ∷ 0x00 ∷ 0x00 ∷ 0x00 ∷ [])) 3 ≡ Found (table_of (declaration 3 8 false [] ∷ declaration 1 0x11 false (pair 0x0b 0x21 (Some (record { value = negsuc 0; width = 2 })) ∷ []) ∷ [])) 15
 unfolding read_table read_table_at
 table_from_the_middle = refl
 
 -- a table keeps a form that is not in the form table
-vendor_form_in_a_table : read_table_at (0x01 ∷ 0x11 ∷ 0x00 ∷ 0x0b ∷ 0x81 ∷ 0x3e ∷ 0x00 ∷ 0x00 ∷ 0x00 ∷ []) 0 ≡ Found (table_of (childless 1 0x11 (record { name = narrow 0x0b; form = record { value = 0x1f01; width = 2 }; constant = None } ∷ []) ∷ [])) 9
+vendor_form_in_a_table : read_table_at (0x01 ∷ 0x11 ∷ 0x00 ∷ 0x0b ∷ 0x81 ∷ 0x3e ∷ 0x00 ∷ 0x00 ∷ 0x00 ∷ []) 0 ≡ Found (table_of (declaration 1 0x11 false (record { name = narrow 0x0b; form = record { value = 0x1f01; width = 2 }; constant = None } ∷ []) ∷ [])) 9
 unfolding read_table read_table_at
 vendor_form_in_a_table = refl
 
