@@ -4,3 +4,12 @@ pub mod UnitLemmas
 pub mod WriteLemmas
 pub mod UnitWritten
 pub mod LentLemmas
+mod Samples
+mod NumberRows
+mod TableRows
+mod FormRows
+mod ValueRows
+mod HeaderRows
+mod UnitRows
+mod EntryRows
+mod WrittenRows
