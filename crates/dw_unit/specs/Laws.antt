@@ -14,21 +14,15 @@ use Rattle.dw_unit.specs.Unit.{Contents, Fails, UnitIn, UnitBreaks}
 use Rattle.dw_leb.specs.declared.errors.Section.{Section}
 use Rattle.dw_leb.specs.declared.errors.Section.TheVariants.{Info}
 
--- no spelling begins another, and each value has one spelling
-abbrev pub NoneBegins : {X : Type 0} → Part X → Type 0
-NoneBegins {X} P = (x y : X) (a b : List ℕ) → P.Fits x → P.Fits y → P.spell x ++ a ≡ P.spell y ++ b → (x ≡ y) × (a ≡ b)
-
--- bytes have at most one of: one value at the front within lim, one break
-abbrev pub OneAnswer : {X : Type 0} → Part X → Type 0
-OneAnswer {X} P = ((bytes : List ℕ) (lim m n : ℕ) (r s : Reason) → P.Break bytes lim m r → P.Break bytes lim n s → (m ≡ n) × (r ≡ s))
-    × ((x : X) (rest : List ℕ) (lim offset : ℕ) (reason : Reason) → P.Fits x → length (P.spell x) ≤ lim → P.Break (P.spell x ++ rest) lim offset reason → ⊥)
-
+-- bytes have at most one unit at the front
 abbrev pub OneUnit : Type 0
 OneUnit = (section bytes a b : List ℕ) (u v : Contents) → u.header.order ≡ v.header.order → UnitIn section u bytes a → UnitIn section v bytes b → u ≡ v
 
+-- a unit that can't be read has one fault
 abbrev pub OneFault : Type 0
 OneFault = (order : Order) (section bytes : List ℕ) (s z : Section) (m n : ℕ) (r q : Reason) → Fails order section bytes s m r → Fails order section bytes z n q → (s ≡ z) × (m ≡ n) × (r ≡ q)
 
+-- bytes have at most one of a unit at the front and a fault
 abbrev pub NotBoth : Type 0
 NotBoth = (section bytes rest : List ℕ) (u : Contents) (s : Section) (n : ℕ) (r : Reason) → UnitIn section u bytes rest → Fails u.header.order section bytes s n r → ⊥
 
@@ -37,6 +31,7 @@ abbrev pub SomeAnswer : Type 0
 SomeAnswer = (order : Order) (section bytes : List ℕ) → AllByRecursion (λ b. b < 256) section → AllByRecursion (λ b. b < 256) bytes
     → ((u : Contents) × (u.header.order ≡ order) × (rest : List ℕ) × UnitIn section u bytes rest) ⊎ ((s : Section) × (n : ℕ) × (r : Reason) × Fails order section bytes s n r)
 
+-- a break other than Truncated stays whatever bytes follow
 abbrev pub BreaksStay : Type 0
 BreaksStay = (order : Order) (t : Table) (bytes tail : List ℕ) (offset : ℕ) (reason : Reason) → reason ≢ Truncated → UnitBreaks order t bytes offset reason → UnitBreaks order t (bytes ++ tail) offset reason
 

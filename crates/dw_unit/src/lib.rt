@@ -10,6 +10,7 @@ mod fields;
 mod head;
 mod header;
 mod kind;
+pub mod laws;
 mod reader;
 mod unit;
 mod values;
