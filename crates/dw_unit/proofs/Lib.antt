@@ -13,3 +13,4 @@ mod HeaderRows
 mod UnitRows
 mod EntryRows
 mod WrittenRows
+pub mod RoundTrip

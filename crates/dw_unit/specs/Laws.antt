@@ -1,16 +1,17 @@
 -- The laws of the grammar.
-use Rattle.std.specs.Prelude.{◌∷◌, [], ◌≡◌, ◌≢◌, ℕ, ◌<◌, ◌≤◌, List, ◌++◌, length, ◌⊎◌}
+use Rattle.std.specs.Prelude.{◌∷◌, [], ◌≡◌, ◌≢◌, ℕ, ◌<◌, ◌≤◌, List, ◌++◌, length, take, ◌⊎◌}
 use Rattle.std.specs.List.{AllByRecursion}
 use Rattle.dw_leb.specs.declared.errors.Reason.{Reason}
 use Rattle.dw_leb.specs.declared.errors.Reason.TheVariants.{Truncated}
 use Rattle.dw_leb.specs.Part.{Part}
 use Rattle.dw_leb.specs.declared.order.Order.{Order}
-use Rattle.dw_abbrev.specs.Table.{Table}
+use Rattle.dw_abbrev.specs.Table.{Table, TableAt}
 use Rattle.std.specs.Prelude.{Some}
 use Rattle.dw_form.specs.declared.shape.Ctx.{Ctx}
 use Rattle.dw_unit.specs.Offset.{offset_at}
 use Rattle.dw_unit.specs.Tree.{Tree, tree}
-use Rattle.dw_unit.specs.Unit.{Contents, Fails, UnitIn, UnitBreaks}
+use Rattle.dw_unit.specs.Unit.{Contents, Fails, UnitFits, UnitIn, UnitBreaks}
+use Rattle.dw_unit.specs.WholeUnit.{WholeUnit, UnitAt, contents_of, bytes_of}
 use Rattle.dw_leb.specs.declared.errors.Section.{Section}
 use Rattle.dw_leb.specs.declared.errors.Section.TheVariants.{Info}
 
@@ -47,3 +48,17 @@ FaultsStay = (order : Order) (section bytes tail : List ℕ) (s : Section) (offs
 abbrev pub FrontsAreCut : Type 0
 FrontsAreCut = (section front : List ℕ) (b : ℕ) (more : List ℕ) (u : Contents) → AllByRecursion (λ b. b < 256) section → AllByRecursion (λ b. b < 256) front
     → UnitIn section u (front ++ b ∷ more) [] → (offset : ℕ) × Fails u.header.order section front Info offset Truncated
+
+-- what is read where a unit was written, over its table, is that unit with every width
+abbrev pub WrittenThenRead : Type 0
+WrittenThenRead = (section rest : List ℕ) (u v : WholeUnit) (size : ℕ) → TableAt section u.header.abbrev_offset u.table → UnitFits u.table (contents_of u)
+    → UnitAt section u.header.order (bytes_of u ++ rest) v size → u ≡ v
+
+-- and no fault
+abbrev pub WrittenIsRead : Type 0
+WrittenIsRead = (section rest : List ℕ) (u : WholeUnit) → TableAt section u.header.abbrev_offset u.table → UnitFits u.table (contents_of u)
+    → (s : Section) (n : ℕ) (r : Reason) → Fails u.header.order section (bytes_of u ++ rest) s n r → ⊥
+
+-- the bytes that a unit was read from are its one spelling
+abbrev pub ReadThenWritten : Type 0
+ReadThenWritten = (section : List ℕ) (order : Order) (bytes : List ℕ) (u : WholeUnit) (size : ℕ) → UnitAt section order bytes u size → take size bytes ≡ bytes_of u

@@ -8,7 +8,7 @@ ghost use Rattle.dw_form.specs.declared.shape.Ctx.{Ctx};
 ghost use Rattle.dw_abbrev.specs.Table.{Table};
 ghost use Rattle.dw_unit.specs.Header.{fields};
 ghost use Rattle.dw_unit.specs.Tree.{tree};
-ghost use Rattle.dw_unit.specs.Laws.{OneUnit, OneFault, NotBoth, SomeAnswer, BreaksStay, OneOffset, FaultsStay, FrontsAreCut};
+ghost use Rattle.dw_unit.specs.Laws.{OneUnit, OneFault, NotBoth, SomeAnswer, BreaksStay, OneOffset, FaultsStay, FrontsAreCut, WrittenThenRead, WrittenIsRead, ReadThenWritten};
 
 /// One spelling: no spelling of a header's fields begins another, nor that of a tree of entries, and
 /// bytes have at most one unit at the front.
@@ -35,6 +35,15 @@ pub fn outcomes_are_stable()
     ensures breaks { BreaksStay }
     ensures faults { FaultsStay }
     ensures fronts { FrontsAreCut }
+{}
+
+/// The round trip: what is read where a unit was written, over its table, is that unit with every
+/// width, and never a fault; and the bytes that a unit was read from are the unit's one spelling,
+/// which is what is written of it.
+pub fn round_trip()
+    ensures written_then_read { WrittenThenRead }
+    ensures never_refused { WrittenIsRead }
+    ensures read_then_written { ReadThenWritten }
 {}
 
 /// Offsets are distinct: two entries of a tree have two offsets.
