@@ -1,6 +1,7 @@
 //! The forms of DWARF 5 and the values of attributes (sections 7.5.5 and 7.5.6).
 #![tactic(auto)]
 
+pub mod laws;
 mod lend;
 mod read;
 mod shape;
