@@ -1,10 +1,12 @@
 //! Reading values.
-ghost use Rattle.std.specs.Prelude.{◌≡◌, ◌≤◌, ◌++◌, ℕ, length, vec_len, IfOk, IfErr, OnErr, option_map};
+ghost use Rattle.std.specs.Prelude.{◌≡◌, ◌≤◌, ◌++◌, ℕ, length, vec_len, vec_capacity, Err, IfOk, IfErr, OnErr, MatchResult, option_map};
 ghost use Rattle.dw_leb.specs.Part.{Taken};
 ghost use Rattle.dw_leb.specs.View.{sleb_of};
 ghost use Rattle.dw_form.specs.Form.{Attribute, attribute, IsContext};
 ghost use Rattle.dw_form.specs.Kept.{content, bytes_in, StoredFits};
-ghost use Rattle.dw_form.specs.Told.{Refuses};
+ghost use Rattle.dw_form.specs.Told.{Refuses, LacksRoom};
+ghost use Rattle.dw_form.specs.declared.read.ValueError.TheVariants.{Bad, NoMemory};
+ghost use Rattle.dw_leb.specs.declared.errors.Reason.{Reason};
 
 use crate::lend::lend_value;
 use crate::shape::Ctx;
@@ -42,9 +44,12 @@ pub fn read_value(
 ) -> Result<(Stored, usize), ValueError>
     requires { IsContext ctx }
     ensures found { IfOk result (λ x. Taken (attribute ctx form (option_map sleb_of implicit)) b.now lim (content pool.new.items x.0) x.1) }
+    ensures only { (x : Attribute) (size : ℕ) → Taken (attribute ctx form (option_map sleb_of implicit)) b.now lim x size → MatchResult result (λ y. (content pool.new.items y.0 ≡ x) × (y.1 ≡ size)) (λ e. e ≡ NoMemory) }
     ensures broken { IfErr result (Refuses (attribute ctx form (option_map sleb_of implicit)) b.now lim) }
     ensures pool { IfOk result (λ x. pool.new.items ≡ pool.old.items ++ bytes_in (content pool.new.items x.0)) }
     ensures fits { IfOk result (λ x. StoredFits (vec_len pool.new) x.0) }
+    ensures full { IfErr result (LacksRoom (attribute ctx form (option_map sleb_of implicit)) b.now lim (vec_len pool.old) (vec_capacity pool.old)) }
+    ensures untouched { (reason : Reason) → result ≡ Err (Bad reason) → pool.new ≡ pool.old }
     ensures unchanged { OnErr result (pool.new.items ≡ pool.old.items) }
     ensures room { IfOk result (λ x. (x.1 ≤ length b.now) × (x.1 ≤ lim)) }
 {

@@ -1,5 +1,5 @@
 //! Values of attributes, stored over a pool of bytes.
-ghost use Rattle.std.specs.Prelude.{◌≡◌, ◌+◌, ◌++◌, length, vec_len, IfOk, OnErr};
+ghost use Rattle.std.specs.Prelude.{◌≡◌, ◌<◌, ◌+◌, ◌++◌, length, vec_len, vec_capacity, IfOk, OnErr};
 ghost use Rattle.dw_form.specs.Lent.{attribute_of};
 ghost use Rattle.dw_form.specs.Kept.{content, bytes_in, StoredFits};
 
@@ -35,6 +35,7 @@ impl Stored {
         ensures content { IfOk result (λ s. content pool.new.items s ≡ attribute_of value.now) }
         ensures fits { IfOk result (λ s. StoredFits (vec_len pool.new) s) }
         ensures err { OnErr result (pool.new.items ≡ pool.old.items) }
+        ensures full { OnErr result (vec_capacity pool.old < vec_len pool.old + length (bytes_in (attribute_of value.now))) }
     {
         let start = pool.len();
         let kept = match value.value {
