@@ -1,5 +1,5 @@
 //! Values at the front of bytes, lent from them.
-ghost use Rattle.std.specs.Prelude.{◌≡◌, ◌==◌, ◌≤◌, ◌<◌, ◌+◌, ◌^◌, ℕ, length, min, IfOk, IfErr, IfSome, IsOkAnd, option_map};
+ghost use Rattle.std.specs.Prelude.{◌≡◌, ◌==◌, ◌≤◌, ◌<◌, ◌+◌, ◌^◌, ℕ, length, min, take, IfOk, IfErr, IfSome, IsOkAnd, option_map};
 ghost use Rattle.dw_leb.specs.Part.{Taken};
 ghost use Rattle.dw_leb.specs.Number.{unended};
 ghost use Rattle.dw_leb.specs.View.{sleb_of};
@@ -8,6 +8,7 @@ ghost use Rattle.dw_leb.specs.ReadNumber.{before_zero, bytes_of, read_text, read
 ghost use Rattle.dw_form.specs.Form.{Attribute, attribute, Block as TheBlock, IsFixedSize, ShapeFits, IsContext};
 ghost use Rattle.dw_form.specs.ReadForm.{fixed_from, indirect_from, read_shaped, read_formed, read_indirect, read_by_indirection, read_attribute};
 ghost use Rattle.dw_form.specs.Lent.{value_of, attribute_of, Lends, lent_outcome, ZeroAt};
+ghost use Rattle.dw_form.specs.Pieces.{HasSpelling, spelling};
 
 use crate::shape::{Ctx, Shape};
 use crate::value::{AttrValue, Value};
@@ -203,6 +204,8 @@ pub fn lend_value(
     requires { IsContext ctx }
     ensures found { IfOk result (λ x. Taken (attribute ctx form (option_map sleb_of implicit)) b.now lim (attribute_of x.0) x.1) }
     ensures only { (x : Attribute) (size : ℕ) → Taken (attribute ctx form (option_map sleb_of implicit)) b.now lim x size → IsOkAnd result (λ y. (attribute_of y.0 ≡ x) × (y.1 ≡ size)) }
+    ensures spelled { IfOk result (λ x. HasSpelling ctx form (attribute_of x.0)) }
+    ensures bytes { IfOk result (λ x. spelling ctx form (attribute_of x.0) ≡ take x.1 b.now) }
     ensures broken { IfErr result (λ reason. (attribute ctx form (option_map sleb_of implicit)).Break b.now lim 0 reason) }
     ensures exact { read_attribute ctx form (option_map sleb_of implicit) b.now lim ≡ lent_outcome attribute_of result }
     ensures room { IfOk result (λ x. (x.1 ≤ length b.now) × (x.1 ≤ lim)) }

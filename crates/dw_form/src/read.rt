@@ -1,9 +1,10 @@
 //! Reading values.
-ghost use Rattle.std.specs.Prelude.{◌≡◌, ◌≤◌, ◌++◌, ℕ, length, vec_len, vec_capacity, Err, IfOk, IfErr, OnErr, MatchResult, option_map};
+ghost use Rattle.std.specs.Prelude.{◌≡◌, ◌≤◌, ◌++◌, ℕ, length, take, vec_len, vec_capacity, Err, IfOk, IfErr, OnErr, MatchResult, option_map};
 ghost use Rattle.dw_leb.specs.Part.{Taken};
 ghost use Rattle.dw_leb.specs.View.{sleb_of};
 ghost use Rattle.dw_form.specs.Form.{Attribute, attribute, IsContext};
 ghost use Rattle.dw_form.specs.Kept.{content, bytes_in, StoredFits};
+ghost use Rattle.dw_form.specs.Pieces.{HasSpelling, spelling};
 ghost use Rattle.dw_form.specs.Told.{Refuses, LacksRoom};
 ghost use Rattle.dw_form.specs.declared.read.ValueError.TheVariants.{Bad, NoMemory};
 ghost use Rattle.dw_leb.specs.declared.errors.Reason.{Reason};
@@ -45,6 +46,8 @@ pub fn read_value(
     requires { IsContext ctx }
     ensures found { IfOk result (λ x. Taken (attribute ctx form (option_map sleb_of implicit)) b.now lim (content pool.new.items x.0) x.1) }
     ensures only { (x : Attribute) (size : ℕ) → Taken (attribute ctx form (option_map sleb_of implicit)) b.now lim x size → MatchResult result (λ y. (content pool.new.items y.0 ≡ x) × (y.1 ≡ size)) (λ e. e ≡ NoMemory) }
+    ensures spelled { IfOk result (λ x. HasSpelling ctx form (content pool.new.items x.0)) }
+    ensures bytes { IfOk result (λ x. spelling ctx form (content pool.new.items x.0) ≡ take x.1 b.now) }
     ensures broken { IfErr result (Refuses (attribute ctx form (option_map sleb_of implicit)) b.now lim) }
     ensures pool { IfOk result (λ x. pool.new.items ≡ pool.old.items ++ bytes_in (content pool.new.items x.0)) }
     ensures fits { IfOk result (λ x. StoredFits (vec_len pool.new) x.0) }

@@ -7,6 +7,7 @@ use Rattle.dw_leb.specs.Decide.{Says}
 use Rattle.dw_form.specs.Form.{attribute, Attribute}
 use Rattle.dw_form.specs.ReadForm.{read_attribute, read_by_indirection}
 use Rattle.dw_form.specs.DecideForm.{attribute_decides}
+use Rattle.dw_form.proofs.Spelled.{lent_spelled, lent_bytes}
 use Rattle.dw_form.specs.Lent.{attribute_of, lends_front, lent_found, lent_broken, lent_only}
 use Rattle.dw_form.proofs.lend.lend_value.Goals as goal
 
@@ -32,3 +33,9 @@ pub returns-clause-only : goal.returns-clause-only
 returns-clause-only c x size h =
     let constant = option_map sleb_of c.args.implicit in
     lent_only attribute_of (attribute c.args.ctx c.args.form constant) (read_attribute c.args.ctx c.args.form constant) (attribute_decides c.args.ctx c.args.form constant) c.args.b.now c.args.lim c.by_form.result (returns-clause-exact c) x size h
+
+pub returns-clause-spelled : goal.returns-clause-spelled
+returns-clause-spelled c = lent_spelled c.args.ctx c.args.form (option_map sleb_of c.args.implicit) c.args.b.now c.args.lim c.by_form.result (returns-clause-found c)
+
+pub returns-clause-bytes : goal.returns-clause-bytes
+returns-clause-bytes c = lent_bytes c.args.ctx c.args.form (option_map sleb_of c.args.implicit) c.args.b.now c.args.lim c.by_form.result (returns-clause-found c)
