@@ -6,6 +6,8 @@ mod lend;
 mod read;
 mod shape;
 mod stored;
+#[cfg(test)]
+mod tests;
 mod value;
 mod write;
 

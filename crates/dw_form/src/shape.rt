@@ -41,9 +41,9 @@ pub enum Shape {
 }
 
 impl Shape {
-    #[tactic(auto, unfolding(crate::specs::Form::shape))]
     /// The shape of a form by its number, in a unit of this address size (1 to 8) and format; None
     /// for a number that isn't in the form table.
+    #[tactic(auto, unfolding(crate::specs::Form::shape))]
     pub fn of(form: u64, address_size: u8, format: Format) -> Option<Shape>
         requires some { 1 ≤ address_size }
         requires most { address_size ≤ 8 }

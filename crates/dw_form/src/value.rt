@@ -3,7 +3,7 @@
 use dw_leb::{Sleb, Uleb};
 
 /// A value as it is written, its bytes being lent.
-#[derive(Clone, Copy, Debug)]
+#[derive(Clone, Copy, Debug, PartialEq, Eq)]
 pub enum Value<'a> {
     /// A number in 1 to 8 bytes: how many is the form's affair.
     Num(u64),
@@ -29,7 +29,7 @@ pub enum Value<'a> {
 }
 
 /// The value of an attribute.
-#[derive(Clone, Copy, Debug)]
+#[derive(Clone, Copy, Debug, PartialEq, Eq)]
 pub struct AttrValue<'a> {
     /// The form that an indirect value names; None for any other value.
     pub via: Option<Uleb>,

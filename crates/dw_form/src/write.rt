@@ -51,10 +51,7 @@ fn write_pieces<W: Write>(
     write_all(writer, tail(&value.value))
 }
 
-fn write_via<W: Write>(
-    value: &AttrValue<'_>,
-    writer: &mut Watched<W>,
-) -> Result<(), WriteError>
+fn write_via<W: Write>(value: &AttrValue<'_>, writer: &mut Watched<W>) -> Result<(), WriteError>
     requires { fault_of writer.old ≡ None }
     ensures written { Wrote (W.contents (inner_of writer.old)) (W.contents (inner_of writer.new)) (via_bytes (attribute_of value.now).via) result }
     ensures fault { fault_of writer.new ≡ told_by_write result }
@@ -132,7 +129,11 @@ fn head(ctx: Ctx, shape: Shape, value: &Value<'_>) -> ArrayVec<u8, 16>
     match (shape, value) {
         (Shape::Fixed(n), Value::Num(x)) => write_fixed(ctx.order, n, *x as u128),
         (Shape::Fixed(n), Value::Wide(x)) => write_fixed(ctx.order, n, *x),
-        (Shape::Counted(n), Value::Block { bytes, .. }) => write_fixed(ctx.order, n, bytes.len() as u128),
+        (Shape::Counted(n), Value::Block { bytes, .. }) => write_fixed(
+            ctx.order,
+            n,
+            bytes.len() as u128,
+        ),
         (Shape::CountedUleb, Value::Block { width, bytes }) => counted(bytes.len() as u64, *width),
         (_, Value::Uleb(x)) => x.bytes(),
         (_, Value::Sleb(x)) => x.bytes(),
