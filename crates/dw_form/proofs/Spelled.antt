@@ -1,13 +1,13 @@
 -- What was lent has a spelling: the bytes that it was lent from.
 use Rattle.std.specs.Prelude.{◌≡◌, ℕ, List, take, Option, Result, Ok, Err, IfOk}
-use Rattle.std.proofs.Common.{◌++◌, length, refl, sym, ap, ◌∙◌}
+use Rattle.std.proofs.Common.{sym, ap, ◌∙◌}
 use Rattle.std.proofs.lemmas.List.{take_at}
-use Rattle.dw_leb.specs.Part.{Part, Taken}
+use Rattle.dw_leb.specs.Part.{Taken}
 use Rattle.dw_leb.specs.declared.errors.Reason.{Reason}
 use Rattle.dw_leb.specs.Number.{Signed}
 use Rattle.dw_form.specs.declared.shape.Ctx.{Ctx}
 use Rattle.dw_form.specs.declared.value.AttrValue.{AttrValue}
-use Rattle.dw_form.specs.Form.{Attribute, attribute}
+use Rattle.dw_form.specs.Form.{attribute}
 use Rattle.dw_form.specs.Lent.{attribute_of}
 use Rattle.dw_form.specs.Pieces.{HasSpelling, spelling, has_spelling}
 

@@ -1,5 +1,5 @@
 -- What a stored value stands for.
-use Rattle.std.specs.Prelude.{◌≡◌, ◌≤◌, ◌+◌, ℕ, List, [], ◌++◌, length, take, drop, option_map}
+use Rattle.std.specs.Prelude.{◌≤◌, ◌+◌, ℕ, List, [], take, drop, option_map}
 use Rattle.dw_leb.specs.View.{uleb_of, sleb_of}
 use Rattle.dw_form.specs.Form.{Attribute, Value, Num, Wide, Uleb, Sleb, Block, Text, Present, Implicit}
 use Rattle.dw_form.specs.declared.stored.Stored.{Stored}

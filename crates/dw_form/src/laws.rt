@@ -10,16 +10,19 @@ ghost use Rattle.dw_form.specs.Form.{attribute};
 /// One spelling: under one form and constant no value's spelling begins another value's, so each
 /// value has one.
 pub fn one_spelling()
-    ensures { (ctx : Ctx) (form : ℕ) (implicit : Option Signed) → NoneBegins (attribute ctx form implicit) }
+    ensures { (ctx : Ctx) (form : ℕ) (implicit : Option Signed) →
+        NoneBegins (attribute ctx form implicit) }
 {}
 
 /// One outcome: bytes have exactly one of a value at the front, within the bytes that are left to
 /// the unit, and a break; and a break stands at one place for one reason.
 pub fn one_outcome()
-    ensures { (ctx : Ctx) (form : ℕ) (implicit : Option Signed) → OneAnswer (attribute ctx form implicit) }
+    ensures { (ctx : Ctx) (form : ℕ) (implicit : Option Signed) →
+        OneAnswer (attribute ctx form implicit) }
 {}
 
 /// Outcomes are stable: a break whose reason isn't `Truncated` stays whatever bytes follow.
 pub fn outcomes_are_stable()
-    ensures { (ctx : Ctx) (form : ℕ) (implicit : Option Signed) → Stays (attribute ctx form implicit).Break }
+    ensures { (ctx : Ctx) (form : ℕ) (implicit : Option Signed) →
+        Stays (attribute ctx form implicit).Break }
 {}

@@ -1,4 +1,4 @@
-use Rattle.std.proofs.Common.{ℕ, List, subst, arith}
+use Rattle.std.proofs.Common.{subst, arith}
 use Rattle.std.specs.Prelude.{option_map, ◌==◌}
 use Rattle.dw_leb.specs.View.{sleb_of}
 use Rattle.dw_leb.specs.Field.{are_bytes}
