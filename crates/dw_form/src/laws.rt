@@ -1,11 +1,13 @@
 //! Laws of the definitions, for every context, form and constant of a declaration. They call
 //! nothing.
-ghost use Rattle.std.specs.Prelude.{◌≡◌, ℕ, Option};
+ghost use Rattle.std.specs.Prelude.{◌≡◌, ◌≤◌, ◌++◌, ℕ, List, length, Option};
 ghost use Rattle.dw_leb.specs.Number.{Signed};
 ghost use Rattle.dw_leb.specs.Laws.{NoneBegins, OneAnswer};
 ghost use Rattle.dw_leb.specs.Stay.{Stays};
 ghost use Rattle.dw_form.specs.declared.shape.Ctx.{Ctx};
+ghost use Rattle.dw_form.specs.declared.stored.Stored.{Stored};
 ghost use Rattle.dw_form.specs.Form.{attribute};
+ghost use Rattle.dw_form.specs.Kept.{StoredFits, content};
 
 /// One spelling: under one form and constant no value's spelling begins another value's, so each
 /// value has one.
@@ -25,4 +27,12 @@ pub fn one_outcome()
 pub fn outcomes_are_stable()
     ensures { (ctx : Ctx) (form : ℕ) (implicit : Option Signed) →
         Stays (attribute ctx form implicit).Break }
+{}
+
+/// A stored value stays in a pool to which bytes are added at the end: it still lies in the pool,
+/// and is the same value.
+pub fn stored_values_stay()
+    ensures fits { (m n : ℕ) (s : Stored) → m ≤ n → StoredFits m s → StoredFits n s }
+    ensures content { (pool more : List ℕ) (s : Stored) → StoredFits (length pool) s →
+        content (pool ++ more) s ≡ content pool s }
 {}

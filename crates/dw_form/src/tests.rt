@@ -2,7 +2,7 @@
 //! spare, and a pool that grows by nothing that was only announced.
 ghost use Rattle.dw_form.specs.Form.{IsContext};
 
-use crate::laws::{one_outcome, one_spelling, outcomes_are_stable};
+use crate::laws::{one_outcome, one_spelling, outcomes_are_stable, stored_values_stay};
 use crate::{
     AttrValue, Ctx, Shape, Stored, Value, ValueError, lend_value, read_value, size_of, write_value,
 };
@@ -580,4 +580,5 @@ fn laws_are_called() {
     one_spelling();
     one_outcome();
     outcomes_are_stable();
+    stored_values_stay();
 }

@@ -13,9 +13,9 @@ use dw_leb::{Uleb, Watched, WriteError, write_all, write_fixed};
 use std::io::Write;
 
 /// Writes a value under form `form`, where it has a spelling: it is one of the form's shape, or
-/// under indirect one of the shape of the form in `via`, and its numbers and lengths fit their
-/// bytes. What was read under a form has one. After an error, which is the writer's, a beginning of
-/// the spelling was written. No memory is taken.
+/// under indirect one of the shape of the form in `via`, its numbers and lengths fit their bytes,
+/// and its text has no zero byte. What was read under a form has a spelling. After an error, which
+/// is the writer's, a beginning of the spelling was written. No memory is taken.
 pub fn write_value<W: Write>(
     ctx: Ctx,
     form: u64,
