@@ -53,8 +53,8 @@ fn pooled<'a>(value: &Value<'a>) -> &'a [u8] {
     }
 }
 
-/// Lends, reads, sizes and writes the value that `spelled` spells. A byte follows it, and the pool
-/// has one already.
+/// Lends, reads, sizes and writes the value that `spelled` spells. It ends the input, the unit, both
+/// or neither, and the pool has a byte already.
 fn check(
     rt: &impl Abort,
     alloc: Global,
@@ -69,8 +69,14 @@ fn check(
     let size = spelled.len();
     let mut input = Vec::from_slice(alloc, spelled)?;
     input.push(0xee)?;
-    let b = input.as_slice();
-    for lim in [size as u64, u64::MAX] {
+    let longer = input.as_slice();
+    let end = size as u64;
+    for (b, lim) in [
+        (spelled, end),
+        (spelled, u64::MAX),
+        (longer, end),
+        (longer, u64::MAX),
+    ] {
         let (lent, taken) = lend_value(ctx, form, implicit, b, lim)?;
         assert!(rt; lent == want, "lent under {form} in {ctx:?}");
         assert_eq!(rt; taken, size, "lent under {form} in {ctx:?}");
