@@ -6,6 +6,8 @@ mod bad;
 mod codes;
 mod entries;
 mod entry;
+#[cfg(test)]
+mod entry_tests;
 mod fields;
 mod head;
 mod header;
