@@ -1,23 +1,22 @@
 -- The steps of reading values and padding.
-use Rattle.std.proofs.Common.{◌≡◌, ◌≤◌, ◌<◌, ◌+◌, ◌-◌, ℕ, zero, suc, Bool, true, false, List, [], ◌∷◌, ◌++◌, length, take, drop, get_or, Option, Some, None, Err, refl, sym, ap, subst, ◌∙◌, append_assoc, append-nil, arith}
-use Rattle.std.specs.Prelude.{map, if◌then◌else◌, ◌==◌}
+use Rattle.std.proofs.Common.{◌≡◌, ◌≤◌, ◌<◌, ◌+◌, ◌-◌, ℕ, zero, suc, List, [], ◌∷◌, ◌++◌, length, take, drop, get_or, Err, refl, sym, ap, ◌∙◌, append_assoc, append-nil, arith}
+use Rattle.std.specs.Prelude.{map}
 use Rattle.std.specs.List.{AllByRecursion}
-use Rattle.std.proofs.lemmas.Bool.{eqb-true, ne_eqb, eq-eqb}
-use Rattle.std.proofs.lemmas.List.{take-append-le, drop-append-le, drop-drop, length-drop, length-append, map-append}
+use Rattle.std.proofs.lemmas.List.{take-append-le, drop-append-le, drop-drop, length-drop, map-append}
 use Rattle.dw_leb.specs.declared.errors.Reason.{Reason}
 use Rattle.dw_leb.specs.Part.{Part, Taken}
-use Rattle.dw_leb.specs.Number.{Unsigned, Signed}
-use Rattle.dw_leb.specs.Reader.{Outcome, Found, Broken, Reader, mapped, paired, behind, ◌and_then◌, checked}
+use Rattle.dw_leb.specs.Number.{Unsigned}
+use Rattle.dw_leb.specs.Reader.{Outcome, Found, Broken, Reader, mapped, paired, behind, checked}
 use Rattle.dw_leb.specs.ReadNumber.{read_uleb}
 use Rattle.dw_leb.specs.Decide.{Decides}
 use Rattle.dw_form.specs.declared.shape.Ctx.{Ctx}
 use Rattle.dw_form.specs.declared.stored.Stored.{Stored}
 use Rattle.dw_form.specs.declared.stored.Kept.{Kept}
 use Rattle.dw_form.specs.declared.stored.Kept.TheVariants as kept
-use Rattle.dw_form.specs.Form.{Attribute, Value, Block, Text, attribute}
+use Rattle.dw_form.specs.Form.{Attribute, Value, Block, Text}
 use Rattle.dw_form.specs.ReadForm.{read_attribute}
 use Rattle.dw_form.specs.DecideForm.{attribute_decides}
-use Rattle.dw_form.specs.Kept.{content, kept_value, KeptFits, StoredFits, bytes_in}
+use Rattle.dw_form.specs.Kept.{content, kept_value, KeptFits, StoredFits}
 use Rattle.dw_abbrev.specs.Table.{Pair}
 use Rattle.dw_abbrev.specs.PairView.{pair_of}
 use Rattle.dw_abbrev.specs.declared.pair.Pair.{Pair as RustPair}

@@ -1,5 +1,5 @@
 -- The root entry and the padding behind it, by the plain reader.
-use Rattle.std.proofs.Common.{◌≡◌, ◌≤◌, ◌<◌, ◌+◌, ◌-◌, ℕ, suc, Bool, true, false, List, length, drop, Option, Some, None, Err, refl, sym, ap, subst, ◌∙◌, arith}
+use Rattle.std.proofs.Common.{◌≡◌, ◌+◌, ◌-◌, ℕ, suc, false, List, length, drop, Some, Err, refl, ap, subst, ◌∙◌, arith}
 use Rattle.dw_leb.specs.declared.errors.Reason.{Reason}
 use Rattle.dw_leb.specs.Number.{Unsigned}
 use Rattle.dw_leb.specs.Reader.{Outcome, Found, Broken, Reader, mapped, paired, behind, checked, read_optional}
@@ -9,8 +9,8 @@ use Rattle.dw_form.specs.Form.{Attribute}
 use Rattle.dw_abbrev.specs.Table.{Table, Declaration, declared}
 use Rattle.dw_unit.specs.declared.bad.BodyError.{BodyError}
 use Rattle.dw_unit.specs.declared.bad.BodyError.TheVariants as errors
-use Rattle.dw_unit.specs.Tree.{Tree, leaf, Forest, Body, pairs_of, children_of, bad_root, nesting}
-use Rattle.dw_unit.specs.ReadUnit.{read_values, read_body, read_children, read_tree, read_padding, read_entries, node_from}
+use Rattle.dw_unit.specs.Tree.{Tree, leaf, Forest, pairs_of, children_of, bad_root, nesting}
+use Rattle.dw_unit.specs.ReadUnit.{read_values, read_children, read_tree, read_padding, read_entries, node_from}
 use Rattle.dw_unit.specs.Entries.{root_then, IsLeafCode}
 use Rattle.dw_unit.specs.Told.{Tells, error_behind}
 

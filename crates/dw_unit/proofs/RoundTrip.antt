@@ -1,5 +1,5 @@
 -- The round trip: what was written is read again, and what was read is written again.
-use Rattle.std.proofs.Common.{◌≡◌, ℕ, List, ◌++◌, length, take, refl, sym, ap, subst, ◌∙◌}
+use Rattle.std.proofs.Common.{◌≡◌, ℕ, List, ◌++◌, take, refl, sym, ap, subst, ◌∙◌}
 use Rattle.std.proofs.lemmas.List.{take_at}
 use Rattle.dw_leb.specs.declared.errors.Reason.{Reason}
 use Rattle.dw_leb.specs.declared.errors.Section.{Section}
@@ -10,7 +10,7 @@ use Rattle.dw_abbrev.specs.Table.{Table, TableAt}
 use Rattle.dw_unit.specs.DecideUnit.{unit_take, unit_fault}
 use Rattle.dw_unit.specs.Header.{Header}
 use Rattle.dw_unit.specs.ReadUnit.{Unit, Fault, read_unit}
-use Rattle.dw_unit.specs.Tree.{Tree, leaf}
+use Rattle.dw_unit.specs.Tree.{leaf}
 use Rattle.dw_unit.specs.Unit.{Contents, UnitFits, UnitIn, Fails}
 use Rattle.dw_unit.specs.WholeUnit.{WholeUnit, UnitAt, contents_of, bytes_of}
 use Rattle.dw_unit.proofs.UnitLemmas.{same_table}

@@ -1,16 +1,13 @@
 -- Units: what is read stands at the front, and what is refused fails.
-use Rattle.std.proofs.Common.{◌≡◌, ◌≤◌, ◌+◌, ◌-◌, ◌++◌, ℕ, List, length, drop, Err, refl, sym, ap, subst, ◌∙◌, append_assoc, arith, inl, inr}
-use Rattle.std.specs.List.{AllByRecursion}
+use Rattle.std.proofs.Common.{◌≡◌, ◌+◌, ◌-◌, ◌++◌, ℕ, List, length, drop, Err, sym, ap, subst, ◌∙◌, append_assoc}
 use Rattle.std.proofs.lemmas.List.{drop_at, length-append}
-use Rattle.dw_leb.specs.declared.errors.Reason.{Reason}
 use Rattle.dw_leb.specs.declared.errors.ReadError.{ReadError}
 use Rattle.dw_leb.specs.declared.errors.ReadError.TheVariants as reads
-use Rattle.dw_leb.specs.declared.errors.Section.TheVariants.{Info, Abbrev}
 use Rattle.dw_leb.specs.declared.errors.Section.{Section}
 use Rattle.dw_leb.specs.declared.order.Order.{Order}
 use Rattle.dw_leb.specs.Number.{initial_length}
 use Rattle.dw_leb.specs.Reader.{Outcome, Found, Broken}
-use Rattle.dw_leb.specs.Decide.{AreBytes, AreBytes-behind, found, found_value}
+use Rattle.dw_leb.specs.Decide.{AreBytes, AreBytes-behind, found_value}
 use Rattle.dw_form.specs.declared.shape.Ctx.{Ctx}
 use Rattle.dw_abbrev.specs.Table.{Table, TableAt, table}
 use Rattle.dw_abbrev.specs.Tells as tables
@@ -22,9 +19,9 @@ use Rattle.dw_unit.specs.HeadRead.{HeadFound}
 use Rattle.dw_unit.specs.HeaderLemmas.{header_back}
 use Rattle.dw_unit.specs.Tree.{Tree}
 use Rattle.dw_unit.specs.Unit.{header_of, Contents, UnitFits, UnitIn, unit_bytes, Fails}
-use Rattle.dw_unit.specs.ReadUnit.{read_entries, answer_entries, Answer, Unit, Fault, header_from}
+use Rattle.dw_unit.specs.ReadUnit.{read_entries, answer_entries, Unit, header_from}
 use Rattle.dw_unit.specs.DecideUnit.{EntriesSay, AnswerSays, entries_say, entries_answer}
-use Rattle.dw_unit.specs.WholeUnit.{WholeUnit, UnitAt, TellsFault, contents_of, bytes_of, unit_error_of}
+use Rattle.dw_unit.specs.WholeUnit.{WholeUnit, UnitAt, TellsFault, contents_of, unit_error_of}
 use Rattle.dw_unit.specs.Told.{Tells}
 
 -- one table stands at a place

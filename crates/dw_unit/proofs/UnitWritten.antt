@@ -1,5 +1,5 @@
 -- The one spelling of a unit, in the parts in which it is written.
-use Rattle.std.proofs.Common.{◌≡◌, ◌+◌, ◌-◌, ℕ, List, ◌++◌, length, sym, ap, ◌∙◌, append_assoc, arith}
+use Rattle.std.proofs.Common.{◌≡◌, ◌-◌, ℕ, List, ◌++◌, length, ap, ◌∙◌, append_assoc, arith}
 use Rattle.std.proofs.lemmas.List.{length-append}
 use Rattle.dw_leb.specs.Number.{initial_length, length_size}
 use Rattle.dw_leb.specs.DecideNumber.{initial-size}

@@ -1,17 +1,17 @@
 -- Writing: what is spelled one behind the other.
-use Rattle.std.proofs.Common.{◌≡◌, ◌+◌, ◌-◌, ◌<◌, ◌≤◌, ◌^◌, ℕ, Bool, true, false, cond, List, [], ◌∷◌, ◌++◌, length, Option, Some, None, Err, Ok, Result, refl, sym, ap, subst, ◌∙◌, append-nil, arith}
-use Rattle.std.specs.Prelude.{map, ◌==◌, nat_le, nat_lt, ◌&&◌, if◌then◌else◌}
+use Rattle.std.proofs.Common.{◌≡◌, ◌<◌, ◌^◌, ℕ, Bool, true, false, List, [], ◌∷◌, ◌++◌, length, Option, Some, None, refl, ap, subst, ◌∙◌, append-nil, arith}
+use Rattle.std.specs.Prelude.{◌==◌, nat_le, nat_lt, ◌&&◌, if◌then◌else◌}
 use Rattle.dw_leb.specs.declared.errors.Reason.TheVariants.{ReservedLength}
 use Rattle.dw_leb.specs.declared.order.Order.{Order}
 use Rattle.dw_leb.specs.declared.order.Format.{Format}
 use Rattle.dw_leb.specs.declared.order.Format.TheVariants.{Dwarf32, Dwarf64}
-use Rattle.dw_leb.specs.Part.{Part, optional}
+use Rattle.dw_leb.specs.Part.{optional}
 use Rattle.dw_leb.specs.Number.{Unsigned, Signed, uleb, fixed, reserved, initial_length, FitsLength}
-use Rattle.std.proofs.lemmas.Bool.{ltb-true, ltb-false, lt-leb, le-leb, eqb-true, eq-eqb, ne_eqb}
+use Rattle.std.proofs.lemmas.Bool.{ltb-true, ltb-false, le-leb, eq-eqb}
 use Rattle.dw_form.specs.declared.shape.Ctx.{Ctx}
 use Rattle.dw_form.specs.declared.shape.Shape.{Shape}
 use Rattle.dw_form.specs.declared.shape.Shape.TheVariants as shapes
-use Rattle.dw_form.specs.Form.{Attribute, Value, Num, Wide, Uleb, Sleb, Block, Text, Present, Implicit, attribute, shape, shaped, shaped_if, by_indirection}
+use Rattle.dw_form.specs.Form.{Attribute, Value, Implicit, attribute, shape, shaped, shaped_if, by_indirection}
 use Rattle.dw_form.specs.Pieces.{HasSpelling, spelling, constant_in}
 use Rattle.dw_abbrev.specs.Table.{Pair, Declaration, Table, declared}
 use Rattle.dw_unit.specs.Tree.{values, tree, leaf, pairs_of, children_of}

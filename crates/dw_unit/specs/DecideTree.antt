@@ -5,10 +5,10 @@ use Rattle.std.proofs.lemmas.Bool.{eqb-true, eqb-false, ne_eqb}
 use Rattle.std.proofs.lemmas.List.{drop_at, length-append}
 use Rattle.dw_leb.specs.declared.errors.Reason.{Reason}
 use Rattle.dw_leb.specs.declared.errors.Reason.TheVariants.{SecondRoot, TooDeep}
-use Rattle.dw_leb.specs.Part.{Breaks, Part, After, FitsAs, spelled_as, ◌then◌, judged, whole, seen, nothing, optional, refused, Taken}
+use Rattle.dw_leb.specs.Part.{Breaks, Part, After, ◌then◌, judged, nothing, optional, refused, Taken}
 use Rattle.dw_leb.specs.declared.order.Order.{Order}
 use Rattle.dw_leb.specs.declared.order.Format.{Format}
-use Rattle.dw_leb.specs.Number.{offset_size, Unsigned, uleb, uleb_groups, fixed, marked}
+use Rattle.dw_leb.specs.Number.{offset_size, Unsigned, uleb, fixed}
 use Rattle.dw_leb.specs.Repeat.{repeated, ItemsFit}
 use Rattle.dw_leb.specs.Reader.{Outcome, Found, Broken, Reader, ◌and_then◌, behind, paired, mapped, checked, returned}
 use Rattle.dw_leb.specs.ReadNumber.{read_uleb}

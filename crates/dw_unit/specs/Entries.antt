@@ -1,5 +1,5 @@
 -- Entries as they are read one after the other: what was read so far stands before the reading of the rest.
-use Rattle.std.specs.Prelude.{◌≡◌, ℕ, ◌+◌, List, [], ◌∷◌, ◌++◌, map, Option, Some, false}
+use Rattle.std.specs.Prelude.{◌≡◌, ℕ, ◌+◌, List, ◌++◌, map, Some, false}
 use Rattle.std.proofs.Common.{refl}
 use Rattle.dw_leb.specs.Part.{Part}
 use Rattle.dw_leb.specs.Reader.{Outcome, Found, Broken}

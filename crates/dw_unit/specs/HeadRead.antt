@@ -1,18 +1,16 @@
 -- A header and its unit_length at the front of bytes: what stands there, and what the plain reader reads.
-use Rattle.std.specs.Prelude.{◌≡◌, ℕ, ◌+◌, ◌-◌, ◌≤◌, List, ◌++◌, length, drop, Result, Ok, Err, IfOk, IfErr}
+use Rattle.std.specs.Prelude.{◌≡◌, ℕ, ◌+◌, ◌-◌, ◌≤◌, List, ◌++◌, length, drop}
 use Rattle.std.proofs.Common.{refl, sym, ap, subst, ◌∙◌, arith, inl, inr}
 use Rattle.std.proofs.lemmas.List.{drop_at}
-use Rattle.dw_leb.specs.declared.errors.Reason.{Reason}
-use Rattle.dw_leb.specs.declared.errors.Section.{Section}
 use Rattle.dw_leb.specs.declared.errors.Section.TheVariants.{Info}
 use Rattle.dw_leb.specs.declared.errors.Fault.{Fault}
 use Rattle.dw_leb.specs.declared.order.Order.{Order}
 use Rattle.dw_leb.specs.declared.order.Format.{Format}
-use Rattle.dw_leb.specs.Number.{initial_length, length_size, length_limit}
+use Rattle.dw_leb.specs.Number.{initial_length, length_limit}
 use Rattle.dw_leb.specs.Reader.{Outcome, Found, Broken}
 use Rattle.dw_leb.specs.ReadNumber.{read_length}
 use Rattle.dw_leb.specs.Decide.{Says, AreBytes, AreBytes-behind}
-use Rattle.dw_leb.specs.DecideNumber.{initial_length_decides, initial_within}
+use Rattle.dw_leb.specs.DecideNumber.{initial_length_decides}
 use Rattle.dw_unit.specs.Header.{Header, Fields, fields, fields_of}
 use Rattle.dw_unit.specs.Unit.{Headed, HeaderBreaks}
 use Rattle.dw_unit.specs.ReadUnit.{read_fields, header_from}

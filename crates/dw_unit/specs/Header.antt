@@ -1,5 +1,5 @@
 -- Unit headers (section 7.5.1).
-use Rattle.std.specs.Prelude.{◌≡◌, ◌≤◌, ◌<◌, ◌^◌, ℕ, List, [], ◌∷◌, Option, Some, None, nat_lt, ◌==◌, if◌then◌else◌, ◌&&◌}
+use Rattle.std.specs.Prelude.{◌≤◌, ◌<◌, ◌^◌, ℕ, List, [], ◌∷◌, Option, Some, None, nat_lt, ◌==◌, if◌then◌else◌, ◌&&◌}
 use Rattle.dw_leb.specs.declared.errors.Reason.{Reason}
 use Rattle.dw_leb.specs.declared.errors.Reason.TheVariants.{BadVersion, BadUnitType, BadAddressSize}
 use Rattle.dw_leb.specs.Part.{Part, ◌then◌, judged, seen, nothing}

@@ -1,5 +1,5 @@
 -- Headers that fit, and their fields.
-use Rattle.std.proofs.Common.{◌≡◌, ◌≤◌, ◌<◌, ◌^◌, ℕ, Bool, true, false, cond, Some, None, List, [], ◌∷◌, refl, ap, arith}
+use Rattle.std.proofs.Common.{◌≡◌, ◌≤◌, ◌<◌, ◌^◌, ℕ, Bool, true, false, cond, Some, None, refl, ap, arith}
 use Rattle.std.specs.Prelude.{nat_lt, ◌&&◌, if◌then◌else◌}
 use Rattle.std.proofs.lemmas.Bool.{ltb-true, lt-ltb, and_parts}
 use Rattle.dw_leb.specs.declared.errors.Reason.TheVariants.{BadAddressSize, BadUnitType}
@@ -7,7 +7,7 @@ use Rattle.dw_leb.specs.declared.order.Order.{Order}
 use Rattle.dw_leb.specs.declared.order.Format.{Format}
 use Rattle.dw_unit.specs.declared.kind.Kind.{Kind}
 use Rattle.dw_unit.specs.declared.kind.Kind.TheVariants.{Compile, Partial, TypeUnit, Skeleton}
-use Rattle.dw_unit.specs.Header.{Header, Fields, fields, fields_of, numbers, added_sizes, bad_address_size, kind_number, kind_fields, KindFits, HeaderFits}
+use Rattle.dw_unit.specs.Header.{Header, fields, fields_of, numbers, added_sizes, bad_address_size, kind_number, kind_fields, KindFits, HeaderFits}
 use Rattle.dw_unit.specs.ReadUnit.{kind_from, header_from}
 
 address_range : (a : ℕ) → bad_address_size a ≡ None → (1 ≤ a) × (a ≤ 8)

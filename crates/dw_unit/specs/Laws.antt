@@ -1,9 +1,8 @@
 -- The laws of the grammar.
-use Rattle.std.specs.Prelude.{◌∷◌, [], ◌≡◌, ◌≢◌, ℕ, ◌<◌, ◌≤◌, List, ◌++◌, length, take, ◌⊎◌}
+use Rattle.std.specs.Prelude.{◌∷◌, [], ◌≡◌, ◌≢◌, ℕ, ◌<◌, List, ◌++◌, take, ◌⊎◌}
 use Rattle.std.specs.List.{AllByRecursion}
 use Rattle.dw_leb.specs.declared.errors.Reason.{Reason}
 use Rattle.dw_leb.specs.declared.errors.Reason.TheVariants.{Truncated}
-use Rattle.dw_leb.specs.Part.{Part}
 use Rattle.dw_leb.specs.declared.order.Order.{Order}
 use Rattle.dw_abbrev.specs.Table.{Table, TableAt}
 use Rattle.std.specs.Prelude.{Some}

@@ -1,10 +1,10 @@
 -- Entries, their trees, and the padding after them (sections 2.3 and 7.5.2).
-use Rattle.std.specs.Prelude.{◌≡◌, ℕ, zero, suc, ◌<◌, Bool, true, false, List, [], ◌∷◌, ◌++◌, Option, Some, None, if◌then◌else◌, pos}
+use Rattle.std.specs.Prelude.{ℕ, zero, suc, ◌<◌, Bool, true, false, List, [], ◌∷◌, ◌++◌, Option, Some, None, if◌then◌else◌}
 use Rattle.std.specs.List.{AllByRecursion}
 use Rattle.dw_leb.specs.declared.errors.Reason.{Reason}
 use Rattle.dw_leb.specs.declared.errors.Reason.TheVariants.{NoRoot, UnknownCode, TooDeep, SecondRoot, NotYet}
 use Rattle.dw_leb.specs.Part.{Breaks, Part, After, ◌then◌, judged, seen, nothing, optional, refused}
-use Rattle.dw_leb.specs.Number.{Unsigned, Signed, uleb}
+use Rattle.dw_leb.specs.Number.{Unsigned, uleb}
 use Rattle.dw_leb.specs.Repeat.{repeated}
 use Rattle.dw_form.specs.declared.shape.Ctx.{Ctx}
 use Rattle.dw_form.specs.Form.{Attribute, attribute}

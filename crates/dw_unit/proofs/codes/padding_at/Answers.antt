@@ -1,9 +1,8 @@
-use Rattle.std.proofs.Common.{◌≡◌, ◌≤◌, ◌<◌, ◌+◌, ◌-◌, ◌++◌, ◌∷◌, [], ℕ, List, suc, length, take, drop, vec_len, sym, ap, subst, ◌∙◌, arith, rules, length-drop}
+use Rattle.std.proofs.Common.{◌≡◌, ◌<◌, ◌+◌, ◌-◌, ◌++◌, ◌∷◌, [], ℕ, List, length, take, drop, vec_len, sym, ap, subst, ◌∙◌, arith, rules, length-drop}
 use Rattle.std.proofs.lemmas.List.{take_all, drop-drop}
 use Rattle.dw_leb.specs.View.{uleb_of}
-use Rattle.dw_leb.specs.Reader.{checked, Outcome, Found, Broken}
+use Rattle.dw_leb.specs.Reader.{checked, Found, Broken}
 use Rattle.dw_leb.specs.ReadNumber.{read_uleb}
-use Rattle.dw_leb.specs.declared.errors.Reason.{Reason}
 use Rattle.dw_unit.specs.declared.bad.Bad.{Bad}
 use Rattle.dw_unit.specs.Tree.{not_null}
 use Rattle.dw_unit.specs.ReadUnit.{read_padding}

@@ -1,9 +1,8 @@
-use Rattle.std.proofs.Common.{◌≡◌, ◌≤◌, ◌<◌, ◌-◌, ℕ, List, suc, Err, length, take, drop, vec_items, Global, sym, ap, subst, ◌∙◌, arith, length-drop}
-use Rattle.std.proofs.lemmas.List.{take_all, length-take-le}
+use Rattle.std.proofs.Common.{◌≡◌, ◌<◌, ◌-◌, ℕ, List, suc, Err, length, take, drop, vec_items, Global, ap, subst, ◌∙◌, arith, length-drop}
+use Rattle.std.proofs.lemmas.List.{take_all}
 use Rattle.std.proofs.lemmas.Result.{err_from_is_err_and}
-use Rattle.dw_leb.specs.Reader.{Outcome, Found, paired}
-use Rattle.dw_unit.specs.Tree.{Tree}
-use Rattle.dw_unit.specs.ReadUnit.{read_tree, read_padding, read_entries}
+use Rattle.dw_leb.specs.Reader.{Found, paired}
+use Rattle.dw_unit.specs.ReadUnit.{read_padding}
 use Rattle.dw_unit.specs.Entries.{root_view}
 use Rattle.dw_unit.specs.EntriesView.{entries_of}
 use Rattle.dw_unit.specs.Told.{Tells}

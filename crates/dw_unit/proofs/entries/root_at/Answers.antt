@@ -1,14 +1,12 @@
-use Rattle.std.proofs.Common.{◌≡◌, ◌≤◌, ◌-◌, false, ℕ, List, Some, length, take, drop, sym, ap, subst, ◌∙◌, arith, length-drop}
+use Rattle.std.proofs.Common.{◌≡◌, ◌-◌, false, ℕ, List, Some, length, take, drop, sym, ap, subst, ◌∙◌, arith, length-drop}
 use Rattle.std.specs.Prelude.{map}
 use Rattle.std.proofs.lemmas.List.{take_all}
 use Rattle.dw_leb.specs.View.{uleb_of}
-use Rattle.dw_leb.specs.Reader.{Outcome, Found}
-use Rattle.dw_form.specs.Form.{Attribute}
+use Rattle.dw_leb.specs.Reader.{Found}
 use Rattle.dw_abbrev.specs.Table.{Declaration, Pair, declared}
 use Rattle.dw_abbrev.specs.PairView.{pair_of}
-use Rattle.dw_unit.specs.declared.bad.BodyError.{BodyError}
-use Rattle.dw_unit.specs.ReadUnit.{read_values, read_tree}
-use Rattle.dw_unit.specs.Entries.{values_of, root_view, root_then, IsLeafCode}
+use Rattle.dw_unit.specs.ReadUnit.{read_values}
+use Rattle.dw_unit.specs.Entries.{values_of, root_view, root_then}
 use Rattle.dw_unit.specs.Told.{Tells}
 use Rattle.std.proofs.Common.{Err}
 use Rattle.dw_unit.proofs.RootLemmas.{root_breaks, root_goes, tells_root, leaf_children}

@@ -1,8 +1,7 @@
-use Rattle.std.proofs.Common.{◌≡◌, ◌≤◌, ◌-◌, ◌+◌, ℕ, List, Ok, Err, length, take, drop, sym, ap, subst, ◌∙◌, refl, arith, inl, length-drop}
+use Rattle.std.proofs.Common.{◌≡◌, ◌-◌, ℕ, List, Err, length, take, drop, sym, subst, refl, arith, inl, length-drop}
 use Rattle.std.proofs.lemmas.List.{take_all}
 use Rattle.std.proofs.lemmas.Result.{err_from_is_err_and}
 use Rattle.dw_leb.specs.declared.errors.Fault.{Fault}
-use Rattle.dw_leb.specs.declared.errors.ReadError.{ReadError}
 use Rattle.dw_leb.specs.Reader.{Outcome, Found}
 use Rattle.dw_leb.specs.Field.{are_bytes}
 use Rattle.dw_leb.specs.View.{uleb_of}
@@ -11,13 +10,12 @@ use Rattle.dw_abbrev.specs.Table.{Table, TableAt}
 use Rattle.dw_abbrev.specs.Tells as tables
 use Rattle.dw_unit.specs.Header.{Header, context_of}
 use Rattle.dw_unit.specs.HeadRead.{Heading, HeadFound, HeadSays, head_says}
-use Rattle.dw_unit.specs.Tree.{Tree, leaf}
 use Rattle.dw_unit.specs.Unit.{Fails, HeaderBreaks}
 use Rattle.dw_unit.specs.ReadUnit.{read_entries}
 use Rattle.dw_unit.specs.Entries.{values_of, IsLeafCode}
 use Rattle.dw_unit.specs.EntriesView.{entries_of}
 use Rattle.dw_unit.specs.Told.{Tells}
-use Rattle.dw_unit.specs.WholeUnit.{WholeUnit, UnitAt, TellsFault, contents_of}
+use Rattle.dw_unit.specs.WholeUnit.{WholeUnit}
 use Rattle.dw_unit.proofs.UnitLemmas.{unit_found, unit_broken, table_broken}
 use Rattle.dw_unit.proofs.reader.read_unit.Goals as goal
 

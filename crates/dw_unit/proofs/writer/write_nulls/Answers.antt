@@ -1,8 +1,8 @@
-use Rattle.std.proofs.Common.{◌≡◌, ◌∷◌, ℕ, List, Option, subst}
+use Rattle.std.proofs.Common.{ℕ, List, Option, subst}
 use Rattle.std.proofs.lemmas.Result.{err_from_is_err_and}
 use Rattle.dw_leb.specs.Number.{uleb}
 use Rattle.dw_leb.specs.Watch.{inner_of}
-use Rattle.dw_leb.specs.Towards.{Towards, towards_start, towards_step, towards_fails}
+use Rattle.dw_leb.specs.Towards.{Towards, towards_step, towards_fails}
 use Rattle.dw_abbrev.specs.Table.{zero_of}
 use Rattle.dw_unit.specs.Tree.{nulls, AreNulls}
 use Rattle.dw_unit.proofs.writer.write_nulls.Goals as goal

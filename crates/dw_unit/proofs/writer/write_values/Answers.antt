@@ -1,18 +1,16 @@
-use Rattle.std.proofs.Common.{◌≡◌, ◌∷◌, ◌∙◌, [], ℕ, List, Option, length, sym, ap, subst}
+use Rattle.std.proofs.Common.{ℕ, List, Option, length, ap, subst}
 use Rattle.std.specs.Prelude.{map}
 use Rattle.std.specs.List.{AllByRecursion}
 use Rattle.std.proofs.lemmas.Result.{err_from_is_err_and}
 use Rattle.dw_leb.specs.Watch.{inner_of}
-use Rattle.dw_leb.specs.Towards.{Towards, towards_step, towards_fails, towards_end}
-use Rattle.dw_form.specs.Form.{Attribute, attribute}
+use Rattle.dw_leb.specs.Towards.{Towards, towards_step, towards_fails}
 use Rattle.dw_form.specs.Kept.{content, StoredFits}
 use Rattle.dw_form.specs.declared.stored.Stored.{Stored}
-use Rattle.dw_abbrev.specs.Table.{Pair}
 use Rattle.dw_abbrev.specs.PairView.{pair_of}
 use Rattle.dw_abbrev.specs.declared.pair.Pair.{Pair as RustPair}
 use Rattle.dw_unit.specs.Tree.{values}
 use Rattle.dw_unit.specs.Entries.{contents, value_part}
-use Rattle.dw_unit.proofs.WriteLemmas.{values_next, values_missing, values_done, no_items}
+use Rattle.dw_unit.proofs.WriteLemmas.{values_next}
 use Rattle.dw_unit.proofs.writer.write_values.Goals as goal
 
 pub returns-in_err-write_one-in-Some-split_first-clause-written : goal.returns-in_err-write_one-in-Some-split_first-clause-written

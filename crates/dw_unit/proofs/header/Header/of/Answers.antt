@@ -1,5 +1,5 @@
 use Rattle.std.proofs.Common.{sym}
-use Rattle.dw_unit.specs.HeaderLemmas.{header_fits, header_back}
+use Rattle.dw_unit.specs.HeaderLemmas.{header_back}
 use Rattle.dw_unit.proofs.header.Header.of.Goals as goal
 
 pub returns : goal.returns
