@@ -27,7 +27,7 @@ at_number n (row ∷ rows) = if row.0 == n then Some row.1 else at_number n rows
 unfoldable pub shape : ℕ → ℕ → Format → Option Shape
 shape form address_size format = at_number form (forms address_size format)
 
--- the sizes of fixed numbers
+-- a fixed number has 1 to 8 bytes, or 16
 abbrev pub IsFixedSize : ℕ → Type 0
 IsFixedSize n = (1 ≤ n) × (n ≤ 16) × (9 ≤ n → n ≡ 16)
 

@@ -8,6 +8,7 @@ use Rattle.dw_form.specs.declared.stored.Stored.{Stored}
 use Rattle.dw_form.specs.declared.stored.Kept.{Kept}
 use Rattle.dw_form.specs.declared.stored.Kept.TheVariants as kept
 
+-- the value without its indirect form
 abbrev pub kept_value : List ℕ → Kept → Value
 kept_value pool (kept.Num x) = Num x
 kept_value pool (kept.Wide x) = Wide x
@@ -22,6 +23,7 @@ kept_value pool (kept.Implicit s) = Implicit (sleb_of s)
 abbrev pub content : List ℕ → Stored → Attribute
 content pool s = record { via = option_map uleb_of s.via; value = kept_value pool s.value }
 
+-- the content of a text or block
 abbrev pub value_bytes : Value → List ℕ
 value_bytes (Block width bytes) = bytes
 value_bytes (Text bytes) = bytes
@@ -31,12 +33,13 @@ value_bytes _ = []
 abbrev pub bytes_in : Attribute → List ℕ
 bytes_in a = value_bytes a.value
 
+-- the span of a value lies in a pool of n bytes
 abbrev pub KeptFits : ℕ → Kept → Type 0
 KeptFits n (kept.Block width start len) = start + len ≤ n
 KeptFits n (kept.Text start len) = start + len ≤ n
 KeptFits n _ = Unit {0}
 
--- the span of a value lies in a pool of n bytes
+-- the same of the whole
 abbrev pub StoredFits : ℕ → Stored → Type 0
 StoredFits n s = KeptFits n s.value
 

@@ -38,6 +38,7 @@ abbrev pub tail_of : Value → List ℕ
 tail_of (Text bytes) = 0 ∷ []
 tail_of v = []
 
+-- the three pieces
 abbrev pub pieces_of : Ctx → Shape → Value → List ℕ
 pieces_of k s v = head_of k s v ++ (content_of v ++ tail_of v)
 
@@ -56,6 +57,7 @@ abbrev pub via_bytes : Option Unsigned → List ℕ
 via_bytes None = []
 via_bytes (Some u) = uleb.spell u
 
+-- the same behind the form that an indirect value names
 abbrev pub all_pieces : Ctx → Shape → Attribute → List ℕ
 all_pieces k s a = via_bytes a.via ++ pieces_of k s a.value
 
