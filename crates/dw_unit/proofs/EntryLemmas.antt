@@ -1,8 +1,8 @@
 -- The steps of reading values and padding.
-use Rattle.std.proofs.Common.{◌≡◌, ◌≤◌, ◌<◌, ◌+◌, ◌-◌, ℕ, zero, suc, List, [], ◌∷◌, ◌++◌, length, take, drop, get_or, Err, refl, sym, ap, ◌∙◌, append_assoc, append-nil, arith}
+use Rattle.std.proofs.Common.{◌≡◌, ◌≤◌, ◌<◌, ◌+◌, ◌-◌, ℕ, zero, suc, List, [], ◌∷◌, ◌++◌, length, drop, get_or, Err, refl, sym, ap, ◌∙◌, append_assoc, append-nil, arith}
 use Rattle.std.specs.Prelude.{map}
 use Rattle.std.specs.List.{AllByRecursion}
-use Rattle.std.proofs.lemmas.List.{take-append-le, drop-append-le, drop-drop, length-drop, map-append}
+use Rattle.std.proofs.lemmas.List.{drop-drop, map-append}
 use Rattle.dw_leb.specs.declared.errors.Reason.{Reason}
 use Rattle.dw_leb.specs.Part.{Part, Taken}
 use Rattle.dw_leb.specs.Number.{Unsigned}
@@ -11,12 +11,10 @@ use Rattle.dw_leb.specs.ReadNumber.{read_uleb}
 use Rattle.dw_leb.specs.Decide.{Decides}
 use Rattle.dw_form.specs.declared.shape.Ctx.{Ctx}
 use Rattle.dw_form.specs.declared.stored.Stored.{Stored}
-use Rattle.dw_form.specs.declared.stored.Kept.{Kept}
-use Rattle.dw_form.specs.declared.stored.Kept.TheVariants as kept
-use Rattle.dw_form.specs.Form.{Attribute, Value, Block, Text}
+use Rattle.dw_form.specs.Form.{Attribute}
 use Rattle.dw_form.specs.ReadForm.{read_attribute}
 use Rattle.dw_form.specs.DecideForm.{attribute_decides}
-use Rattle.dw_form.specs.Kept.{content, kept_value, KeptFits, StoredFits}
+use Rattle.dw_form.specs.Kept.{content, StoredFits, content_stays, stored_fits}
 use Rattle.dw_abbrev.specs.Table.{Pair}
 use Rattle.dw_abbrev.specs.PairView.{pair_of}
 use Rattle.dw_abbrev.specs.declared.pair.Pair.{Pair as RustPair}
@@ -48,41 +46,13 @@ taken_reads P R it bytes lim x size h =
 
 -- ---- stored values in a pool that grows
 
-span_stays : (pool more : List ℕ) (start len : ℕ) → start + len ≤ length pool → take len (drop start (pool ++ more)) ≡ take len (drop start pool)
-span_stays pool more start len h =
-    let shorter : length (drop start pool) ≡ length pool - start = length-drop start pool in
-    ap (take len) (drop-append-le start pool more (omega (arith, h))) ∙ take-append-le len (drop start pool) more (omega (arith, h, shorter))
-
-kept_stays : (pool more : List ℕ) (v : Kept) → KeptFits (length pool) v → kept_value (pool ++ more) v ≡ kept_value pool v
-kept_stays pool more (kept.Num x) h = refl
-kept_stays pool more (kept.Wide x) h = refl
-kept_stays pool more (kept.Uleb u) h = refl
-kept_stays pool more (kept.Sleb s) h = refl
-kept_stays pool more (kept.Block width start len) h = ap (Block width) (span_stays pool more start len h)
-kept_stays pool more (kept.Text start len) h = ap Text (span_stays pool more start len h)
-kept_stays pool more kept.Present h = refl
-kept_stays pool more (kept.Implicit s) h = refl
-
-kept_room : (m n : ℕ) (v : Kept) → m ≤ n → KeptFits m v → KeptFits n v
-kept_room m n (kept.Num x) le h = tt
-kept_room m n (kept.Wide x) le h = tt
-kept_room m n (kept.Uleb u) le h = tt
-kept_room m n (kept.Sleb s) le h = tt
-kept_room m n (kept.Block width start len) le h = omega (arith, le, h)
-kept_room m n (kept.Text start len) le h = omega (arith, le, h)
-kept_room m n kept.Present le h = tt
-kept_room m n (kept.Implicit s) le h = tt
-
-content_stays : (pool more : List ℕ) (s : Stored) → StoredFits (length pool) s → content (pool ++ more) s ≡ content pool s
-content_stays pool more s h = ap (λ (v : Value). (record { via = (content pool s).via; value = v })) (kept_stays pool more s.value h)
-
 pub contents_stay : (pool more : List ℕ) (xs : List Stored) → AllByRecursion (StoredFits (length pool)) xs → contents xs (pool ++ more) ≡ contents xs pool
 contents_stay pool more [] h = refl
 contents_stay pool more (x ∷ xs) h = rw (content_stays pool more x h.0, contents_stay pool more xs h.1) refl
 
 pub all_room : (m n : ℕ) (xs : List Stored) → m ≤ n → AllByRecursion (StoredFits m) xs → AllByRecursion (StoredFits n) xs
 all_room m n [] le h = tt
-all_room m n (x ∷ xs) le h = (kept_room m n x.value le h.0, all_room m n xs le h.1)
+all_room m n (x ∷ xs) le h = (stored_fits m n x le h.0, all_room m n xs le h.1)
 
 pub all_push : (P : Stored → Type 0) (xs : List Stored) (x : Stored) → AllByRecursion P xs → P x → AllByRecursion P (xs ++ x ∷ [])
 all_push P [] x h k = (k, tt)
