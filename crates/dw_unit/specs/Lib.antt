@@ -15,3 +15,5 @@ pub mod HeadRead
 pub mod Entries
 pub mod WholeUnit
 pub mod EntriesView
+pub mod LentEntry
+pub mod LentView

@@ -1,9 +1,11 @@
 //! Units of DWARF 5: headers, entries, and their reader and writer (section 7.5).
 #![tactic(auto)]
 
+mod attrs;
 mod bad;
 mod codes;
 mod entries;
+mod entry;
 mod fields;
 mod head;
 mod header;
@@ -13,6 +15,8 @@ mod unit;
 mod values;
 mod writer;
 
+pub use attrs::{AttrRef, Attrs};
+pub use entry::EntryRef;
 pub use head::read_header;
 pub use header::Header;
 pub use kind::Kind;
