@@ -1,1 +1,2 @@
 pub mod Zero
+pub mod Spelled

@@ -1,19 +1,19 @@
 -- Values: each reader decides its part, and breaks of values stay.
-use Rattle.std.proofs.Common.{◌≡◌, ℕ, ◌+◌, Bool, true, false, cond, List, length, Option, Some, None, refl, sym, ap}
+use Rattle.std.proofs.Common.{◌≡◌, ℕ, Bool, true, false, cond, List, length, Option, Some, None, refl, sym, ap}
 use Rattle.std.specs.Prelude.{if◌then◌else◌, ◌==◌}
 use Rattle.std.proofs.lemmas.Bool.{eqb-true, eq-eqb}
-use Rattle.dw_leb.specs.Part.{Part, ◌then◌, judged, seen, nothing}
+use Rattle.dw_leb.specs.Part.{◌then◌, judged, nothing}
 use Rattle.dw_leb.specs.declared.order.Order.{Order}
 use Rattle.dw_leb.specs.Number.{fixed, content, text, Unsigned, Signed, uleb, sleb}
-use Rattle.dw_leb.specs.Reader.{Reader, returned}
-use Rattle.dw_leb.specs.ReadNumber.{read_fixed, read_text, read_uleb, read_sleb}
+use Rattle.dw_leb.specs.Reader.{returned}
+use Rattle.dw_leb.specs.ReadNumber.{read_text, read_uleb, read_sleb}
 use Rattle.dw_leb.specs.Decide.{Decides, IsView, then_decides, judged_decides, whole_decides, seen_decides, nothing_decides, exactly_decides, refused_decides}
 use Rattle.dw_leb.specs.Stay.{Stays, then_stays, judged_stays, whole_stays, nothing_stays, refused_stays}
 use Rattle.dw_leb.specs.Digits.{content_decides, fixed_decides, text_decides, Short_stays, text_stays}
 use Rattle.dw_leb.specs.DecideNumber.{uleb_decides, uleb_stays, sleb_decides, sleb_stays}
 use Rattle.dw_form.specs.declared.shape.Ctx.{Ctx}
 use Rattle.dw_form.specs.declared.shape.Shape.{Shape}
-use Rattle.dw_form.specs.Form.{shape, Value, Num, Wide, Uleb, Sleb, Block, Text, Present, Implicit, Attribute, as_fixed, as_unsigned, as_signed, as_counted, as_counted_unsigned, as_text, as_flag, constant, shaped, shaped_if, formed, as_direct, as_indirect, bad_inner, indirect, by_indirection, attribute}
+use Rattle.dw_form.specs.Form.{shape, Value, Num, Wide, Uleb, Sleb, Block, Text, Present, Implicit, as_fixed, as_unsigned, as_signed, as_counted, as_counted_unsigned, as_text, as_flag, constant, shaped, shaped_if, formed, as_direct, as_indirect, bad_inner, indirect, by_indirection, attribute}
 use Rattle.dw_form.specs.ReadForm.{fixed_from, read_constant, read_shaped, read_shaped_if, read_formed, direct_from, indirect_from, read_by_indirection, read_attribute}
 use Rattle.dw_form.specs.declared.shape.Shape.TheVariants as shapes
 
@@ -21,10 +21,6 @@ use Rattle.dw_form.specs.declared.shape.Shape.TheVariants as shapes
 chosen : {A : Type 0} (v : Bool) (x y : A) → cond v (Some x) None ≡ Some y → (v ≡ true) × (x ≡ y)
 chosen true x y e = (refl, cc)
 chosen false x y e = absurd cc
-
-chosen_else : {A : Type 0} (v : Bool) (x y : A) → cond v None (Some x) ≡ Some y → (v ≡ false) × (x ≡ y)
-chosen_else true x y e = absurd cc
-chosen_else false x y e = (refl, cc)
 
 fixed_view : (order : Order) (n : ℕ) → IsView (fixed order n) (as_fixed n) (fixed_from n)
 fixed_view order n = record { back = λ x a e fits. back x a e; there = λ a fits. there (n == 16) a }
@@ -46,11 +42,6 @@ fixed_view order n = record { back = λ x a e fits. back x a e; there = λ a fit
     back (Text b) a e = absurd cc
     back Present a e = absurd cc
     back (Implicit c) a e = absurd cc
-
-    pick : Bool → Value → Option ℕ
-    pick v (Num x) = if v then None else Some x
-    pick v (Wide x) = if v then Some x else None
-    pick v x = None
 
     there : (v : Bool) (a : ℕ) → as_fixed n (fixed_from n a) ≡ Some a
     there v a = at (n == 16) refl

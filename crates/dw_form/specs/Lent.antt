@@ -1,10 +1,11 @@
 -- Lent values as values of the grammar.
-use Rattle.std.specs.Prelude.{◌≡◌, ℕ, List, take, Option, Some, None, option_map, Result, Ok, Err, IfOk, IfErr}
+use Rattle.std.specs.Prelude.{◌≡◌, ◌≤◌, ℕ, List, length, take, Option, Some, None, option_map, Result, Ok, Err, IfOk, IfErr, IsOkAnd}
+use Rattle.std.proofs.Common.{sym, ap, ◌∙◌, arith}
 use Rattle.dw_leb.specs.Part.{Part, Taken}
-use Rattle.dw_leb.specs.Decide.{Says}
+use Rattle.dw_leb.specs.Decide.{Decides, Says, found_value, found_broken}
 use Rattle.dw_leb.specs.View.{uleb_of, sleb_of}
 use Rattle.dw_leb.specs.declared.errors.Reason.{Reason}
-use Rattle.dw_leb.specs.Reader.{Outcome, Found, Broken, mapped, at_front}
+use Rattle.dw_leb.specs.Reader.{Reader, Outcome, Found, Broken, mapped, at_front}
 use Rattle.dw_form.specs.Form as grammar
 use Rattle.dw_form.specs.declared.value.Value.{Value}
 use Rattle.dw_form.specs.declared.value.Value.TheVariants as values
@@ -63,3 +64,14 @@ lent_found view P bytes lim (Err reason) h = tt
 pub lent_broken : {X Y : Type 0} (view : X → Y) (P : Part Y) (bytes : List ℕ) (lim : ℕ) (r : Result (X × ℕ) Reason) → Says P bytes lim (lent_outcome view r) → IfErr r (λ reason. P.Break bytes lim 0 reason)
 lent_broken view P bytes lim (Ok x) h = tt
 lent_broken view P bytes lim (Err reason) h = h
+
+pub lent_only : {X Y : Type 0} (view : X → Y) (P : Part Y) (R : Reader Y) → Decides P R → (bytes : List ℕ) (lim : ℕ) (r : Result (X × ℕ) Reason) → R bytes lim ≡ lent_outcome view r
+    → (y : Y) (size : ℕ) → Taken P bytes lim y size → IsOkAnd r (λ x. (view x.0 ≡ y) × (x.1 ≡ size))
+lent_only {X} {Y} view P R it bytes lim r e y size h = by r (sym e ∙ ap (λ (b : List ℕ). R b lim) h.split ∙ it.takes y h.rest lim h.fits within)
+  where
+    within : length (P.spell y) ≤ lim
+    within = omega (arith, h.is_size, h.within)
+
+    by : (r : Result (X × ℕ) Reason) → lent_outcome view r ≡ Found y (length (P.spell y)) → IsOkAnd r (λ x. (view x.0 ≡ y) × (x.1 ≡ size))
+    by (Ok x) same = let w = found_value (view x.0) y x.1 (length (P.spell y)) same in (w.0, w.1 ∙ h.is_size)
+    by (Err reason) same = absurd (found_broken Y y (length (P.spell y)) 0 reason (sym same))

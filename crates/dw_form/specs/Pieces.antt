@@ -7,7 +7,7 @@ use Rattle.dw_leb.specs.DecideNumber.{fits_uleb}
 use Rattle.dw_form.specs.declared.shape.Ctx.{Ctx}
 use Rattle.dw_form.specs.declared.shape.Shape.{Shape}
 use Rattle.dw_form.specs.declared.shape.Shape.TheVariants as shapes
-use Rattle.dw_form.specs.Form.{Value, Num, Wide, Uleb, Sleb, Block, Text, Present, Implicit, Attribute, shape, shaped, shaped_if, formed, by_indirection, attribute}
+use Rattle.dw_form.specs.Form.{Value, Num, Wide, Uleb, Sleb, Block, Text, Present, Implicit, Attribute, shape, shaped, shaped_if, by_indirection, attribute}
 
 -- before the content: a number, or a block's length
 abbrev pub head_of : Ctx → Shape → Value → List ℕ
@@ -136,3 +136,36 @@ form_known k form c a fits e = by (form == 0x16) a.via e fits
     by true (Some u) e fits = shaped_some k None (shape u.value k.address_size k.format) a.value fits.1 e
     by false None e fits = shaped_some k c (shape form k.address_size k.format) a.value fits e
     by false (Some u) e fits = fits
+
+-- ---- the declaration's constant is needed by the value of implicit_const alone, and is that value
+
+shaped_alone : (k : Ctx) (c : Option Signed) (s : Shape) (v : Value) → (shaped k c s).Fits v → (shaped k (constant_in v) s).Fits v × ((shaped k (constant_in v) s).spell v ≡ (shaped k c s).spell v)
+unfolding shaped
+shaped_alone k None shapes.Implicit v fits = absurd fits
+shaped_alone k (Some x) shapes.Implicit (Implicit y) fits = (refl, refl)
+shaped_alone k (Some x) shapes.Implicit _ fits = absurd cc
+shaped_alone k c (shapes.Fixed n) v fits = (fits, refl)
+shaped_alone k c shapes.Uleb v fits = (fits, refl)
+shaped_alone k c shapes.Sleb v fits = (fits, refl)
+shaped_alone k c (shapes.Counted n) v fits = (fits, refl)
+shaped_alone k c shapes.CountedUleb v fits = (fits, refl)
+shaped_alone k c shapes.Text v fits = (fits, refl)
+shaped_alone k c shapes.Present v fits = (fits, refl)
+shaped_alone k c shapes.Indirect v fits = absurd fits
+
+formed_alone : (k : Ctx) (c : Option Signed) (o : Option Shape) (v : Value) → (shaped_if k c o).Fits v → (shaped_if k (constant_in v) o).Fits v × ((shaped_if k (constant_in v) o).spell v ≡ (shaped_if k c o).spell v)
+formed_alone k c None v fits = absurd fits
+formed_alone k c (Some s) v fits = shaped_alone k c s v fits
+
+-- a value that fits under a declaration's constant has a spelling, and that is it
+pub has_spelling : (k : Ctx) (form : ℕ) (c : Option Signed) (a : Attribute) → (attribute k form c).Fits a → HasSpelling k form a × (spelling k form a ≡ (attribute k form c).spell a)
+unfolding attribute
+has_spelling k form c a fits = by (form == 0x16) a.via fits
+  where
+    by : (b : Bool) (via : Option Unsigned) → (by_indirection k c form b).Fits (record { via = via; value = a.value })
+        → (by_indirection k (constant_in a.value) form b).Fits (record { via = via; value = a.value })
+        × ((by_indirection k (constant_in a.value) form b).spell (record { via = via; value = a.value }) ≡ (by_indirection k c form b).spell (record { via = via; value = a.value }))
+    by true None fits = absurd fits
+    by true (Some u) fits = (fits, refl)
+    by false None fits = formed_alone k c (shape form k.address_size k.format) a.value fits
+    by false (Some u) fits = absurd fits

@@ -1,20 +1,21 @@
 //! Values at the front of bytes, lent from them.
-ghost use Rattle.std.specs.Prelude.{◌≡◌, ◌==◌, ◌≤◌, ◌<◌, ◌+◌, ◌^◌, ℕ, length, min, IfOk, IfErr, IfSome, option_map};
+ghost use Rattle.std.specs.Prelude.{◌≡◌, ◌==◌, ◌≤◌, ◌<◌, ◌+◌, ◌^◌, ℕ, length, min, take, IfOk, IfErr, IfSome, IsOkAnd, option_map};
 ghost use Rattle.dw_leb.specs.Part.{Taken};
 ghost use Rattle.dw_leb.specs.Number.{unended};
 ghost use Rattle.dw_leb.specs.View.{sleb_of};
 ghost use Rattle.dw_leb.specs.Reader.{made, ◌and_then◌};
 ghost use Rattle.dw_leb.specs.ReadNumber.{before_zero, bytes_of, read_text, read_uleb, read_sleb, read_fixed as fixed_reader};
-ghost use Rattle.dw_form.specs.Form.{attribute, Block as TheBlock, IsFixedSize, ShapeFits, IsContext};
+ghost use Rattle.dw_form.specs.Form.{Attribute, attribute, Block as TheBlock, IsFixedSize, ShapeFits, IsContext};
 ghost use Rattle.dw_form.specs.ReadForm.{fixed_from, indirect_from, read_shaped, read_formed, read_indirect, read_by_indirection, read_attribute};
 ghost use Rattle.dw_form.specs.Lent.{value_of, attribute_of, Lends, lent_outcome, ZeroAt};
+ghost use Rattle.dw_form.specs.Pieces.{HasSpelling, spelling};
 
 use crate::shape::{Ctx, Shape};
 use crate::value::{AttrValue, Value};
 use bstr::ByteSlice;
 use dw_leb::{Reason, Sleb, Uleb, read_fixed};
 
-/// The first `n` bytes.
+/// The first `n` bytes: the content of a block of this length.
 fn content(n: u64, b: &[u8], lim: u64) -> Result<(&[u8], usize), Reason>
     ensures exact { Lends (λ x. x.now) result (bytes_of n b.now lim) }
     ensures room { IfOk result (λ x. (x.1 ≤ length b.now) × (x.1 ≤ lim)) }
@@ -62,7 +63,8 @@ fn unended_text(m: u64, lim: u64) -> Reason
 /// A number of `n` bytes.
 fn fixed(ctx: Ctx, n: u8, b: &[u8], lim: u64) -> Result<(Value<'_>, usize), Reason>
     requires { IsFixedSize n }
-    ensures exact { Lends value_of result (made (fixed_from n) (fixed_reader ctx.order n) b.now lim) }
+    ensures exact { Lends value_of result
+        (made (fixed_from n) (fixed_reader ctx.order n) b.now lim) }
     ensures room { IfOk result (λ x. (x.1 ≤ length b.now) × (x.1 ≤ lim)) }
 {
     let x = read_fixed(ctx.order, n, b, lim)?;
@@ -77,7 +79,8 @@ fn fixed(ctx: Ctx, n: u8, b: &[u8], lim: u64) -> Result<(Value<'_>, usize), Reas
 fn counted(ctx: Ctx, n: u8, b: &[u8], lim: u64) -> Result<(Value<'_>, usize), Reason>
     requires some { 1 ≤ n }
     requires most { n ≤ 4 }
-    ensures exact { Lends value_of result (made (λ x. TheBlock n x.1) (fixed_reader ctx.order n and_then bytes_of) b.now lim) }
+    ensures exact { Lends value_of result
+        (made (λ x. TheBlock n x.1) (fixed_reader ctx.order n and_then bytes_of) b.now lim) }
     ensures room { IfOk result (λ x. (x.1 ≤ length b.now) × (x.1 ≤ lim)) }
 {
     let count = read_fixed(ctx.order, n, b, lim)? as u64;
@@ -87,7 +90,8 @@ fn counted(ctx: Ctx, n: u8, b: &[u8], lim: u64) -> Result<(Value<'_>, usize), Re
 
 /// A block after its length as unsigned LEB128.
 fn counted_uleb(b: &[u8], lim: u64) -> Result<(Value<'_>, usize), Reason>
-    ensures exact { Lends value_of result (made (λ x. TheBlock x.0.width x.1) (read_uleb and_then λ u. bytes_of u.value) b.now lim) }
+    ensures exact { Lends value_of result
+        (made (λ x. TheBlock x.0.width x.1) (read_uleb and_then λ u. bytes_of u.value) b.now lim) }
     ensures room { IfOk result (λ x. (x.1 ≤ length b.now) × (x.1 ≤ lim)) }
 {
     let count = Uleb::read(b, lim)?;
@@ -105,7 +109,8 @@ fn shaped(
     lim: u64,
 ) -> Result<(Value<'_>, usize), Reason>
     requires { ShapeFits shape }
-    ensures exact { Lends value_of result (read_shaped ctx (option_map sleb_of implicit) shape b.now lim) }
+    ensures exact { Lends value_of result
+        (read_shaped ctx (option_map sleb_of implicit) shape b.now lim) }
     ensures room { IfOk result (λ x. (x.1 ≤ length b.now) × (x.1 ≤ lim)) }
 {
     match shape {
@@ -133,7 +138,7 @@ fn shaped(
     }
 }
 
-/// A value of a form, which is judged before any byte of its value.
+/// A value of a form. The form is judged before any byte of the value.
 fn formed(
     ctx: Ctx,
     form: u64,
@@ -142,7 +147,8 @@ fn formed(
     lim: u64,
 ) -> Result<(Value<'_>, usize), Reason>
     requires { IsContext ctx }
-    ensures exact { Lends value_of result (read_formed ctx (option_map sleb_of implicit) form b.now lim) }
+    ensures exact { Lends value_of result
+        (read_formed ctx (option_map sleb_of implicit) form b.now lim) }
     ensures room { IfOk result (λ x. (x.1 ≤ length b.now) × (x.1 ≤ lim)) }
 {
     match Shape::of(form, ctx.address_size, ctx.format) {
@@ -151,7 +157,7 @@ fn formed(
     }
 }
 
-/// The number of a form, and a value of that form.
+/// A value of the form indirect: the number of a form, and a value of that form.
 fn indirect(ctx: Ctx, b: &[u8], lim: u64) -> Result<(AttrValue<'_>, usize), Reason>
     requires { IsContext ctx }
     ensures exact { Lends attribute_of result (made indirect_from (read_indirect ctx) b.now lim) }
@@ -176,7 +182,8 @@ fn by_form(
     lim: u64,
 ) -> Result<(AttrValue<'_>, usize), Reason>
     requires { IsContext ctx }
-    ensures exact { Lends attribute_of result (read_by_indirection ctx (option_map sleb_of implicit) form (form == 0x16) b.now lim) }
+    ensures exact { Lends attribute_of result
+        (read_by_indirection ctx (option_map sleb_of implicit) form (form == 0x16) b.now lim) }
     ensures room { IfOk result (λ x. (x.1 ≤ length b.now) × (x.1 ≤ lim)) }
 {
     if form == 0x16 {
@@ -188,11 +195,22 @@ fn by_form(
     }
 }
 
-/// The value of form `form` at the front of `b`, of which `lim` bytes are left to the unit's end,
-/// and the count of its bytes. It is lent from `b`: no memory is taken.
+/// The value of form `form` at the front of `b`, where `lim` bytes are left to the unit's end, and
+/// the count of its bytes. It is lent from `b`: no memory is taken.
 ///
-/// `implicit` is the constant of the declaration, there where the form is implicit_const. A refused
-/// value is one field: its fault stands at its first byte, whatever part of it is broken.
+/// `implicit` is the constant of the declaration where the form is implicit_const; another form
+/// doesn't look at it.
+///
+/// What is refused is told by the first reason that holds, by the order of the bytes:
+/// - of an indirect value, the number of its form is refused as by `Uleb::read`, or that form is
+///   indirect or implicit_const (`BadIndirect`);
+/// - the form has no shape (`UnknownForm`), or it is implicit_const and its declaration has no
+///   constant (`BadIndirect`); no byte of the value matters to these;
+/// - the value goes on past the unit's end (`PastUnit`) or, within the unit, past the end of `b`
+///   (`Truncated`); a LEB128 number has more than sixteen bytes (`LebTooLong`) or is too big
+///   (`LebTooBig`). A block's length is judged before its content.
+///
+/// A value is one field: its fault stands at its first byte, whatever part of it is refused.
 pub fn lend_value(
     ctx: Ctx,
     form: u64,
@@ -201,9 +219,17 @@ pub fn lend_value(
     lim: u64,
 ) -> Result<(AttrValue<'_>, usize), Reason>
     requires { IsContext ctx }
-    ensures found { IfOk result (λ x. Taken (attribute ctx form (option_map sleb_of implicit)) b.now lim (attribute_of x.0) x.1) }
-    ensures broken { IfErr result (λ reason. (attribute ctx form (option_map sleb_of implicit)).Break b.now lim 0 reason) }
-    ensures exact { read_attribute ctx form (option_map sleb_of implicit) b.now lim ≡ lent_outcome attribute_of result }
+    ensures found { IfOk result (λ x.
+        Taken (attribute ctx form (option_map sleb_of implicit)) b.now lim (attribute_of x.0) x.1) }
+    ensures only { (x : Attribute) (size : ℕ) →
+        Taken (attribute ctx form (option_map sleb_of implicit)) b.now lim x size →
+        IsOkAnd result (λ y. (attribute_of y.0 ≡ x) × (y.1 ≡ size)) }
+    ensures spelled { IfOk result (λ x. HasSpelling ctx form (attribute_of x.0)) }
+    ensures bytes { IfOk result (λ x. spelling ctx form (attribute_of x.0) ≡ take x.1 b.now) }
+    ensures broken { IfErr result (λ reason.
+        (attribute ctx form (option_map sleb_of implicit)).Break b.now lim 0 reason) }
+    ensures exact { read_attribute ctx form (option_map sleb_of implicit) b.now lim
+        ≡ lent_outcome attribute_of result }
     ensures room { IfOk result (λ x. (x.1 ≤ length b.now) × (x.1 ≤ lim)) }
 {
     by_form(ctx, form, implicit, b, lim)

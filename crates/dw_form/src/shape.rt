@@ -1,49 +1,49 @@
-//! The form table.
-
+//! The form table (section 7.5.6, table 7.6).
 ghost use Rattle.std.specs.Prelude.{◌≡◌, ◌≤◌, None, Some, IfSome};
 ghost use Rattle.dw_leb.specs.Number.{offset_size as offset_bytes};
 ghost use Rattle.dw_form.specs.Form.{shape, ShapeFits};
 
 use dw_leb::{Format, Order};
 
-/// What the bytes of a unit's values depend on.
+/// What the bytes of a unit's values depend on besides their forms. The order is that of the file;
+/// the format and the address size stand in the unit's header.
 #[derive(Clone, Copy, Debug, PartialEq, Eq, Hash)]
 pub struct Ctx {
-    /// The byte order of fixed numbers.
+    /// The order of the bytes of fixed numbers, and of a block's length where that is one.
     pub order: Order,
-    /// The format of section offsets.
+    /// The format: an offset into a section has 4 bytes in the 32-bit one, 8 in the 64-bit one.
     pub format: Format,
-    /// The size of an address in bytes, 1 to 8.
+    /// The count of bytes of an address, 1 to 8.
     pub address_size: u8,
 }
 
 /// How the values of a form are spelled (section 7.5.6).
 #[derive(Clone, Copy, Debug, PartialEq, Eq, Hash)]
 pub enum Shape {
-    /// A number in this many bytes.
+    /// A number in this many bytes: 1 to 8, or 16.
     Fixed(u8),
     /// An unsigned LEB128 number.
     Uleb,
     /// A signed LEB128 number.
     Sleb,
-    /// A block after its length in this many bytes.
+    /// A block after its length in this many bytes: 1, 2 or 4.
     Counted(u8),
     /// A block after its length as unsigned LEB128.
     CountedUleb,
-    /// Bytes up to a zero byte.
+    /// Bytes other than 0, and then a zero byte.
     Text,
-    /// No bytes: that the attribute is there says all.
+    /// No bytes: that the attribute is there says all (flag_present).
     Present,
-    /// No bytes: the value stands in the declaration.
+    /// No bytes: the value stands in the declaration (implicit_const).
     Implicit,
-    /// The number of another form, and then a value of that form.
+    /// The number of another form as unsigned LEB128, and then a value of that form.
     Indirect,
 }
 
 impl Shape {
+    /// The shape of a form by its number, in a unit of this address size (1 to 8) and format. None
+    /// for a number that is no form of DWARF 5 and neither 0x1f20 nor 0x1f21.
     #[tactic(auto, unfolding(crate::specs::Form::shape))]
-    /// The shape of a form by its number, in a unit of this address size (1 to 8) and format; None
-    /// for a number that isn't in the form table.
     pub fn of(form: u64, address_size: u8, format: Format) -> Option<Shape>
         requires some { 1 ≤ address_size }
         requires most { address_size ≤ 8 }
@@ -75,7 +75,7 @@ impl Shape {
     }
 }
 
-/// The bytes of a section offset.
+/// The count of bytes of an offset into a section (section 7.4).
 fn offset_size(format: Format) -> u8
     ensures { result ≡ offset_bytes format }
 {

@@ -1,5 +1,5 @@
 //! Values of attributes, stored over a pool of bytes.
-ghost use Rattle.std.specs.Prelude.{◌≡◌, ◌+◌, ◌++◌, length, vec_len, IfOk, OnErr};
+ghost use Rattle.std.specs.Prelude.{◌≡◌, ◌<◌, ◌+◌, ◌++◌, length, vec_len, vec_capacity, IfOk, OnErr};
 ghost use Rattle.dw_form.specs.Lent.{attribute_of};
 ghost use Rattle.dw_form.specs.Kept.{content, bytes_in, StoredFits};
 
@@ -7,7 +7,8 @@ use crate::value::{AttrValue, Value};
 use dw_leb::{Sleb, Uleb};
 use std::alloc::AllocError;
 
-/// A value whose text or block is a span of a pool of bytes.
+/// A value whose text or block is a span of a pool of bytes. It is of use with that pool alone, to
+/// which bytes may have been added behind.
 #[derive(Clone, Copy, Debug)]
 pub struct Stored {
     via: Option<Uleb>,
@@ -28,13 +29,17 @@ enum Kept {
 }
 
 impl Stored {
-    /// Stores a value, its text or block being copied to the end of the pool. Where the pool can't
-    /// grow it stays as it was.
+    /// Stores a value, its text or block being copied to the end of the pool. The error says that
+    /// the pool had no room for them and could not grow; it holds then what it held.
     pub fn keep(value: &AttrValue<'_>, pool: &mut Vec<u8>) -> Result<Stored, AllocError>
-        ensures pool { IfOk result (λ _. pool.new.items ≡ pool.old.items ++ bytes_in (attribute_of value.now)) }
+        ensures pool { IfOk result (λ _.
+            pool.new.items ≡ pool.old.items ++ bytes_in (attribute_of value.now)) }
         ensures content { IfOk result (λ s. content pool.new.items s ≡ attribute_of value.now) }
         ensures fits { IfOk result (λ s. StoredFits (vec_len pool.new) s) }
         ensures err { OnErr result (pool.new.items ≡ pool.old.items) }
+        ensures full { OnErr result
+            (vec_capacity pool.old
+            < vec_len pool.old + length (bytes_in (attribute_of value.now))) }
     {
         let start = pool.len();
         let kept = match value.value {

@@ -1,38 +1,40 @@
-//! Values of attributes, lent.
+//! Values of attributes, lent from the bytes that hold them.
 
 use dw_leb::{Sleb, Uleb};
 
-/// A value as it is written, its bytes being lent.
-#[derive(Clone, Copy, Debug)]
+/// A value as it is written (section 7.5.5). Its bytes, of a text or a block, are lent.
+#[derive(Clone, Copy, Debug, PartialEq, Eq)]
 pub enum Value<'a> {
-    /// A number in 1 to 8 bytes: how many is the form's affair.
+    /// A fixed number of 1 to 8 bytes, as an address, an offset, a reference, an index or a flag.
+    /// How many bytes it has the form says, with the address size and the format.
     Num(u64),
-    /// A number in 16 bytes.
+    /// A fixed number of 16 bytes (data16).
     Wide(u128),
     /// An unsigned LEB128 number.
     Uleb(Uleb),
     /// A signed LEB128 number.
     Sleb(Sleb),
-    /// A block.
+    /// A block, or an expression (exprloc).
     Block {
-        /// The bytes of its length field.
+        /// The count of bytes in which its length is written: 1, 2 or 4 as the form says, or 1 to
+        /// 16 as unsigned LEB128.
         width: u8,
         /// Its content.
         bytes: &'a [u8],
     },
-    /// A text, without the zero byte that ends it.
+    /// A text, without the zero byte that ends it. Its bytes needn't be UTF-8.
     Text(&'a [u8]),
-    /// No bytes: the attribute is there.
+    /// No bytes: the attribute is there (flag_present).
     Present,
-    /// No bytes: the constant of the declaration.
+    /// No bytes: the constant of the declaration (implicit_const).
     Implicit(Sleb),
 }
 
 /// The value of an attribute.
-#[derive(Clone, Copy, Debug)]
+#[derive(Clone, Copy, Debug, PartialEq, Eq)]
 pub struct AttrValue<'a> {
-    /// The form that an indirect value names; None for any other value.
+    /// The number of the form that a value of the form indirect names; None under any other form.
     pub via: Option<Uleb>,
-    /// The value, of that form where there is one, else of the form that the declaration names.
+    /// The value: of the form in `via`, or where that is None of the form in the declaration.
     pub value: Value<'a>,
 }

@@ -12,8 +12,10 @@ use arrayvec::ArrayVec;
 use dw_leb::{Uleb, Watched, WriteError, write_all, write_fixed};
 use std::io::Write;
 
-/// Writes a value under form `form`, of which it has a spelling. After an error a beginning of the
-/// spelling was written. No memory is taken.
+/// Writes a value under form `form`, where it has a spelling: it is one of the form's shape, or
+/// under indirect one of the shape of the form in `via`, its numbers and lengths fit their bytes,
+/// and its text has no zero byte. What was read under a form has a spelling. After an error, which
+/// is the writer's, a beginning of the spelling was written. No memory is taken.
 pub fn write_value<W: Write>(
     ctx: Ctx,
     form: u64,
@@ -23,7 +25,10 @@ pub fn write_value<W: Write>(
     requires context { IsContext ctx }
     requires spelled { HasSpelling ctx form (attribute_of value.now) }
     requires clear { fault_of writer.old ≡ None }
-    ensures written { Wrote (W.contents (inner_of writer.old)) (W.contents (inner_of writer.new)) (spelling ctx form (attribute_of value.now)) result }
+    ensures written { Wrote
+        (W.contents (inner_of writer.old))
+        (W.contents (inner_of writer.new))
+        (spelling ctx form (attribute_of value.now)) result }
     ensures fault { fault_of writer.new ≡ told_by_write result }
 {
     match shape_in(ctx, form, value) {
@@ -32,7 +37,7 @@ pub fn write_value<W: Write>(
     }
 }
 
-/// The bytes of the form that an indirect value names, the head, the content and the end.
+/// The number of the form that an indirect value names, the head, the content and the end.
 fn write_pieces<W: Write>(
     ctx: Ctx,
     shape: Shape,
@@ -42,7 +47,10 @@ fn write_pieces<W: Write>(
     requires fits { HeadFits ctx shape (value_of value.now.value) }
     requires sizes { ShapeFits shape }
     requires clear { fault_of writer.old ≡ None }
-    ensures written { Wrote (W.contents (inner_of writer.old)) (W.contents (inner_of writer.new)) (all_pieces ctx shape (attribute_of value.now)) result }
+    ensures written { Wrote
+        (W.contents (inner_of writer.old))
+        (W.contents (inner_of writer.new))
+        (all_pieces ctx shape (attribute_of value.now)) result }
     ensures fault { fault_of writer.new ≡ told_by_write result }
 {
     write_via(value, writer)?;
@@ -51,17 +59,19 @@ fn write_pieces<W: Write>(
     write_all(writer, tail(&value.value))
 }
 
-fn write_via<W: Write>(
-    value: &AttrValue<'_>,
-    writer: &mut Watched<W>,
-) -> Result<(), WriteError>
+/// Writes the number of the form that an indirect value names.
+fn write_via<W: Write>(value: &AttrValue<'_>, writer: &mut Watched<W>) -> Result<(), WriteError>
     requires { fault_of writer.old ≡ None }
-    ensures written { Wrote (W.contents (inner_of writer.old)) (W.contents (inner_of writer.new)) (via_bytes (attribute_of value.now).via) result }
+    ensures written { Wrote
+        (W.contents (inner_of writer.old))
+        (W.contents (inner_of writer.new))
+        (via_bytes (attribute_of value.now).via) result }
     ensures fault { fault_of writer.new ≡ told_by_write result }
 {
     write_all(writer, via_part(value).as_slice())
 }
 
+/// Writes what stands before the content.
 fn write_head<W: Write>(
     ctx: Ctx,
     shape: Shape,
@@ -71,13 +81,17 @@ fn write_head<W: Write>(
     requires fits { HeadFits ctx shape (value_of value.now) }
     requires sizes { ShapeFits shape }
     requires clear { fault_of writer.old ≡ None }
-    ensures written { Wrote (W.contents (inner_of writer.old)) (W.contents (inner_of writer.new)) (head_of ctx shape (value_of value.now)) result }
+    ensures written { Wrote
+        (W.contents (inner_of writer.old))
+        (W.contents (inner_of writer.new))
+        (head_of ctx shape (value_of value.now)) result }
     ensures fault { fault_of writer.new ≡ told_by_write result }
 {
     write_all(writer, head(ctx, shape, value).as_slice())
 }
 
-/// The count of bytes of a value's spelling under form `form`.
+/// The count of bytes of a value's spelling under form `form`, where it has one: of what
+/// `write_value` writes.
 pub fn size_of(ctx: Ctx, form: u64, value: &AttrValue<'_>) -> u64
     requires context { IsContext ctx }
     requires spelled { HasSpelling ctx form (attribute_of value.now) }
@@ -89,6 +103,7 @@ pub fn size_of(ctx: Ctx, form: u64, value: &AttrValue<'_>) -> u64
     }
 }
 
+/// The count of bytes of the pieces that `write_pieces` writes.
 fn size_of_pieces(ctx: Ctx, shape: Shape, value: &AttrValue<'_>) -> u64
     requires fits { HeadFits ctx shape (value_of value.now.value) }
     requires sizes { ShapeFits shape }
@@ -100,10 +115,11 @@ fn size_of_pieces(ctx: Ctx, shape: Shape, value: &AttrValue<'_>) -> u64
     (via + head + content + tail(&value.value).len()) as u64
 }
 
-/// The shape of the form in effect.
+/// The shape of the form in effect: of an indirect value the one that it names.
 fn shape_in(ctx: Ctx, form: u64, value: &AttrValue<'_>) -> Option<Shape>
     requires { IsContext ctx }
-    ensures shape { result ≡ shape (form_in form (attribute_of value.now).via) ctx.address_size ctx.format }
+    ensures shape { result
+        ≡ shape (form_in form (attribute_of value.now).via) ctx.address_size ctx.format }
     ensures sizes { IfSome result ShapeFits }
 {
     let form = match value.via {
@@ -113,7 +129,7 @@ fn shape_in(ctx: Ctx, form: u64, value: &AttrValue<'_>) -> Option<Shape>
     Shape::of(form, ctx.address_size, ctx.format)
 }
 
-/// The bytes of the form that an indirect value names.
+/// The bytes of the number of the form that an indirect value names.
 fn via_part(value: &AttrValue<'_>) -> ArrayVec<u8, 16>
     ensures bytes { result.items ≡ via_bytes (attribute_of value.now).via }
 {
@@ -132,7 +148,11 @@ fn head(ctx: Ctx, shape: Shape, value: &Value<'_>) -> ArrayVec<u8, 16>
     match (shape, value) {
         (Shape::Fixed(n), Value::Num(x)) => write_fixed(ctx.order, n, *x as u128),
         (Shape::Fixed(n), Value::Wide(x)) => write_fixed(ctx.order, n, *x),
-        (Shape::Counted(n), Value::Block { bytes, .. }) => write_fixed(ctx.order, n, bytes.len() as u128),
+        (Shape::Counted(n), Value::Block { bytes, .. }) => write_fixed(
+            ctx.order,
+            n,
+            bytes.len() as u128,
+        ),
         (Shape::CountedUleb, Value::Block { width, bytes }) => counted(bytes.len() as u64, *width),
         (_, Value::Uleb(x)) => x.bytes(),
         (_, Value::Sleb(x)) => x.bytes(),

@@ -36,9 +36,9 @@ pub fn push_value(out: &mut Vec<u8>, value: &Value<'_>) -> Result<(), AllocError
     ensures { Appends result out.old.items (value_text (value_of value.now)) out.new.items }
 {
     match value {
-        Value::Num(number) => push_hexadecimal(out, u128::from(*number)),
+        Value::Num(number) => push_hexadecimal(out, *number as u128),
         Value::Wide(number) => push_hexadecimal(out, *number),
-        Value::Uleb(number) => push_hexadecimal(out, u128::from(number.value)),
+        Value::Uleb(number) => push_hexadecimal(out, number.value as u128),
         Value::Sleb(number) => push_signed(out, number.value),
         Value::Block { bytes, .. } => push_block(out, bytes),
         Value::Text(bytes) => push_quoted(out, bytes),
@@ -84,7 +84,7 @@ fn push_sizes(out: &mut Vec<u8>, header: Header, size: u64) -> Result<(), AllocE
 {
     push_labelled_decimal(out, b" size ", size)?;
     push_labelled(out, b" abbrev ", header.abbrev_offset())?;
-    push_labelled_decimal(out, b" addr ", u64::from(header.address_size()))
+    push_labelled_decimal(out, b" addr ", header.address_size() as u64)
 }
 
 // What a kind of unit adds to the line of its header.
@@ -112,7 +112,7 @@ fn push_labelled(out: &mut Vec<u8>, label: &[u8], number: u64) -> Result<(), All
     ensures { Appends result out.old.items (labelled label.now number) out.new.items }
 {
     append(out, label)?;
-    push_hexadecimal(out, u128::from(number))
+    push_hexadecimal(out, number as u128)
 }
 
 fn push_labelled_decimal(out: &mut Vec<u8>, label: &[u8], number: u64) -> Result<(), AllocError>

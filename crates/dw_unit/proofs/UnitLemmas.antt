@@ -28,7 +28,7 @@ use Rattle.dw_unit.specs.WholeUnit.{WholeUnit, UnitAt, TellsFault, contents_of, 
 use Rattle.dw_unit.specs.Told.{Tells}
 
 -- one table stands at a place
-same_table : (section : List ℕ) (offset : ℕ) (s t : Table) → TableAt section offset s → TableAt section offset t → s ≡ t
+pub same_table : (section : List ℕ) (offset : ℕ) (s t : Table) → TableAt section offset s → TableAt section offset t → s ≡ t
 same_table section offset s t a b =
     (found_value s t (length (table.spell s)) (length (table.spell t)) (sym (table_take section offset s a) ∙ table_take section offset t b)).0
 

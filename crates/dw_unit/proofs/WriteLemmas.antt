@@ -6,15 +6,15 @@ use Rattle.dw_leb.specs.declared.order.Order.{Order}
 use Rattle.dw_leb.specs.declared.order.Format.{Format}
 use Rattle.dw_leb.specs.declared.order.Format.TheVariants.{Dwarf32, Dwarf64}
 use Rattle.dw_leb.specs.Part.{Part, optional}
-use Rattle.dw_leb.specs.Number.{Unsigned, Signed, fixed, reserved, initial_length, FitsLength}
+use Rattle.dw_leb.specs.Number.{Unsigned, Signed, uleb, fixed, reserved, initial_length, FitsLength}
 use Rattle.std.proofs.lemmas.Bool.{ltb-true, ltb-false, lt-leb, le-leb, eqb-true, eq-eqb, ne_eqb}
 use Rattle.dw_form.specs.declared.shape.Ctx.{Ctx}
 use Rattle.dw_form.specs.declared.shape.Shape.{Shape}
 use Rattle.dw_form.specs.declared.shape.Shape.TheVariants as shapes
 use Rattle.dw_form.specs.Form.{Attribute, Value, Num, Wide, Uleb, Sleb, Block, Text, Present, Implicit, attribute, shape, shaped, shaped_if, by_indirection}
 use Rattle.dw_form.specs.Pieces.{HasSpelling, spelling, constant_in}
-use Rattle.dw_abbrev.specs.Table.{Pair}
-use Rattle.dw_unit.specs.Tree.{values}
+use Rattle.dw_abbrev.specs.Table.{Pair, Declaration, Table, declared}
+use Rattle.dw_unit.specs.Tree.{values, tree, leaf, pairs_of, children_of}
 
 -- ---- a value's spelling doesn't need the declaration's constant
 
@@ -93,3 +93,12 @@ values_done k ps (v ∷ vs) e fits = absurd (subst (λ (qs : List Pair). (values
 pub no_items : {X : Type 0} (xs : List X) → length xs ≡ 0 → xs ≡ []
 no_items [] h = refl
 no_items (x ∷ xs) h = absurd (omega (arith, h))
+
+-- ---- an entry without children
+
+pub leaf_spelled : (k : Ctx) (t : Table) (room : ℕ) (code : Unsigned) (vs : List Attribute) (d : Declaration) → declared t code.value ≡ Some d → d.children ≡ false
+    → (tree k t room).spell (leaf code vs) ≡ uleb.spell code ++ (values k d.pairs).spell vs
+leaf_spelled k t room code vs d known childless =
+    let pairs = ap pairs_of known in
+    let kids : children_of (declared t code.value) ≡ false = ap children_of known ∙ childless in
+    rw (pairs, kids) (ap (λ (xs : List ℕ). uleb.spell code ++ xs) (append-nil ((values k d.pairs).spell vs)))

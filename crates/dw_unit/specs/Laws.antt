@@ -1,34 +1,29 @@
 -- The laws of the grammar.
-use Rattle.std.specs.Prelude.{◌∷◌, [], ◌≡◌, ◌≢◌, ℕ, ◌<◌, ◌≤◌, List, ◌++◌, length, ◌⊎◌}
+use Rattle.std.specs.Prelude.{◌∷◌, [], ◌≡◌, ◌≢◌, ℕ, ◌<◌, ◌≤◌, List, ◌++◌, length, take, ◌⊎◌}
 use Rattle.std.specs.List.{AllByRecursion}
 use Rattle.dw_leb.specs.declared.errors.Reason.{Reason}
 use Rattle.dw_leb.specs.declared.errors.Reason.TheVariants.{Truncated}
 use Rattle.dw_leb.specs.Part.{Part}
 use Rattle.dw_leb.specs.declared.order.Order.{Order}
-use Rattle.dw_abbrev.specs.Table.{Table}
+use Rattle.dw_abbrev.specs.Table.{Table, TableAt}
 use Rattle.std.specs.Prelude.{Some}
 use Rattle.dw_form.specs.declared.shape.Ctx.{Ctx}
 use Rattle.dw_unit.specs.Offset.{offset_at}
 use Rattle.dw_unit.specs.Tree.{Tree, tree}
-use Rattle.dw_unit.specs.Unit.{Contents, Fails, UnitIn, UnitBreaks}
+use Rattle.dw_unit.specs.Unit.{Contents, Fails, UnitFits, UnitIn, UnitBreaks}
+use Rattle.dw_unit.specs.WholeUnit.{WholeUnit, UnitAt, contents_of, bytes_of}
 use Rattle.dw_leb.specs.declared.errors.Section.{Section}
 use Rattle.dw_leb.specs.declared.errors.Section.TheVariants.{Info}
 
--- no spelling begins another, and each value has one spelling
-abbrev pub NoneBegins : {X : Type 0} → Part X → Type 0
-NoneBegins {X} P = (x y : X) (a b : List ℕ) → P.Fits x → P.Fits y → P.spell x ++ a ≡ P.spell y ++ b → (x ≡ y) × (a ≡ b)
-
--- bytes have at most one of: one value at the front within lim, one break
-abbrev pub OneAnswer : {X : Type 0} → Part X → Type 0
-OneAnswer {X} P = ((bytes : List ℕ) (lim m n : ℕ) (r s : Reason) → P.Break bytes lim m r → P.Break bytes lim n s → (m ≡ n) × (r ≡ s))
-    × ((x : X) (rest : List ℕ) (lim offset : ℕ) (reason : Reason) → P.Fits x → length (P.spell x) ≤ lim → P.Break (P.spell x ++ rest) lim offset reason → ⊥)
-
+-- bytes have at most one unit at the front
 abbrev pub OneUnit : Type 0
 OneUnit = (section bytes a b : List ℕ) (u v : Contents) → u.header.order ≡ v.header.order → UnitIn section u bytes a → UnitIn section v bytes b → u ≡ v
 
+-- a unit that can't be read has one fault
 abbrev pub OneFault : Type 0
 OneFault = (order : Order) (section bytes : List ℕ) (s z : Section) (m n : ℕ) (r q : Reason) → Fails order section bytes s m r → Fails order section bytes z n q → (s ≡ z) × (m ≡ n) × (r ≡ q)
 
+-- bytes have at most one of a unit at the front and a fault
 abbrev pub NotBoth : Type 0
 NotBoth = (section bytes rest : List ℕ) (u : Contents) (s : Section) (n : ℕ) (r : Reason) → UnitIn section u bytes rest → Fails u.header.order section bytes s n r → ⊥
 
@@ -37,6 +32,7 @@ abbrev pub SomeAnswer : Type 0
 SomeAnswer = (order : Order) (section bytes : List ℕ) → AllByRecursion (λ b. b < 256) section → AllByRecursion (λ b. b < 256) bytes
     → ((u : Contents) × (u.header.order ≡ order) × (rest : List ℕ) × UnitIn section u bytes rest) ⊎ ((s : Section) × (n : ℕ) × (r : Reason) × Fails order section bytes s n r)
 
+-- a break other than Truncated stays whatever bytes follow
 abbrev pub BreaksStay : Type 0
 BreaksStay = (order : Order) (t : Table) (bytes tail : List ℕ) (offset : ℕ) (reason : Reason) → reason ≢ Truncated → UnitBreaks order t bytes offset reason → UnitBreaks order t (bytes ++ tail) offset reason
 
@@ -52,3 +48,17 @@ FaultsStay = (order : Order) (section bytes tail : List ℕ) (s : Section) (offs
 abbrev pub FrontsAreCut : Type 0
 FrontsAreCut = (section front : List ℕ) (b : ℕ) (more : List ℕ) (u : Contents) → AllByRecursion (λ b. b < 256) section → AllByRecursion (λ b. b < 256) front
     → UnitIn section u (front ++ b ∷ more) [] → (offset : ℕ) × Fails u.header.order section front Info offset Truncated
+
+-- what is read where a unit was written, over its table, is that unit with every width
+abbrev pub WrittenThenRead : Type 0
+WrittenThenRead = (section rest : List ℕ) (u v : WholeUnit) (size : ℕ) → TableAt section u.header.abbrev_offset u.table → UnitFits u.table (contents_of u)
+    → UnitAt section u.header.order (bytes_of u ++ rest) v size → u ≡ v
+
+-- and no fault
+abbrev pub WrittenIsRead : Type 0
+WrittenIsRead = (section rest : List ℕ) (u : WholeUnit) → TableAt section u.header.abbrev_offset u.table → UnitFits u.table (contents_of u)
+    → (s : Section) (n : ℕ) (r : Reason) → Fails u.header.order section (bytes_of u ++ rest) s n r → ⊥
+
+-- the bytes that a unit was read from are its one spelling
+abbrev pub ReadThenWritten : Type 0
+ReadThenWritten = (section : List ℕ) (order : Order) (bytes : List ℕ) (u : WholeUnit) (size : ℕ) → UnitAt section order bytes u size → take size bytes ≡ bytes_of u

@@ -1,5 +1,5 @@
-//! Entries as they are lent (sections 2.2, 2.3 and 7.5.2).
-ghost use Rattle.std.specs.Prelude.{◌≡◌, ◌+◌, length};
+//! Entries as they are lent (sections 2.1, 2.3 and 7.5.2).
+ghost use Rattle.std.specs.Prelude.{◌≡◌};
 ghost use Rattle.dw_leb.specs.View.{uleb_of};
 ghost use Rattle.dw_leb.specs.Number.{length_size as length_bytes, offset_size as offset_bytes};
 ghost use Rattle.dw_unit.specs.LentEntry.{root_entry, header_size as header_bytes, added_size as added_bytes};
@@ -11,8 +11,11 @@ use crate::unit::Unit;
 use dw_leb::{Format, Uleb};
 use std::marker::Model;
 
-/// A debugging information entry of a unit (section 2.1): its tag (section 2.2), its attributes
-/// (section 2.3), and where it stands. It borrows the unit.
+/// The level of a root.
+const ROOT_DEPTH: u64 = 1;
+
+/// A debugging information entry of a unit (section 2.1): its tag, its attributes (section 2.2), and
+/// where it stands (section 2.3). It borrows the unit.
 #[derive(Drop)]
 pub struct EntryRef<'a> {
     unit: &'a Unit,
@@ -49,8 +52,9 @@ impl<'a> EntryRef<'a> {
     pub fn depth(&self) -> u64
         ensures { result ≡ self.now.depth }
     {
+        // Each entry that is lent is a root: no unit keeps others yet.
         let _ = &self.unit;
-        1
+        ROOT_DEPTH
     }
 
     /// The abbreviation code that begins the entry, with the width in which it is written (section
@@ -62,7 +66,7 @@ impl<'a> EntryRef<'a> {
         unit.code
     }
 
-    /// The tag, `DW_TAG_..`, that the entry's declaration gives it (sections 2.2 and 7.5.3).
+    /// The tag, `DW_TAG_..`, that the entry's declaration gives it (sections 2.1 and 7.5.3).
     pub fn tag(&self) -> u64
         ensures { result ≡ self.now.tag }
     {

@@ -6,10 +6,13 @@ mod bad;
 mod codes;
 mod entries;
 mod entry;
+#[cfg(test)]
+mod entry_tests;
 mod fields;
 mod head;
 mod header;
 mod kind;
+pub mod laws;
 mod reader;
 mod unit;
 mod values;

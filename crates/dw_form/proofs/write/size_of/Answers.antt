@@ -1,7 +1,6 @@
-use Rattle.std.proofs.Common.{◌≡◌, ◌∙◌, sym, ap, subst, Some, None, List, ℕ, length}
-use Rattle.dw_leb.specs.Watch.{inner_of, Wrote}
+use Rattle.std.proofs.Common.{◌∙◌, sym, ap, length}
 use Rattle.dw_form.specs.Lent.{attribute_of}
-use Rattle.dw_form.specs.Pieces.{constant_in, form_in, attribute_pieces, form_known, all_pieces, spelling}
+use Rattle.dw_form.specs.Pieces.{constant_in, attribute_pieces, form_known}
 use Rattle.dw_form.proofs.write.size_of.Goals as goal
 
 pub size_of_pieces-requires-clause-fits : goal.size_of_pieces-requires-clause-fits

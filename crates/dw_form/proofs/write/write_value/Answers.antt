@@ -1,7 +1,7 @@
-use Rattle.std.proofs.Common.{◌≡◌, ◌∙◌, sym, ap, subst, Some, None, List, ℕ, length}
+use Rattle.std.proofs.Common.{◌∙◌, sym, subst, List, ℕ}
 use Rattle.dw_leb.specs.Watch.{inner_of, Wrote}
 use Rattle.dw_form.specs.Lent.{attribute_of}
-use Rattle.dw_form.specs.Pieces.{constant_in, form_in, attribute_pieces, form_known, all_pieces, spelling}
+use Rattle.dw_form.specs.Pieces.{constant_in, attribute_pieces, form_known}
 use Rattle.dw_form.proofs.write.write_value.Goals as goal
 
 pub write_pieces-requires-clause-fits : goal.write_pieces-requires-clause-fits

@@ -1,0 +1,87 @@
+//! What no clause says: the root of units whose bytes and offsets come from the standard.
+use crate::{EntryRef, read_unit};
+use dw_abbrev::Tables;
+use dw_form::Value;
+use dw_leb::Order;
+use std::test::Fail;
+
+/// Code 1, tag 0x11, no children: a name as a string, a size in one byte, an indirect form, a flag
+/// of no bytes and a constant of the declaration.
+const DECLARED: [u8; 17] = [
+    0x01, 0x11, 0, 0x03, 0x08, 0x0b, 0x0b, 0x10, 0x16, 0x3f, 0x19, 0x1c, 0x21, 0x7f, 0, 0, 0,
+];
+
+/// A compile unit of the 32-bit format, whose code is written in two bytes.
+const SHORT: [u8; 20] = [
+    16, 0, 0, 0, 5, 0, 1, 8, 0, 0, 0, 0, 0x81, 0, b'a', 0, 42, 0x0f, 0x85, 1,
+];
+
+/// A type unit of the 64-bit format.
+const LONG: [u8; 46] = [
+    0xff, 0xff, 0xff, 0xff, 34, 0, 0, 0, 0, 0, 0, 0, 5, 0, 2, 8, 0, 0, 0, 0, 0, 0, 0, 0, 1, 2, 3,
+    4, 5, 6, 7, 8, 40, 0, 0, 0, 0, 0, 0, 0, 1, 0, 42, 0x0f, 0x05, 0,
+];
+
+fn places(root: &EntryRef<'_>) -> [(u64, u64, u64); 5] {
+    let mut found = [(0, 0, 0); 5];
+    let mut at = 0;
+    for attr in root.attrs() {
+        if at < 5 {
+            found[at] = (attr.name, attr.form, attr.offset);
+            at += 1;
+        }
+    }
+    found
+}
+
+#[test]
+fn lends_a_root(rt: HostRuntime) -> Result<(), Fail> {
+    let mut tables = Tables::new(rt.alloc(), &DECLARED);
+    let (unit, _) = read_unit(rt.alloc(), Order::Little, &mut tables, &SHORT)?;
+    let root = unit.root();
+    assert_eq!(rt; (root.offset(), root.depth(), root.tag()), (12, 1, 0x11));
+    assert_eq!(rt; (root.code().value, root.code().width), (1, 2));
+    assert_eq!(rt;
+        places(&root),
+        [
+            (3, 8, 14),
+            (0x0b, 0x0b, 16),
+            (0x10, 0x0f, 17),
+            (0x3f, 0x19, 20),
+            (0x1c, 0x21, 20)
+        ]
+    );
+    Ok(())
+}
+
+#[test]
+fn lends_behind_a_long_header(rt: HostRuntime) -> Result<(), Fail> {
+    let mut tables = Tables::new(rt.alloc(), &DECLARED);
+    let (unit, _) = read_unit(rt.alloc(), Order::Little, &mut tables, &LONG)?;
+    let root = unit.root();
+    assert_eq!(rt; (root.offset(), root.depth(), root.tag()), (40, 1, 0x11));
+    assert_eq!(rt;
+        places(&root),
+        [
+            (3, 8, 41),
+            (0x0b, 0x0b, 42),
+            (0x10, 0x0f, 43),
+            (0x3f, 0x19, 45),
+            (0x1c, 0x21, 45)
+        ]
+    );
+    Ok(())
+}
+
+#[test]
+fn lends_values(rt: HostRuntime) -> Result<(), Fail> {
+    let mut tables = Tables::new(rt.alloc(), &DECLARED);
+    let (unit, _) = read_unit(rt.alloc(), Order::Little, &mut tables, &SHORT)?;
+    let mut attrs = unit.root().attrs();
+    let first = attrs.next().ok_or("no attribute")?;
+    match first.attr.value {
+        Value::Text(text) => assert_eq!(rt; text, b"a".as_slice()),
+        _ => return Err("no text".into()),
+    }
+    Ok(())
+}
