@@ -7,7 +7,7 @@ use Rattle.dw_leb.specs.declared.errors.Reason.TheVariants.{NotYet}
 use Rattle.dw_leb.specs.declared.errors.Section.TheVariants.{Info}
 use Rattle.dw_leb.specs.Watch.{AppendsFront}
 use Rattle.dw_unit.specs.Unit.{Fails}
-use Rattle.dw_unit.specs.WholeUnit.{WholeUnit, UnitAt}
+use Rattle.dw_unit.specs.WholeUnit.{WholeUnit, UnitAt, bytes_of}
 use Rattle.dw_tool.specs.declared.command.Command.{Command}
 use Rattle.dw_tool.specs.declared.command.Command.TheVariants.{Show, Copy}
 use Rattle.dw_tool.specs.declared.status.Status.{Status}
@@ -22,6 +22,11 @@ use Rattle.dw_tool.specs.Show.{unit_text}
 abbrev pub IsSection : List ℕ → Order → List ℕ → Option WholeUnit → Type 0
 IsSection abbreviations order bytes None = bytes ≡ []
 IsSection abbreviations order bytes (Some u) = UnitAt abbreviations order bytes u (length bytes)
+
+-- the bytes of what stands in a section
+abbrev pub section_bytes : Option WholeUnit → List ℕ
+section_bytes None = []
+section_bytes (Some u) = bytes_of u
 
 -- bytes follow the unit at the front: more than one unit isn't read yet
 abbrev pub GoesOn : List ℕ → Order → List ℕ → Fault → Type 0
@@ -41,11 +46,11 @@ Tells abbreviations order bytes (tool.Write kind) = ⊥
 
 -- ---- what is written
 
--- `show` writes a text, and `copy` the bytes that were read
+-- of an empty section nothing; of a unit `show` writes the text, and `copy` the bytes that were read
 abbrev pub output : Command → List ℕ → Option WholeUnit → List ℕ
-output Show bytes None = []
+output command bytes None = []
 output Show bytes (Some u) = unit_text u
-output Copy bytes u = bytes
+output Copy bytes (Some u) = bytes
 
 -- what a call that writes these bytes wrote
 abbrev pub Writes : {X : Type 0} → Option (List ℕ) → Option (List ℕ) → List ℕ → Result X ToolError → Type 0

@@ -2,7 +2,7 @@
 ghost use Rattle.std.specs.Prelude.{◌≡◌, None, Some, IfOk, IfErr};
 ghost use Rattle.dw_leb.specs.Watch.{inner_of, fault_of};
 ghost use Rattle.dw_unit.specs.WholeUnit.{bytes_of};
-ghost use Rattle.dw_tool.specs.Run.{IsSection, Runs, Tells, Writes, output};
+ghost use Rattle.dw_tool.specs.Run.{IsSection, Runs, Tells, Writes, output, section_bytes};
 ghost use Rattle.dw_tool.specs.Show.{unit_text};
 ghost use Rattle.dw_tool.specs.Status.{told_by_reading, told_by_writing};
 
@@ -41,9 +41,8 @@ pub fn run<R: Read, W: Write>(
     ensures write { fault_of writer.new ≡ told_by_writing result }
 {
     let bytes = read_all(alloc, info)?;
-    if let Some(unit) = read_section(alloc, order, abbrev, bytes.as_slice())? {
-        write_section(alloc, command, &unit, writer)?;
-    }
+    let section = read_section(alloc, order, abbrev, bytes.as_slice())?;
+    write_section(alloc, command, &section, writer)?;
     Ok(Status::Good)
 }
 
@@ -75,8 +74,24 @@ pub fn read_section(
     Ok(Some(unit))
 }
 
-/// Writes what the command makes of a unit that fills its section.
+/// Writes what the command makes of what stands in a section.
 fn write_section<W: Write>(
+    alloc: Global,
+    command: Command,
+    section: &Option<Unit>,
+    writer: &mut Watched<W>,
+) -> Result<(), ToolError>
+    requires { fault_of writer.old ≡ None }
+    ensures written { Writes (W.contents (inner_of writer.old)) (W.contents (inner_of writer.new)) (output command (section_bytes section.now) section.now) result }
+    ensures fault { fault_of writer.new ≡ told_by_writing result }
+{
+    match section {
+        Some(unit) => write_one(alloc, command, unit, writer),
+        None => Ok(()),
+    }
+}
+
+fn write_one<W: Write>(
     alloc: Global,
     command: Command,
     unit: &Unit,
