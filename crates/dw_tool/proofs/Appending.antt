@@ -116,3 +116,31 @@ hexadecimal_more n h small =
 
 pub hexadecimal_one : (n : ℕ) → n < 16 → digits 16 false n ≡ digit_glyph false (n % 16) ∷ []
 hexadecimal_one n h = sym (digits_onto-nil n) ∙ spell_last 63 n [] h
+
+-- ---- a text of which a part is to come
+
+-- what stands after `old` is the text without the rest
+pub record Reaches (old new rest text : List ℕ) : Type 0 where
+  pub front : List ℕ
+  pub is_text : text ≡ front ++ rest
+  pub is_new : new ≡ old ++ front
+
+pub reaches_start : (old text : List ℕ) → Reaches old old text text
+reaches_start old text = record { front = []; is_text = refl; is_new = sym (append-nil old) }
+
+-- the next piece stands too
+pub reaches_more : (old mid new a rest text : List ℕ) → Reaches old mid (a ++ rest) text → new ≡ mid ++ a → Reaches old new rest text
+reaches_more old mid new a rest text h e = record {
+  front = h.front ++ a;
+  is_text = h.is_text ∙ sym (append_assoc h.front a rest);
+  is_new = e ∙ ap (λ (x : List ℕ). x ++ a) h.is_new ∙ append_assoc old h.front a;
+}
+
+-- all of it stands
+pub reaches_end : (old new text : List ℕ) → Reaches old new [] text → new ≡ old ++ text
+reaches_end old new text h = h.is_new ∙ ap (λ (x : List ℕ). old ++ x) (sym (h.is_text ∙ append-nil h.front))
+
+-- the next piece is only begun
+pub reaches_stopped : {T E : Type 0} (r : Result T E) (old mid new a rest text : List ℕ) → is_ok r ≡ false → Reaches old mid (a ++ rest) text → IsBegun mid a new → Appends r old text new
+reaches_stopped r old mid new a rest text err h b =
+    subst (λ (t : List ℕ). Appends r old t new) (sym h.is_text) (stopped_after r old mid h.front a rest new err h.is_new b)

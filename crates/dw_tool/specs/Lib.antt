@@ -1,3 +1,6 @@
 pub mod Line
 pub mod Names
 pub mod Text
+pub mod Show
+pub mod Status
+pub mod Run

@@ -4,6 +4,9 @@
 pub mod command;
 pub mod line;
 pub mod names;
+pub mod run;
+pub mod show;
+pub mod status;
 #[cfg(test)]
 mod tests;
 pub mod text;

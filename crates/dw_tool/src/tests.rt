@@ -1,12 +1,16 @@
 use crate::command::{Command, Line, LineError};
 use crate::line::line;
 use crate::names::{attribute_name, tag_name};
+use crate::run::run;
+use crate::status::{Status, ToolError};
 use crate::text::{
     append, push_attribute, push_block, push_decimal, push_hexadecimal, push_quoted, push_signed,
     push_tag,
 };
-use dw_leb::Order;
+use dw_leb::devices::Stepped;
+use dw_leb::{Fault, Order, Reason, Section, Watched};
 use std::alloc::Global;
+use std::io::ErrorKind;
 use std::test::Fail;
 
 #[test]
@@ -182,5 +186,82 @@ fn tells_help_from_mistakes(rt: HostRuntime) {
         let outcome = line(rt.alloc(), words);
         assert!(rt; outcome.is_err());
         assert!(rt; status(outcome) == 0, "{words:?}");
+    }
+}
+
+const TABLE: [u8; 8] = [0x01, 0x11, 0x00, 0x03, 0x08, 0x00, 0x00, 0x00];
+
+// A compile unit with one entry, which is named `a`, and two bytes behind it.
+const UNIT_AND_MORE: [u8; 17] = [
+    0x0b, 0x00, 0x00, 0x00, 0x05, 0x00, 0x01, 0x08, 0x00, 0x00, 0x00, 0x00, 0x01, 0x61, 0x00, 0xff,
+    0xff,
+];
+
+// What a run over the first bytes answers, and that it writes exactly this.
+fn runs(
+    alloc: Global,
+    command: Command,
+    info: &[u8],
+    written: &[u8],
+) -> Result<Result<Status, ToolError>, Fail> {
+    let mut reader = Watched::new(Stepped::new(info, 4));
+    let mut writer = Watched::new(Vec::new(alloc));
+    let result = run(
+        alloc,
+        command,
+        Order::Little,
+        &TABLE,
+        &mut reader,
+        &mut writer,
+    );
+    if writer.into_inner().as_slice() == written {
+        Ok(result)
+    } else {
+        Ok(Err(ToolError::Write(ErrorKind::Other)))
+    }
+}
+
+fn refused(offset: u64, reason: Reason) -> Result<Status, ToolError> {
+    Err(ToolError::Fault(Fault {
+        section: Section::Info,
+        offset,
+        reason,
+    }))
+}
+
+#[test]
+fn runs_over_a_unit(rt: HostRuntime) -> Result<(), Fail> {
+    let unit = &UNIT_AND_MORE[..15];
+    let text = "unit 0x0 compile 32 size 15 abbrev 0x0 addr 8\n<1> 0xc DW_TAG_compile_unit\n  DW_AT_name \"a\"\n";
+    let shown = runs(rt.alloc(), Command::Show, unit, text.as_bytes())?;
+    assert_eq!(rt; shown, Ok(Status::Good));
+    let copied = runs(rt.alloc(), Command::Copy, unit, unit)?;
+    assert_eq!(rt; copied, Ok(Status::Good));
+    for command in [Command::Show, Command::Copy] {
+        let nothing = runs(rt.alloc(), command, &[], &[])?;
+        assert_eq!(rt; nothing, Ok(Status::Good));
+        let cut = runs(rt.alloc(), command, &UNIT_AND_MORE[..14], &[])?;
+        assert_eq!(rt; cut, refused(13, Reason::Truncated));
+        let more = runs(rt.alloc(), command, &UNIT_AND_MORE, &[])?;
+        assert_eq!(rt; more, refused(15, Reason::NotYet));
+    }
+    Ok(())
+}
+
+#[test]
+fn tells_devices_that_fail(rt: HostRuntime) {
+    let alloc = rt.alloc();
+    let unit = &UNIT_AND_MORE[..15];
+    for command in [Command::Show, Command::Copy] {
+        let mut reader = Watched::new(Stepped::failing(unit, 4, 2, ErrorKind::TimedOut));
+        let mut writer = Watched::new(Vec::new(alloc));
+        let unread = run(alloc, command, Order::Little, &TABLE, &mut reader, &mut writer);
+        assert_eq!(rt; unread, Err(ToolError::Read(ErrorKind::TimedOut)));
+        assert!(rt; writer.into_inner().is_empty());
+
+        let mut reader = Watched::new(unit);
+        let mut writer = Watched::new(Stepped::failing(Vec::new(alloc), 4, 1, ErrorKind::TimedOut));
+        let unwritten = run(alloc, command, Order::Little, &TABLE, &mut reader, &mut writer);
+        assert_eq!(rt; unwritten, Err(ToolError::Write(ErrorKind::TimedOut)));
     }
 }

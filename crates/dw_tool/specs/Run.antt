@@ -1,0 +1,81 @@
+-- What a run reads, and what it writes.
+use Rattle.std.specs.Prelude.{◌≡◌, ◌<◌, ◌⊎◌, ℕ, List, [], length, Option, Some, None, Result, Ok, Err}
+use Rattle.std.specs.Io.KnownBytes.{Appends, Consumes, IsAtEnd, Keeps}
+use Rattle.dw_leb.specs.declared.order.Order.{Order}
+use Rattle.dw_leb.specs.declared.errors.Fault.{Fault}
+use Rattle.dw_leb.specs.declared.errors.Reason.TheVariants.{NotYet}
+use Rattle.dw_leb.specs.declared.errors.Section.TheVariants.{Info}
+use Rattle.dw_leb.specs.Watch.{AppendsFront}
+use Rattle.dw_unit.specs.Unit.{Fails}
+use Rattle.dw_unit.specs.WholeUnit.{WholeUnit, UnitAt, bytes_of}
+use Rattle.dw_tool.specs.declared.command.Command.{Command}
+use Rattle.dw_tool.specs.declared.command.Command.TheVariants.{Show, Copy}
+use Rattle.dw_tool.specs.declared.status.Status.{Status}
+use Rattle.dw_tool.specs.declared.status.Status.TheVariants.{Good}
+use Rattle.dw_tool.specs.declared.status.ToolError.{ToolError}
+use Rattle.dw_tool.specs.declared.status.ToolError.TheVariants as tool
+use Rattle.dw_tool.specs.Show.{unit_text}
+
+-- ---- what stands in a section
+
+-- nothing, or one unit that fills it
+abbrev pub IsSection : List ℕ → Order → List ℕ → Option WholeUnit → Type 0
+IsSection abbreviations order bytes None = bytes ≡ []
+IsSection abbreviations order bytes (Some u) = UnitAt abbreviations order bytes u (length bytes)
+
+-- the bytes of what stands in a section
+abbrev pub section_bytes : Option WholeUnit → List ℕ
+section_bytes None = []
+section_bytes (Some u) = bytes_of u
+
+-- bytes follow the unit at the front: more than one unit isn't read yet
+abbrev pub GoesOn : List ℕ → Order → List ℕ → Fault → Type 0
+GoesOn abbreviations order bytes f = (u : WholeUnit) × (size : ℕ) × UnitAt abbreviations order bytes u size × (size < length bytes)
+    × (f ≡ record { section = Info; offset = size; reason = NotYet })
+
+-- the first fault of a section
+abbrev pub IsFirstFault : List ℕ → Order → List ℕ → Fault → Type 0
+IsFirstFault abbreviations order bytes f = Fails order abbreviations bytes f.section f.offset f.reason ⊎ GoesOn abbreviations order bytes f
+
+-- an error of reading a section whose bytes are there
+abbrev pub Tells : List ℕ → Order → List ℕ → ToolError → Type 0
+Tells abbreviations order bytes (tool.Fault f) = (0 < length bytes) × IsFirstFault abbreviations order bytes f
+Tells abbreviations order bytes tool.Memory = Unit {0}
+Tells abbreviations order bytes (tool.Read kind) = ⊥
+Tells abbreviations order bytes (tool.Write kind) = ⊥
+
+-- ---- what is written
+
+-- of an empty section nothing; of a unit `show` writes the text, and `copy` the bytes that were read
+abbrev pub output : Command → List ℕ → Option WholeUnit → List ℕ
+output command bytes None = []
+output Show bytes (Some u) = unit_text u
+output Copy bytes (Some u) = bytes
+
+-- what a call that writes these bytes wrote
+abbrev pub Writes : {X : Type 0} → Option (List ℕ) → Option (List ℕ) → List ℕ → Result X ToolError → Type 0
+Writes old new bytes (Ok x) = Appends old new bytes
+Writes old new bytes (Err (tool.Write kind)) = AppendsFront old new bytes
+Writes old new bytes (Err tool.Memory) = Keeps old new
+Writes old new bytes (Err (tool.Fault f)) = ⊥
+Writes old new bytes (Err (tool.Read kind)) = ⊥
+
+-- ---- a run
+
+-- all that the reader had was read, and these bytes are that
+abbrev pub ReadsWhole : Option (List ℕ) → Option (List ℕ) → List ℕ → Type 0
+ReadsWhole left left' bytes = Consumes left left' bytes × IsAtEnd left'
+
+-- What a run answers, by the bytes that its reader has left and its writer holds, before and after. Nothing is
+-- written before the whole section was read, and nothing at all where it is refused.
+abbrev pub Runs : Command → Order → List ℕ → Option (List ℕ) → Option (List ℕ) → Option (List ℕ) → Option (List ℕ) → Result Status ToolError → Type 0
+Runs command order abbreviations left left' held held' (Ok status) =
+    (bytes : List ℕ) × (u : Option WholeUnit) × ReadsWhole left left' bytes × IsSection abbreviations order bytes u
+    × Appends held held' (output command bytes u) × (status ≡ Good)
+Runs command order abbreviations left left' held held' (Err (tool.Write kind)) =
+    (bytes : List ℕ) × (u : Option WholeUnit) × ReadsWhole left left' bytes × IsSection abbreviations order bytes u
+    × AppendsFront held held' (output command bytes u)
+Runs command order abbreviations left left' held held' (Err (tool.Fault f)) =
+    (bytes : List ℕ) × ReadsWhole left left' bytes × (0 < length bytes) × IsFirstFault abbreviations order bytes f × Keeps held held'
+Runs command order abbreviations left left' held held' (Err (tool.Read kind)) = ((bytes : List ℕ) × Consumes left left' bytes) × Keeps held held'
+Runs command order abbreviations left left' held held' (Err tool.Memory) = ((bytes : List ℕ) × Consumes left left' bytes) × Keeps held held'

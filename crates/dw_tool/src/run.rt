@@ -1,0 +1,118 @@
+//! What the program does with the sections.
+ghost use Rattle.std.specs.Prelude.{◌≡◌, None, Some, IfOk, IfErr};
+ghost use Rattle.dw_leb.specs.Watch.{inner_of, fault_of};
+ghost use Rattle.dw_unit.specs.WholeUnit.{bytes_of};
+ghost use Rattle.dw_tool.specs.Run.{IsSection, Runs, Tells, Writes, output, section_bytes};
+ghost use Rattle.dw_tool.specs.Show.{unit_text};
+ghost use Rattle.dw_tool.specs.Status.{told_by_reading, told_by_writing};
+
+use crate::command::Command;
+use crate::show::push_unit;
+use crate::status::{Status, ToolError};
+use dw_abbrev::Tables;
+use dw_leb::{Fault, Order, Reason, Section, Watched, read_all, write_all};
+use dw_unit::{Unit, read_unit, write_unit};
+use std::alloc::Global;
+use std::io::{Read, Write};
+
+/// Reads all of `.debug_info` from `info`, and writes what the command makes of it: the text of its
+/// unit, or its bytes. An empty section gives nothing. Nothing is written before the whole section
+/// was read, and nothing at all where it is refused.
+///
+/// Errors: `Fault` with the first fault, `Read` and `Write` where the reader or the writer failed,
+/// `Memory` where a growth was refused. After `Write` a beginning of the output was written.
+pub fn run<R: Read, W: Write>(
+    alloc: Global,
+    command: Command,
+    order: Order,
+    abbrev: &[u8],
+    info: &mut Watched<R>,
+    writer: &mut Watched<W>,
+) -> Result<Status, ToolError>
+    requires reader { fault_of info.old ≡ None }
+    requires writer { fault_of writer.old ≡ None }
+    ensures runs { Runs command order abbrev.now
+        (R.remaining (inner_of info.old))
+        (R.remaining (inner_of info.new))
+        (W.contents (inner_of writer.old))
+        (W.contents (inner_of writer.new))
+        result }
+    ensures read { fault_of info.new ≡ told_by_reading result }
+    ensures write { fault_of writer.new ≡ told_by_writing result }
+{
+    let bytes = read_all(alloc, info)?;
+    let section = read_section(alloc, order, abbrev, bytes.as_slice())?;
+    write_section(alloc, command, &section, writer)?;
+    Ok(Status::Good)
+}
+
+/// What stands in a section `.debug_info`: nothing, or one unit that fills it. A fault is the first
+/// one; bytes behind a unit are `NotYet`.
+///
+/// Errors: `Fault`, or `Memory` where a growth was refused.
+pub fn read_section(
+    alloc: Global,
+    order: Order,
+    abbrev: &[u8],
+    info: &[u8],
+) -> Result<Option<Unit>, ToolError>
+    ensures found { IfOk result (IsSection abbrev.now order info.now) }
+    ensures broken { IfErr result (Tells abbrev.now order info.now) }
+{
+    if info.is_empty() {
+        return Ok(None);
+    }
+    let mut tables = Tables::new(alloc, abbrev);
+    let (unit, size) = read_unit(alloc, order, &mut tables, info)?;
+    if size < info.len() {
+        return Err(ToolError::Fault(Fault {
+            section: Section::Info,
+            offset: size as u64,
+            reason: Reason::NotYet,
+        }));
+    }
+    Ok(Some(unit))
+}
+
+/// Writes what the command makes of what stands in a section.
+fn write_section<W: Write>(
+    alloc: Global,
+    command: Command,
+    section: &Option<Unit>,
+    writer: &mut Watched<W>,
+) -> Result<(), ToolError>
+    requires { fault_of writer.old ≡ None }
+    ensures written { Writes (W.contents (inner_of writer.old)) (W.contents (inner_of writer.new)) (output command (section_bytes section.now) section.now) result }
+    ensures fault { fault_of writer.new ≡ told_by_writing result }
+{
+    match section {
+        Some(unit) => write_one(alloc, command, unit, writer),
+        None => Ok(()),
+    }
+}
+
+fn write_one<W: Write>(
+    alloc: Global,
+    command: Command,
+    unit: &Unit,
+    writer: &mut Watched<W>,
+) -> Result<(), ToolError>
+    requires { fault_of writer.old ≡ None }
+    ensures written { Writes (W.contents (inner_of writer.old)) (W.contents (inner_of writer.new)) (output command (bytes_of unit.now) (Some unit.now)) result }
+    ensures fault { fault_of writer.new ≡ told_by_writing result }
+{
+    match command {
+        Command::Show => show(alloc, unit, writer),
+        Command::Copy => Ok(write_unit(unit, writer)?),
+    }
+}
+
+fn show<W: Write>(alloc: Global, unit: &Unit, writer: &mut Watched<W>) -> Result<(), ToolError>
+    requires { fault_of writer.old ≡ None }
+    ensures written { Writes (W.contents (inner_of writer.old)) (W.contents (inner_of writer.new)) (unit_text unit.now) result }
+    ensures fault { fault_of writer.new ≡ told_by_writing result }
+{
+    let mut text = Vec::new(alloc);
+    push_unit(&mut text, unit)?;
+    Ok(write_all(writer, text.as_slice())?)
+}

@@ -1,0 +1,65 @@
+//! How a run ends.
+ghost use Rattle.std.specs.Prelude.{◌≡◌};
+ghost use Rattle.dw_tool.specs.Status.{refused_read, refused_write};
+ghost use Rattle.dw_tool.specs.declared.status.ToolError.TheVariants as tool;
+
+use dw_leb::{Fault, ReadError, WriteError};
+use std::alloc::AllocError;
+use std::io::ErrorKind;
+use thiserror::Error;
+
+/// What a run that went through says. Its number is the program's exit status.
+#[derive(Clone, Copy, Debug, PartialEq, Eq, Hash)]
+pub enum Status {
+    /// All is well.
+    Good = 0,
+    /// Something is wrong with the sections, or nothing was found.
+    Bad,
+}
+
+/// Why a run gave up.
+#[derive(Clone, Copy, Debug, PartialEq, Eq, Error)]
+pub enum ToolError {
+    /// The sections are refused: the first fault.
+    #[error("fault {0:?}")]
+    Fault(Fault),
+    /// The reader of `.debug_info` failed.
+    #[error("read {0}")]
+    Read(ErrorKind),
+    /// The writer failed, or took no byte of some (`WriteZero`).
+    #[error("write {0}")]
+    Write(ErrorKind),
+    /// A growth was refused.
+    #[error("memory")]
+    Memory,
+}
+
+impl From<ReadError> for ToolError {
+    ghost from_gives = { λ e out. out ≡ refused_read e };
+
+    fn from(error: ReadError) -> ToolError {
+        match error {
+            ReadError::Fault(fault) => ToolError::Fault(fault),
+            ReadError::NoMemory => ToolError::Memory,
+            ReadError::Io(kind) => ToolError::Read(kind),
+        }
+    }
+}
+
+impl From<WriteError> for ToolError {
+    ghost from_gives = { λ e out. out ≡ refused_write e };
+
+    fn from(error: WriteError) -> ToolError {
+        match error {
+            WriteError::Io(kind) => ToolError::Write(kind),
+        }
+    }
+}
+
+impl From<AllocError> for ToolError {
+    ghost from_gives = { λ _ out. out ≡ tool.Memory };
+
+    fn from(_error: AllocError) -> ToolError {
+        ToolError::Memory
+    }
+}
