@@ -59,11 +59,7 @@ fn null_code(b: &[u8], lim: u64) -> Result<(Uleb, usize), Bad>
 
 /// The widths of the nulls from the front of `b` to the unit's end, before which `lim` bytes are
 /// left.
-pub(crate) fn padding_at(
-    alloc: Global,
-    b: &[u8],
-    lim: u64,
-) -> Result<(Vec<u8>, usize), BodyError>
+pub(crate) fn padding_at(alloc: Global, b: &[u8], lim: u64) -> Result<(Vec<u8>, usize), BodyError>
     ensures exact { (fuel : ℕ) → length b.now < fuel → Tells vec_items result (read_padding fuel b.now lim) }
     ensures room { IfOk result (λ x. x.1 ≤ length b.now) }
     ensures near { IfErr result (IsNear (length b.now)) }

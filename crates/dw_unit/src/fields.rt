@@ -177,12 +177,7 @@ pub(crate) fn header_fields(
 }
 
 #[tactic(auto, unfolding(crate::specs::ReadUnit::read_fields))]
-fn versioned(
-    order: Order,
-    format: Format,
-    b: &[u8],
-    lim: u64,
-) -> Result<(HeaderFields, usize), Bad>
+fn versioned(order: Order, format: Format, b: &[u8], lim: u64) -> Result<(HeaderFields, usize), Bad>
     ensures exact { read_fields order format b.now lim ≡ told all_fields result }
     ensures room { IfOk result (λ x. (x.1 ≤ length b.now) × (x.1 ≤ lim) × (x.1 ≤ 28)) }
     ensures near { IfErr result (λ e. e.offset ≤ 20) }

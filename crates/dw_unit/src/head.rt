@@ -52,7 +52,10 @@ pub(crate) fn head_at(order: Order, b: &[u8]) -> Result<((Header, u64, u64), usi
     match header_fields(order, format, &b[size..], unit_length) {
         Ok((fields, more)) => {
             let header = Header::of(order, format, fields);
-            Ok(((header, unit_length, unit_length - more as u64), size + more))
+            Ok((
+                (header, unit_length, unit_length - more as u64),
+                size + more,
+            ))
         }
         Err(e) => Err(e.behind(size)),
     }

@@ -18,13 +18,11 @@ use crate::head::length_bytes as initial_size;
 use crate::header::Header;
 use crate::kind::Kind;
 use crate::unit::Unit;
-use arrayvec::ArrayVec;
 use crate::values::Values;
+use arrayvec::ArrayVec;
 use dw_abbrev::{Pair, Table};
 use dw_form::{Ctx, Stored, write_value};
-use dw_leb::{
-    Format, Order, Uleb, Watched, WriteError, write_all, write_fixed, write_length,
-};
+use dw_leb::{Format, Order, Uleb, Watched, WriteError, write_all, write_fixed, write_length};
 use std::io::Write;
 
 /// The number of a kind (section 7.5.1).
@@ -72,7 +70,13 @@ pub fn write_unit<W: Write>(unit: &Unit, writer: &mut Watched<W>) -> Result<(), 
     let header = unit.header;
     let behind = unit.size - initial_size(header.format()) as u64;
     write_head(header, behind, writer)?;
-    write_root(header.context(), &unit.table, &unit.code, &unit.values, writer)?;
+    write_root(
+        header.context(),
+        &unit.table,
+        &unit.code,
+        &unit.values,
+        writer,
+    )?;
     write_nulls(unit.padding.as_slice(), writer)
 }
 
@@ -83,7 +87,10 @@ fn write_head<W: Write>(header: Header, n: u64, writer: &mut Watched<W>) -> Resu
     ensures written { Wrote (W.contents (inner_of writer.old)) (W.contents (inner_of writer.new)) ((initial_length header.order 0).spell (header.format, n) ++ (fields header.order header.format).spell (fields_of header)) result }
     ensures fault { fault_of writer.new ≡ told_by_write result }
 {
-    write_all(writer, write_length(header.order(), header.format(), n).as_slice())?;
+    write_all(
+        writer,
+        write_length(header.order(), header.format(), n).as_slice(),
+    )?;
     write_all(writer, field_bytes(header).as_slice())
 }
 
@@ -122,7 +129,13 @@ fn write_root<W: Write>(
         unreachable!()
     };
     write_all(writer, code.bytes().as_slice())?;
-    write_values(ctx, decl.pairs(), values.stored.as_slice(), values.pool.as_slice(), writer)
+    write_values(
+        ctx,
+        decl.pairs(),
+        values.stored.as_slice(),
+        values.pool.as_slice(),
+        writer,
+    )
 }
 
 /// Writes nulls of these widths.

@@ -14,6 +14,8 @@ returns-in-Ok-clause-found c =
 
 pub returns-in-Err-clause-broken : goal.returns-in-Err-clause-broken
 returns-in-Err-clause-broken c =
-    subst (λ (f : Fault). HeaderFault c.args.order c.args.b.now f) (sym c.info_fault.ensures)
-    (refl, subst (λ (o : Outcome Heading). HeadSays c.args.order c.args.b.now o) c.in-Err.ensures.exact
-    (head_says c.args.order c.args.b.now (are_bytes c.args.b.now (λ k. omega (arith, c.type_inv.b k)))))
+    subst (λ (f : Fault). HeaderFault c.args.order c.args.b.now f) (sym c.info_fault.ensures) (
+      refl,
+      subst (λ (o : Outcome Heading). HeadSays c.args.order c.args.b.now o) c.in-Err.ensures.exact
+          (head_says c.args.order c.args.b.now (are_bytes c.args.b.now (λ k. omega (arith, c.type_inv.b k)))),
+    )
