@@ -11,6 +11,8 @@ mod head;
 mod header;
 mod kind;
 mod reader;
+#[cfg(test)]
+mod tests;
 mod unit;
 mod values;
 mod writer;
