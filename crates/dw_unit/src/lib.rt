@@ -14,6 +14,8 @@ mod header;
 mod kind;
 pub mod laws;
 mod reader;
+#[cfg(test)]
+mod tests;
 mod unit;
 mod values;
 mod writer;

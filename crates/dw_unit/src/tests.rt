@@ -1,0 +1,479 @@
+//! What no clause says: units whose values are known from the standard, each call once with memory
+//! to spare, and writers that take little or fail.
+use crate::{AttrRef, Header, Kind, Unit, read_header, read_unit, write_unit};
+use dw_abbrev::Tables;
+use dw_form::Value;
+use dw_leb::devices::Stepped;
+use dw_leb::{Fault, Format, Order, ReadError, Reason, Section, Watched, WriteError};
+use std::alloc::{AllocError, Global};
+use std::io::ErrorKind;
+use std::test::Fail;
+
+/// One declaration: code 1, DW_TAG_compile_unit, no children, DW_AT_name as DW_FORM_string.
+const NAMED: [u8; 8] = [0x01, 0x11, 0, 0x03, 0x08, 0, 0, 0];
+
+/// A compile unit of the name "a".
+const FIFTEEN: [u8; 15] = [
+    0x0b, 0, 0, 0, 0x05, 0, 0x01, 0x08, 0, 0, 0, 0, 0x01, 0x61, 0,
+];
+
+/// The same in the 64-bit format (section 7.4).
+const SIXTY_FOUR: [u8; 27] = [
+    0xff, 0xff, 0xff, 0xff, 0x0f, 0, 0, 0, 0, 0, 0, 0, 0x05, 0, 0x01, 0x08, 0, 0, 0, 0, 0, 0, 0, 0,
+    0x01, 0x61, 0,
+];
+
+/// A type unit of the name "a", of a signature, whose type stands at 24.
+const TYPE_UNIT: [u8; 27] = [
+    0x17, 0, 0, 0, 0x05, 0, 0x02, 0x08, 0, 0, 0, 0, 0x88, 0x77, 0x66, 0x55, 0x44, 0x33, 0x22, 0x11,
+    0x18, 0, 0, 0, 0x01, 0x61, 0,
+];
+
+/// A skeleton unit of the name "a".
+const SKELETON: [u8; 23] = [
+    0x13, 0, 0, 0, 0x05, 0, 0x04, 0x08, 0, 0, 0, 0, 0x08, 0x07, 0x06, 0x05, 0x04, 0x03, 0x02, 0x01,
+    0x01, 0x61, 0,
+];
+
+/// A header of a compile unit with this unit_length and the table at `table`, and what follows it.
+fn compiled(alloc: Global, length: u8, table: u8, body: &[u8]) -> Result<Vec<u8>, AllocError> {
+    let head = [length, 0, 0, 0, 0x05, 0, 0x01, 0x08, table, 0, 0, 0];
+    let mut bytes = Vec::from_slice(alloc, &head)?;
+    bytes.extend_from_slice(body)?;
+    Ok(bytes)
+}
+
+fn little(alloc: Global, section: &[u8], b: &[u8]) -> Result<(Unit, usize), ReadError> {
+    let mut tables = Tables::new(alloc, section);
+    read_unit(alloc, Order::Little, &mut tables, b)
+}
+
+fn written(alloc: Global, unit: &Unit) -> Result<Vec<u8>, WriteError> {
+    let mut writer = Watched::new(Vec::new(alloc));
+    write_unit(unit, &mut writer)?;
+    Ok(writer.into_inner())
+}
+
+fn refusal(alloc: Global, order: Order, section: &[u8], b: &[u8]) -> Option<Fault> {
+    let mut tables = Tables::new(alloc, section);
+    match read_unit(alloc, order, &mut tables, b) {
+        Err(ReadError::Fault(fault)) => Some(fault),
+        Err(_) => None,
+        Ok(_) => None,
+    }
+}
+
+fn in_info(offset: u64, reason: Reason) -> Option<Fault> {
+    Some(Fault {
+        section: Section::Info,
+        offset,
+        reason,
+    })
+}
+
+fn in_abbrev(offset: u64, reason: Reason) -> Option<Fault> {
+    Some(Fault {
+        section: Section::Abbrev,
+        offset,
+        reason,
+    })
+}
+
+fn text_of<'a>(attr: &AttrRef<'a>) -> Option<&'a [u8]> {
+    match attr.attr.value {
+        Value::Text(text) => Some(text),
+        _ => None,
+    }
+}
+
+fn number_of(attr: &AttrRef<'_>) -> Option<u64> {
+    match attr.attr.value {
+        Value::Num(number) => Some(number),
+        _ => None,
+    }
+}
+
+#[test]
+fn reads_the_fifteen_bytes(rt: HostRuntime) -> Result<(), Fail> {
+    let (unit, size) = little(rt.alloc(), &NAMED, &FIFTEEN)?;
+    assert_eq!(rt; size, 15);
+    assert_eq!(rt; unit.size(), 15);
+    assert!(rt; unit.padding().is_empty());
+    let header = unit.header();
+    assert_eq!(rt; header.order(), Order::Little);
+    assert_eq!(rt; header.format(), Format::Dwarf32);
+    assert_eq!(rt; header.kind(), Kind::Compile);
+    assert_eq!(rt; header.address_size(), 8);
+    assert_eq!(rt; header.abbrev_offset(), 0);
+    assert_eq!(rt; header.context().address_size, 8);
+    let root = unit.root();
+    assert_eq!(rt; root.offset(), 12);
+    assert_eq!(rt; root.depth(), 1);
+    assert_eq!(rt; (root.code().value, root.code().width), (1, 1));
+    assert_eq!(rt; root.tag(), 0x11);
+    let mut attrs = root.attrs();
+    let name = attrs.next().ok_or("no attribute")?;
+    assert_eq!(rt; (name.name, name.form, name.offset), (3, 8, 13));
+    assert!(rt; name.attr.via.is_none());
+    assert_eq!(rt; text_of(&name), Some([0x61].as_slice()));
+    assert!(rt; attrs.next().is_none());
+    assert_eq!(rt; written(rt.alloc(), &unit)?.as_slice(), FIFTEEN.as_slice());
+    Ok(())
+}
+
+#[test]
+fn reads_a_header_alone(rt: HostRuntime) -> Result<(), Fail> {
+    let (header, unit_length) = read_header(Order::Little, &FIFTEEN).map_err(ReadError::Fault)?;
+    assert_eq!(rt; unit_length, 11);
+    let same = Header::new(Order::Little, Format::Dwarf32, Kind::Compile, 8, 0);
+    assert_eq!(rt; Some(header), same);
+    // The unit_length is no claim about the bytes that are there.
+    let (cut, unit_length) = read_header(Order::Little, &FIFTEEN[..12]).map_err(ReadError::Fault)?;
+    assert_eq!(rt; (cut, unit_length), (header, 11));
+    let fault = read_header(Order::Little, &FIFTEEN[..11]).err();
+    assert_eq!(rt; fault, in_info(8, Reason::Truncated));
+    Ok(())
+}
+
+#[test]
+fn stops_at_the_units_end(rt: HostRuntime) -> Result<(), Fail> {
+    let alloc = rt.alloc();
+    let longer = compiled(alloc, 0x0b, 0, &[0x01, 0x61, 0, 0x02, 0x02])?;
+    let (unit, size) = little(alloc, &NAMED, longer.as_slice())?;
+    assert_eq!(rt; (size, unit.size()), (15, 15));
+    assert_eq!(rt; written(alloc, &unit)?.as_slice(), FIFTEEN.as_slice());
+    Ok(())
+}
+
+#[test]
+fn keeps_the_width_of_a_code(rt: HostRuntime) -> Result<(), Fail> {
+    let alloc = rt.alloc();
+    let padded = compiled(alloc, 0x0c, 0, &[0x81, 0, 0x61, 0])?;
+    let (unit, size) = little(alloc, &NAMED, padded.as_slice())?;
+    assert_eq!(rt; size, 16);
+    let root = unit.root();
+    assert_eq!(rt; (root.code().value, root.code().width), (1, 2));
+    let name = root.attrs().next().ok_or("no attribute")?;
+    assert_eq!(rt; name.offset, 14);
+    assert_eq!(rt; written(alloc, &unit)?.as_slice(), padded.as_slice());
+    Ok(())
+}
+
+#[test]
+fn keeps_the_padding(rt: HostRuntime) -> Result<(), Fail> {
+    let alloc = rt.alloc();
+    let padded = compiled(alloc, 0x0e, 0, &[0x01, 0x61, 0, 0, 0x80, 0])?;
+    let (unit, size) = little(alloc, &NAMED, padded.as_slice())?;
+    assert_eq!(rt; (size, unit.size()), (18, 18));
+    assert_eq!(rt; unit.padding(), [1, 2].as_slice());
+    assert_eq!(rt; written(alloc, &unit)?.as_slice(), padded.as_slice());
+    Ok(())
+}
+
+#[test]
+fn four_kinds(rt: HostRuntime) -> Result<(), Fail> {
+    let alloc = rt.alloc();
+    let mut partial = FIFTEEN;
+    partial[6] = 0x03;
+    let type_unit = Kind::TypeUnit {
+        signature: 0x1122334455667788,
+        type_offset: 24,
+    };
+    let skeleton = Kind::Skeleton {
+        dwo_id: 0x0102030405060708,
+    };
+    for (bytes, kind, root_at) in [
+        (FIFTEEN.as_slice(), Kind::Compile, 12),
+        (partial.as_slice(), Kind::Partial, 12),
+        (TYPE_UNIT.as_slice(), type_unit, 24),
+        (SKELETON.as_slice(), skeleton, 20),
+    ] {
+        let (unit, size) = little(alloc, &NAMED, bytes)?;
+        assert_eq!(rt; size, bytes.len());
+        assert_eq!(rt; unit.header().kind(), kind);
+        assert_eq!(rt; unit.root().offset(), root_at);
+        assert_eq!(rt; written(alloc, &unit)?.as_slice(), bytes);
+    }
+    Ok(())
+}
+
+#[test]
+fn sixty_four_bit_format(rt: HostRuntime) -> Result<(), Fail> {
+    let (unit, size) = little(rt.alloc(), &NAMED, &SIXTY_FOUR)?;
+    assert_eq!(rt; (size, unit.size()), (27, 27));
+    assert_eq!(rt; unit.header().format(), Format::Dwarf64);
+    assert_eq!(rt; unit.root().offset(), 24);
+    let name = unit.root().attrs().next().ok_or("no attribute")?;
+    assert_eq!(rt; name.offset, 25);
+    assert_eq!(rt;
+        written(rt.alloc(), &unit)?.as_slice(),
+        SIXTY_FOUR.as_slice()
+    );
+    Ok(())
+}
+
+#[test]
+fn big_endian(rt: HostRuntime) -> Result<(), Fail> {
+    let alloc = rt.alloc();
+    let bytes = [
+        0, 0, 0, 0x0b, 0, 0x05, 0x01, 0x08, 0, 0, 0, 0, 0x01, 0x61, 0,
+    ];
+    let mut tables = Tables::new(alloc, &NAMED);
+    let (unit, size) = read_unit(alloc, Order::Big, &mut tables, &bytes)?;
+    assert_eq!(rt; size, 15);
+    assert_eq!(rt; unit.header().order(), Order::Big);
+    assert_eq!(rt; written(alloc, &unit)?.as_slice(), bytes.as_slice());
+    let swapped = refusal(alloc, Order::Big, &NAMED, &FIFTEEN);
+    assert_eq!(rt; swapped, in_info(4, Reason::BadVersion));
+    Ok(())
+}
+
+#[test]
+fn second_of_two_tables(rt: HostRuntime) -> Result<(), Fail> {
+    let alloc = rt.alloc();
+    let mut section = Vec::from_slice(alloc, &NAMED)?;
+    section.extend_from_slice(&[0x01, 0x11, 0, 0x49, 0x10, 0, 0, 0])?;
+    let bytes = compiled(alloc, 0x0d, 0x08, &[0x01, 0x0c, 0, 0, 0])?;
+    let (unit, size) = little(alloc, section.as_slice(), bytes.as_slice())?;
+    assert_eq!(rt; size, 17);
+    assert_eq!(rt; unit.header().abbrev_offset(), 8);
+    let reference = unit.root().attrs().next().ok_or("no attribute")?;
+    assert_eq!(rt;
+        (reference.name, reference.form, reference.offset),
+        (0x49, 0x10, 13)
+    );
+    assert_eq!(rt; number_of(&reference), Some(12));
+    assert_eq!(rt; written(alloc, &unit)?.as_slice(), bytes.as_slice());
+    Ok(())
+}
+
+#[test]
+fn two_attributes_in_their_order(rt: HostRuntime) -> Result<(), Fail> {
+    let alloc = rt.alloc();
+    let section = [0x01, 0x11, 0, 0x72, 0x17, 0x03, 0x25, 0, 0, 0];
+    let bytes = compiled(alloc, 0x0e, 0, &[0x01, 0x08, 0, 0, 0, 0x01])?;
+    let (unit, size) = little(alloc, &section, bytes.as_slice())?;
+    assert_eq!(rt; size, 18);
+    let mut attrs = unit.root().attrs();
+    let base = attrs.next().ok_or("no attribute")?;
+    assert_eq!(rt; (base.name, base.form, base.offset), (0x72, 0x17, 13));
+    assert_eq!(rt; number_of(&base), Some(8));
+    let name = attrs.next().ok_or("one attribute")?;
+    assert_eq!(rt; (name.name, name.form, name.offset), (0x03, 0x25, 17));
+    assert_eq!(rt; number_of(&name), Some(1));
+    assert!(rt; attrs.next().is_none());
+    assert_eq!(rt; written(alloc, &unit)?.as_slice(), bytes.as_slice());
+    Ok(())
+}
+
+#[test]
+fn form_of_an_indirect_value(rt: HostRuntime) -> Result<(), Fail> {
+    let alloc = rt.alloc();
+    let section = [0x01, 0x11, 0, 0x0b, 0x16, 0, 0, 0];
+    let bytes = compiled(alloc, 0x0c, 0, &[0x01, 0x0f, 0x85, 0])?;
+    let (unit, size) = little(alloc, &section, bytes.as_slice())?;
+    assert_eq!(rt; size, 16);
+    let size_attribute = unit.root().attrs().next().ok_or("no attribute")?;
+    assert_eq!(rt; (size_attribute.form, size_attribute.offset), (0x0f, 13));
+    assert_eq!(rt; written(alloc, &unit)?.as_slice(), bytes.as_slice());
+    Ok(())
+}
+
+#[test]
+fn refused_roots_and_padding(rt: HostRuntime) -> Result<(), Fail> {
+    let alloc = rt.alloc();
+    let named = [0x01, 0x61, 0];
+    for (length, table, body, offset, reason) in [
+        (0x0b, 0, [0x01, 0x61].as_slice(), 13, Reason::Truncated),
+        (0x0a, 0, named.as_slice(), 13, Reason::PastUnit),
+        (0x08, 0, [].as_slice(), 12, Reason::PastUnit),
+        (0x09, 0, [0].as_slice(), 12, Reason::NoRoot),
+        (
+            0x0c,
+            0,
+            [0x01, 0x61, 0, 0x01].as_slice(),
+            15,
+            Reason::SecondRoot,
+        ),
+        (0x0c, 0, named.as_slice(), 15, Reason::Truncated),
+        (
+            0x0c,
+            0,
+            [0x01, 0x61, 0, 0x80].as_slice(),
+            15,
+            Reason::PastUnit,
+        ),
+        // The unit_length is not compared with the count of bytes that are there.
+        (0xff, 0, [0x02].as_slice(), 12, Reason::UnknownCode),
+        // The table at 7 is the empty one.
+        (0x0b, 7, named.as_slice(), 12, Reason::UnknownCode),
+    ] {
+        let bytes = compiled(alloc, length, table, body)?;
+        let fault = refusal(alloc, Order::Little, &NAMED, bytes.as_slice());
+        assert_eq!(rt; fault, in_info(offset, reason), "of length {length}");
+    }
+    Ok(())
+}
+
+#[test]
+fn refused_headers(rt: HostRuntime) {
+    let alloc = rt.alloc();
+    for (bytes, offset, reason) in [
+        ([].as_slice(), 0, Reason::Truncated),
+        (
+            [0xf0, 0xff, 0xff, 0xff].as_slice(),
+            0,
+            Reason::ReservedLength,
+        ),
+        ([0xff; 12].as_slice(), 0, Reason::LengthTooBig),
+        ([0; 4].as_slice(), 4, Reason::PastUnit),
+        (
+            [0x05, 0, 0, 0, 0x05, 0, 0x01, 0x08].as_slice(),
+            8,
+            Reason::PastUnit,
+        ),
+        (&FIFTEEN[..5], 4, Reason::Truncated),
+        (&FIFTEEN[..10], 8, Reason::Truncated),
+        (&TYPE_UNIT[..20], 20, Reason::Truncated),
+    ] {
+        let fault = refusal(alloc, Order::Little, &NAMED, bytes);
+        assert_eq!(rt; fault, in_info(offset, reason));
+        assert_eq!(rt; read_header(Order::Little, bytes).err(), fault);
+    }
+}
+
+#[test]
+fn refused_fields(rt: HostRuntime) {
+    let alloc = rt.alloc();
+    for (at, value, offset, reason) in [
+        (4, 0x04, 4, Reason::BadVersion),
+        (6, 0, 6, Reason::BadUnitType),
+        (6, 0x05, 6, Reason::BadUnitType),
+        (6, 0x80, 6, Reason::BadUnitType),
+        (7, 0, 7, Reason::BadAddressSize),
+        (7, 0x09, 7, Reason::BadAddressSize),
+    ] {
+        let mut bytes = FIFTEEN;
+        bytes[at] = value;
+        let fault = refusal(alloc, Order::Little, &NAMED, &bytes);
+        assert_eq!(rt; fault, in_info(offset, reason), "of {value} at {at}");
+    }
+}
+
+#[test]
+fn refused_tables(rt: HostRuntime) -> Result<(), Fail> {
+    let alloc = rt.alloc();
+    for (section, offset, reason) in [
+        ([0x01, 0x11, 0x02].as_slice(), 2, Reason::BadChildren),
+        ([0x01, 0x11, 0, 0x03, 0].as_slice(), 3, Reason::HalfPair),
+        (
+            [0x01, 0x11, 0, 0, 0, 0x01].as_slice(),
+            5,
+            Reason::DuplicateCode,
+        ),
+        ([0x01, 0x11, 0, 0x03, 0x08].as_slice(), 5, Reason::Truncated),
+    ] {
+        let fault = refusal(alloc, Order::Little, section, &FIFTEEN);
+        assert_eq!(rt; fault, in_abbrev(offset, reason));
+    }
+    // The table is judged behind the header and before the root.
+    for root in [0x01, 0] {
+        let past = compiled(alloc, 0x0b, 0x08, &[root, 0x61, 0])?;
+        let fault = refusal(alloc, Order::Little, &NAMED, past.as_slice());
+        assert_eq!(rt; fault, in_abbrev(8, Reason::AbbrevOffset));
+    }
+    let mut both = FIFTEEN;
+    both[7] = 0;
+    both[8] = 0x08;
+    let fault = refusal(alloc, Order::Little, &NAMED, &both);
+    assert_eq!(rt; fault, in_info(7, Reason::BadAddressSize));
+    Ok(())
+}
+
+#[test]
+fn fault_of_the_third_value(rt: HostRuntime) -> Result<(), Fail> {
+    let alloc = rt.alloc();
+    let section = [0x01, 0x11, 0, 0x03, 0x08, 0x0b, 0x0b, 0x0b, 0x05, 0, 0, 0];
+    let bytes = compiled(alloc, 0x0d, 0, &[0x01, 0x61, 0, 0x04, 0x01])?;
+    let fault = refusal(alloc, Order::Little, &section, bytes.as_slice());
+    assert_eq!(rt; fault, in_info(16, Reason::PastUnit));
+    Ok(())
+}
+
+#[test]
+fn children_are_not_read_yet(rt: HostRuntime) -> Result<(), Fail> {
+    let alloc = rt.alloc();
+    let section = [
+        0x01, 0x11, 0x01, 0x03, 0x08, 0, 0, 0x02, 0x24, 0, 0x0b, 0x0b, 0, 0, 0,
+    ];
+    let bytes = compiled(alloc, 0x0e, 0, &[0x01, 0x61, 0, 0x02, 0x04, 0])?;
+    let fault = refusal(alloc, Order::Little, &section, bytes.as_slice());
+    assert_eq!(rt; fault, in_info(12, Reason::NotYet));
+    Ok(())
+}
+
+fn is_header(format: Format, kind: Kind, address_size: u8, abbrev_offset: u64) -> bool {
+    Header::new(Order::Little, format, kind, address_size, abbrev_offset).is_some()
+}
+
+#[test]
+fn headers_that_fit(rt: HostRuntime) {
+    let above = 1 << 32;
+    for (address_size, fits) in [(0, false), (1, true), (4, true), (8, true), (9, false)] {
+        let header = is_header(Format::Dwarf32, Kind::Compile, address_size, 0);
+        assert_eq!(rt; header, fits, "of address size {address_size}");
+    }
+    assert_eq!(rt;
+        is_header(Format::Dwarf32, Kind::Partial, 8, above - 1),
+        true
+    );
+    assert_eq!(rt; is_header(Format::Dwarf32, Kind::Partial, 8, above), false);
+    assert_eq!(rt; is_header(Format::Dwarf64, Kind::Partial, 8, above), true);
+    for (type_offset, fits) in [(above - 1, true), (above, false)] {
+        let kind = Kind::TypeUnit {
+            signature: u64::MAX,
+            type_offset,
+        };
+        assert_eq!(rt; is_header(Format::Dwarf32, kind, 8, 0), fits);
+        assert_eq!(rt; is_header(Format::Dwarf64, kind, 8, 0), true);
+    }
+}
+
+#[test]
+fn writes_byte_by_byte(rt: HostRuntime) -> Result<(), Fail> {
+    let alloc = rt.alloc();
+    let (unit, _) = little(alloc, &NAMED, &TYPE_UNIT)?;
+    let mut writer = Watched::new(Stepped::new(Vec::new(alloc), 1));
+    write_unit(&unit, &mut writer)?;
+    assert_eq!(rt; writer.fault(), None);
+    let device = writer.into_inner();
+    assert_eq!(rt; device.inner().as_slice(), TYPE_UNIT.as_slice());
+    Ok(())
+}
+
+#[test]
+fn keeps_a_writers_fault(rt: HostRuntime) -> Result<(), Fail> {
+    let alloc = rt.alloc();
+    let (unit, _) = little(alloc, &NAMED, &FIFTEEN)?;
+    for taken in [
+        &FIFTEEN[..0],
+        &FIFTEEN[..3],
+        &FIFTEEN[..4],
+        &FIFTEEN[..12],
+        &FIFTEEN[..13],
+        &FIFTEEN[..14],
+    ] {
+        let after = taken.len() as u64;
+        let device = Stepped::failing(Vec::new(alloc), 1, after, ErrorKind::Other);
+        let mut writer = Watched::new(device);
+        let answer = write_unit(&unit, &mut writer);
+        assert_eq!(rt; answer, Err(WriteError::Io(ErrorKind::Other)));
+        assert_eq!(rt; writer.fault(), Some(ErrorKind::Other));
+        let device = writer.into_inner();
+        assert_eq!(rt; device.inner().as_slice(), taken);
+    }
+    let mut stuck = Watched::new(Stepped::new(Vec::new(alloc), 0));
+    let answer = write_unit(&unit, &mut stuck);
+    assert_eq!(rt; answer, Err(WriteError::Io(ErrorKind::WriteZero)));
+    Ok(())
+}
