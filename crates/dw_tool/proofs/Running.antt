@@ -1,12 +1,11 @@
 -- What a run writes of the bytes that it read.
-use Rattle.std.proofs.Common.{◌≡◌, ◌∙◌, ℕ, ◌+◌, suc, List, [], ◌∷◌, ◌++◌, length, Option, Some, None, Result, Ok, Err, refl, sym, ap, subst, append-nil, arith}
+use Rattle.std.proofs.Common.{◌≡◌, ◌∙◌, ℕ, ◌+◌, suc, List, [], ◌∷◌, ◌++◌, length, Option, Some, None, Ok, Err, refl, sym, ap, subst, append-nil, arith}
 use Rattle.std.proofs.lemmas.List.{length-append}
-use Rattle.std.specs.Io.KnownBytes.{Appends, Consumes, IsAtEnd}
+use Rattle.std.specs.Io.KnownBytes.{Appends}
 use Rattle.dw_leb.specs.declared.order.Order.{Order}
 use Rattle.dw_leb.specs.Watch.{AppendsFront}
-use Rattle.dw_unit.specs.WholeUnit.{WholeUnit, UnitAt, bytes_of}
+use Rattle.dw_unit.specs.WholeUnit.{WholeUnit, bytes_of}
 use Rattle.dw_tool.specs.declared.command.Command.{Command}
-use Rattle.dw_tool.specs.declared.status.Status.{Status}
 use Rattle.dw_tool.specs.declared.status.Status.TheVariants.{Good}
 use Rattle.dw_tool.specs.declared.status.ToolError.{ToolError}
 use Rattle.dw_tool.specs.declared.status.ToolError.TheVariants as tool
@@ -27,15 +26,24 @@ fills a order bytes (Some u) h =
 
 pub run_wrote : (command : Command) (order : Order) (a : List ℕ) (left left' held held' : Option (List ℕ)) (bytes slice : List ℕ) (section : Option WholeUnit) → slice ≡ bytes
     → ReadsWhole left left' bytes → IsSection a order slice section → Appends held held' (output command (section_bytes section) section) → Runs command order a left left' held held' (Ok Good)
-run_wrote command order a left left' held held' bytes slice section same whole found wrote =
-    (slice, section, subst (λ (b : List ℕ). ReadsWhole left left' b) (sym same) whole, found,
-    subst (λ (b : List ℕ). Appends held held' (output command b section)) (fills a order slice section found) wrote, refl)
+run_wrote command order a left left' held held' bytes slice section same whole found wrote = (
+  slice,
+  section,
+  subst (λ (b : List ℕ). ReadsWhole left left' b) (sym same) whole,
+  found,
+  subst (λ (b : List ℕ). Appends held held' (output command b section)) (fills a order slice section found) wrote,
+  refl,
+)
 
 pub run_stopped : (command : Command) (order : Order) (a : List ℕ) (left left' held held' : Option (List ℕ)) (bytes slice : List ℕ) (section : Option WholeUnit) → slice ≡ bytes
     → ReadsWhole left left' bytes → IsSection a order slice section → (e : ToolError) → Writes {X = Unit {0}} held held' (output command (section_bytes section) section) (Err e) → Runs command order a left left' held held' (Err e)
-run_stopped command order a left left' held held' bytes slice section same whole found (tool.Write kind) wrote =
-    (slice, section, subst (λ (b : List ℕ). ReadsWhole left left' b) (sym same) whole, found,
-    subst (λ (b : List ℕ). AppendsFront held held' (output command b section)) (fills a order slice section found) wrote)
+run_stopped command order a left left' held held' bytes slice section same whole found (tool.Write kind) wrote = (
+  slice,
+  section,
+  subst (λ (b : List ℕ). ReadsWhole left left' b) (sym same) whole,
+  found,
+  subst (λ (b : List ℕ). AppendsFront held held' (output command b section)) (fills a order slice section found) wrote,
+)
 run_stopped command order a left left' held held' bytes slice section same whole found tool.Memory wrote = ((bytes, whole.0), wrote)
 run_stopped command order a left left' held held' bytes slice section same whole found (tool.Fault f) wrote = absurd wrote
 run_stopped command order a left left' held held' bytes slice section same whole found (tool.Read kind) wrote = absurd wrote

@@ -232,7 +232,8 @@ fn refused(offset: u64, reason: Reason) -> Result<Status, ToolError> {
 #[test]
 fn runs_over_a_unit(rt: HostRuntime) -> Result<(), Fail> {
     let unit = &UNIT_AND_MORE[..15];
-    let text = "unit 0x0 compile 32 size 15 abbrev 0x0 addr 8\n<1> 0xc DW_TAG_compile_unit\n  DW_AT_name \"a\"\n";
+    let text =
+        "unit 0x0 compile 32 size 15 abbrev 0x0 addr 8\n<1> 0xc DW_TAG_compile_unit\n  DW_AT_name \"a\"\n";
     let shown = runs(rt.alloc(), Command::Show, unit, text.as_bytes())?;
     assert_eq!(rt; shown, Ok(Status::Good));
     let copied = runs(rt.alloc(), Command::Copy, unit, unit)?;
@@ -255,13 +256,27 @@ fn tells_devices_that_fail(rt: HostRuntime) {
     for command in [Command::Show, Command::Copy] {
         let mut reader = Watched::new(Stepped::failing(unit, 4, 2, ErrorKind::TimedOut));
         let mut writer = Watched::new(Vec::new(alloc));
-        let unread = run(alloc, command, Order::Little, &TABLE, &mut reader, &mut writer);
+        let unread = run(
+            alloc,
+            command,
+            Order::Little,
+            &TABLE,
+            &mut reader,
+            &mut writer,
+        );
         assert_eq!(rt; unread, Err(ToolError::Read(ErrorKind::TimedOut)));
         assert!(rt; writer.into_inner().is_empty());
 
         let mut reader = Watched::new(unit);
         let mut writer = Watched::new(Stepped::failing(Vec::new(alloc), 4, 1, ErrorKind::TimedOut));
-        let unwritten = run(alloc, command, Order::Little, &TABLE, &mut reader, &mut writer);
+        let unwritten = run(
+            alloc,
+            command,
+            Order::Little,
+            &TABLE,
+            &mut reader,
+            &mut writer,
+        );
         assert_eq!(rt; unwritten, Err(ToolError::Write(ErrorKind::TimedOut)));
     }
 }

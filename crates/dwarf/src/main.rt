@@ -8,15 +8,15 @@ use dw_tool::command::{Line, LineError};
 use dw_tool::line::line;
 use dw_tool::run::run;
 use dw_tool::status::ToolError;
-use std::env;
-use std::fs;
-use std::io;
 use std::io::ErrorKind;
 use std::process::ExitCode;
 use std::rt::{Env, Files};
+use std::{env, fs, io};
 
 const REFUSED: u8 = 1;
+
 const FILE_FAILED: u8 = 3;
+
 const NO_MEMORY: u8 = 4;
 
 fn main(rt: HostRuntime) -> ExitCode {
@@ -28,7 +28,11 @@ fn act(rt: &(impl AllocGlobal + Env + Files + Print + Eprint)) -> u8 {
     let Ok(words) = words(rt) else {
         return no_memory(rt);
     };
-    let Ok(texts) = words.iter().map(|word| word.as_str()).collect::<Vec<&str>>(rt.alloc()) else {
+    let Ok(texts) = words
+        .iter()
+        .map(|word| word.as_str())
+        .collect::<Vec<&str>>(rt.alloc())
+    else {
         return no_memory(rt);
     };
     match line(rt.alloc(), texts.as_slice()) {

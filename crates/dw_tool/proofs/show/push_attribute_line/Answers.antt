@@ -1,4 +1,4 @@
-use Rattle.std.proofs.Common.{rules, codes, decimal, ◌++◌}
+use Rattle.std.proofs.Common.{rules, codes, ◌++◌}
 use Rattle.dw_tool.specs.Show.{value_text}
 use Rattle.dw_tool.specs.Text.{attribute_text}
 use Rattle.dw_form.specs.Lent.{value_of}

@@ -1,4 +1,4 @@
-use Rattle.std.proofs.Common.{rules, codes, decimal, ◌++◌}
+use Rattle.std.proofs.Common.{rules, codes, ◌++◌}
 use Rattle.dw_tool.specs.Show.{labelled, labelled_decimal}
 use Rattle.dw_tool.specs.Text.{tag_text}
 use Rattle.dw_tool.proofs.Appending.{appends_after, appends_stopped}

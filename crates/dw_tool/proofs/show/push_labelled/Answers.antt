@@ -1,4 +1,4 @@
-use Rattle.std.proofs.Common.{rules, codes, decimal, ◌++◌}
+use Rattle.std.proofs.Common.{rules}
 use Rattle.dw_tool.specs.Text.{hexadecimal}
 use Rattle.dw_tool.proofs.Appending.{appends_after, appends_stopped}
 use Rattle.dw_tool.proofs.show.push_labelled.Goals as goal
