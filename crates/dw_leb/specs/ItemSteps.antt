@@ -66,12 +66,16 @@ module _ {H B : Type 0} (head : List (H × B) → Reader H) (ends : H → Bool) 
     pub is_rest : read_repeated head ends body bytes lim ≡ put before size (read_items head ends body (suc (length bytes - length before)) before (drop size bytes) (lim - size))
 
   pub none_read : (bytes : List ℕ) (lim : ℕ) → ReadSoFar bytes lim [] 0
-  none_read bytes lim = record { within = omega arith; few = omega arith; is_rest = 
-      let all : length bytes ≡ length bytes - 0 = omega arith in
-      let left : lim ≡ lim - 0 = omega arith in
-      sym (put_none (read_items head ends body (suc (length bytes)) [] bytes lim))
-      ∙ ap (λ (n : ℕ). put [] 0 (read_items head ends body (suc n) [] bytes lim)) all
-      ∙ ap (λ (n : ℕ). put [] 0 (read_items head ends body (suc (length bytes - 0)) [] bytes n)) left }
+  none_read bytes lim = record {
+    within = omega arith;
+    few = omega arith;
+    is_rest =
+        let all : length bytes ≡ length bytes - 0 = omega arith in
+        let left : lim ≡ lim - 0 = omega arith in
+        sym (put_none (read_items head ends body (suc (length bytes)) [] bytes lim))
+        ∙ ap (λ (n : ℕ). put [] 0 (read_items head ends body (suc n) [] bytes lim)) all
+        ∙ ap (λ (n : ℕ). put [] 0 (read_items head ends body (suc (length bytes - 0)) [] bytes n)) left;
+  }
 
   -- one item more, of at least a byte
   pub one_read : (bytes : List ℕ) (lim : ℕ) (before : List (H × B)) (size : ℕ) → ReadSoFar bytes lim before size → (h : H) (b : B) (first own : ℕ)
@@ -87,11 +91,11 @@ module _ {H B : Type 0} (head : List (H × B) → Reader H) (ends : H → Bool) 
         within = within;
         few = omega (arith, s.few);
         is_rest = s.is_rest
-        ∙ ap (λ (n : ℕ). put before size (read_items head ends body (suc n) before (drop size bytes) (lim - size))) fuels
-        ∙ ap (put before size) (at_item (suc fuel) before (drop size bytes) (lim - size) h b first own e end f)
-        ∙ put_more before ((h, b) ∷ []) size (first + own) (next (drop (first + own) (drop size bytes)) (lim - size - (first + own)))
-        ∙ ap (λ (t : List ℕ). put (before ++ (h, b) ∷ []) (size + (first + own)) (next t (lim - size - (first + own)))) (drop-drop (first + own) size bytes)
-        ∙ ap (λ (n : ℕ). put (before ++ (h, b) ∷ []) (size + (first + own)) (next (drop (size + (first + own)) bytes) n)) left;
+            ∙ ap (λ (n : ℕ). put before size (read_items head ends body (suc n) before (drop size bytes) (lim - size))) fuels
+            ∙ ap (put before size) (at_item (suc fuel) before (drop size bytes) (lim - size) h b first own e end f)
+            ∙ put_more before ((h, b) ∷ []) size (first + own) (next (drop (first + own) (drop size bytes)) (lim - size - (first + own)))
+            ∙ ap (λ (t : List ℕ). put (before ++ (h, b) ∷ []) (size + (first + own)) (next t (lim - size - (first + own)))) (drop-drop (first + own) size bytes)
+            ∙ ap (λ (n : ℕ). put (before ++ (h, b) ∷ []) (size + (first + own)) (next (drop (size + (first + own)) bytes) n)) left;
       }
 
   -- the end
