@@ -1,10 +1,11 @@
 //! Entries as they are lent (sections 2.1, 2.3 and 7.5.2).
 ghost use Rattle.std.specs.Prelude.{◌≡◌};
 ghost use Rattle.dw_leb.specs.View.{uleb_of};
-ghost use Rattle.dw_leb.specs.Number.{length_size as length_bytes, offset_size as offset_bytes};
 ghost use Rattle.dw_unit.specs.LentEntry.{root_entry, header_size as header_bytes, added_size as added_bytes};
 
 use crate::attrs::Attrs;
+use crate::fields::offset_bytes;
+use crate::head::length_bytes;
 use crate::header::Header;
 use crate::kind::Kind;
 use crate::unit::Unit;
@@ -103,28 +104,8 @@ fn header_size(header: Header) -> u64
 {
     let format = header.format();
     // A version in two bytes, a unit type and an address size in one each, and an offset.
-    let fixed = 4 + offset_size(format);
-    length_size(format) + fixed + added_size(format, header.kind())
-}
-
-/// The count of bytes of a length field (section 7.4).
-fn length_size(format: Format) -> u64
-    ensures { result ≡ length_bytes format }
-{
-    match format {
-        Format::Dwarf32 => 4,
-        Format::Dwarf64 => 12,
-    }
-}
-
-/// The count of bytes of an offset (section 7.4).
-fn offset_size(format: Format) -> u64
-    ensures { result ≡ offset_bytes format }
-{
-    match format {
-        Format::Dwarf32 => 4,
-        Format::Dwarf64 => 8,
-    }
+    let fixed = 4 + offset_bytes(format) as u64;
+    length_bytes(format) as u64 + fixed + added_size(format, header.kind())
 }
 
 /// The count of bytes that a kind adds to a header (section 7.5.1).
@@ -133,7 +114,7 @@ fn added_size(format: Format, kind: Kind) -> u64
 {
     match kind {
         Kind::Compile | Kind::Partial => 0,
-        Kind::TypeUnit { .. } => 8 + offset_size(format),
+        Kind::TypeUnit { .. } => 8 + offset_bytes(format) as u64,
         Kind::Skeleton { .. } => 8,
     }
 }

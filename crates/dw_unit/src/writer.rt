@@ -14,7 +14,7 @@ ghost use Rattle.dw_unit.specs.Entries.{contents, value_part, values_of, IsLeafC
 ghost use Rattle.dw_unit.specs.WholeUnit.{bytes_of};
 
 use crate::fields::offset_bytes;
-use crate::head::length_bytes as initial_size;
+use crate::head::length_bytes;
 use crate::header::Header;
 use crate::kind::Kind;
 use crate::unit::Unit;
@@ -68,7 +68,7 @@ pub fn write_unit<W: Write>(unit: &Unit, writer: &mut Watched<W>) -> Result<(), 
     ensures fault { fault_of writer.new ≡ told_by_write result }
 {
     let header = unit.header;
-    let behind = unit.size - initial_size(header.format()) as u64;
+    let behind = unit.size - length_bytes(header.format()) as u64;
     write_head(header, behind, writer)?;
     write_root(
         header.context(),
