@@ -61,7 +61,7 @@ fn added_bytes(order: Order, format: Format, kind: Kind) -> ArrayVec<u8, 16>
 /// Writes the unit: exactly its one spelling, each number in the width that it holds. It takes no
 /// memory. After an error a beginning of the unit was written (section 7.5).
 ///
-/// Errors: `Io` where the writer fails, `WriteZero` where it takes no more bytes.
+/// Errors: `Io` with the kind of the writer's failure, `WriteZero` where it took no byte of some.
 pub fn write_unit<W: Write>(unit: &Unit, writer: &mut Watched<W>) -> Result<(), WriteError>
     requires { fault_of writer.old ≡ None }
     ensures written { Wrote (W.contents (inner_of writer.old)) (W.contents (inner_of writer.new)) (bytes_of unit.now) result }
