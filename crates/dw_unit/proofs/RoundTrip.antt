@@ -39,10 +39,10 @@ stands section u rest at fits = record { table = u.table; table_at = at; fits = 
 was_read : (section : List ℕ) (order : Order) (bytes : List ℕ) (v : WholeUnit) (size : ℕ) (h : UnitAt section order bytes v size) → UnitIn section (contents_of v) bytes h.rest
 was_read section order bytes v size h = record { table = v.table; table_at = h.table_at; fits = h.fits; split = h.split }
 
-same_contents : (a b : Contents) (m n : ℕ) → Unit a m ≡ Unit b n → a ≡ b
+pub same_contents : (a b : Contents) (m n : ℕ) → Unit a m ≡ Unit b n → a ≡ b
 same_contents a b m n e = cc
 
-apart : (u : Contents) (size : ℕ) (s : Section) (n : ℕ) (r : Reason) → Unit u size ≡ Fault s n r → ⊥
+pub apart : (u : Contents) (size : ℕ) (s : Section) (n : ℕ) (r : Reason) → Unit u size ≡ Fault s n r → ⊥
 apart u size s n r e = cc
 
 -- what is read where a unit was written is that unit, with every width

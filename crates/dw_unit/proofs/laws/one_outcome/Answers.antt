@@ -7,13 +7,11 @@ use Rattle.dw_unit.specs.DecideTree.{tree_decides}
 use Rattle.dw_unit.specs.DecideUnit.{unit_take, unit_fault, unit_says, AnswerSays}
 use Rattle.dw_unit.specs.ReadUnit.{Answer, Unit, Fault, read_unit}
 use Rattle.dw_unit.specs.Unit.{Contents, Fails, UnitIn}
+use Rattle.dw_unit.proofs.RoundTrip.{apart}
 use Rattle.dw_unit.proofs.laws.one_outcome.Goals as goal
 
 same_fault : (s z : Section) (m n : ℕ) (r q : Reason) → Fault s m r ≡ Fault z n q → (s ≡ z) × (m ≡ n) × (r ≡ q)
 same_fault s z m n r q e = (cc, cc, cc)
-
-apart : (u : Contents) (size : ℕ) (s : Section) (n : ℕ) (r : Reason) → Unit u size ≡ Fault s n r → ⊥
-apart u size s n r e = cc
 
 pub returns-clause-trees : goal.returns-clause-trees
 returns-clause-trees c = λ k t room. one_answer _ _ (tree_decides k t room)

@@ -3,12 +3,9 @@ use Rattle.dw_leb.specs.declared.order.Order.{Order}
 use Rattle.dw_leb.specs.Stay.{one_front}
 use Rattle.dw_unit.specs.DecideTree.{fields_decides, tree_decides}
 use Rattle.dw_unit.specs.DecideUnit.{unit_take}
-use Rattle.dw_unit.specs.ReadUnit.{Unit, read_unit}
-use Rattle.dw_unit.specs.Unit.{Contents}
+use Rattle.dw_unit.specs.ReadUnit.{read_unit}
+use Rattle.dw_unit.proofs.RoundTrip.{same_contents}
 use Rattle.dw_unit.proofs.laws.one_spelling.Goals as goal
-
-same_unit : (u v : Contents) (m n : ℕ) → Unit u m ≡ Unit v n → u ≡ v
-same_unit u v m n e = cc
 
 pub returns-clause-headers : goal.returns-clause-headers
 returns-clause-headers c = λ order format. one_front _ _ (fields_decides order format)
@@ -17,4 +14,4 @@ pub returns-clause-trees : goal.returns-clause-trees
 returns-clause-trees c = λ k t room. one_front _ _ (tree_decides k t room)
 
 pub returns-clause-units : goal.returns-clause-units
-returns-clause-units c = λ section bytes a b u v e h g. same_unit u v _ _ (sym (unit_take section u bytes a h) ∙ ap (λ (o : Order). read_unit o section bytes) e ∙ unit_take section v bytes b g)
+returns-clause-units c = λ section bytes a b u v e h g. same_contents u v _ _ (sym (unit_take section u bytes a h) ∙ ap (λ (o : Order). read_unit o section bytes) e ∙ unit_take section v bytes b g)
