@@ -5,3 +5,5 @@ pub mod Lent
 pub mod Kept
 pub mod Told
 pub mod Pieces
+pub mod Named
+pub mod Fit

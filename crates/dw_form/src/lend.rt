@@ -30,7 +30,7 @@ fn content(n: u64, b: &[u8], lim: u64) -> Result<(&[u8], usize), Reason>
 }
 
 /// The place of the first zero byte.
-fn zero_at(b: &[u8]) -> Option<usize>
+pub(crate) fn zero_at(b: &[u8]) -> Option<usize>
     ensures exact { ZeroAt b.now result (before_zero b.now) }
     ensures within { IfSome result (λ i. i < length b.now) }
 {

@@ -15,16 +15,22 @@
 //! Sections that the comments name are those of the DWARF 5 standard.
 #![tactic(auto)]
 
+mod fit;
+#[cfg(test)]
+mod form_tests;
 pub mod laws;
 mod lend;
 mod read;
 mod shape;
+mod span;
 mod stored;
 #[cfg(test)]
 mod tests;
 mod value;
+mod via;
 mod write;
 
+pub use fit::fits;
 pub use lend::lend_value;
 pub use read::{ValueError, read_value};
 pub use shape::{Ctx, Shape};

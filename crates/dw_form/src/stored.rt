@@ -1,37 +1,45 @@
 //! Values of attributes, stored over a pool of bytes.
-ghost use Rattle.std.specs.Prelude.{◌≡◌, ◌<◌, ◌+◌, ◌++◌, length, vec_len, vec_capacity, IfOk, OnErr};
+ghost use Rattle.std.specs.Prelude.{◌≡◌, ◌<◌, ◌+◌, ◌*◌, ◌^◌, ◌++◌, length, vec_len, vec_capacity, IfOk, OnErr};
 ghost use Rattle.dw_form.specs.Lent.{attribute_of};
-ghost use Rattle.dw_form.specs.Kept.{content, bytes_in, StoredFits};
+ghost use Rattle.dw_form.specs.Kept.{content, bytes_in, StoredFits, NamesForm};
 
+use crate::span::Span;
 use crate::value::{AttrValue, Value};
+use crate::via::Via;
 use dw_leb::{Sleb, Uleb};
 use std::alloc::AllocError;
 
 /// A value whose text or block is a span of a pool of bytes. It is of use with that pool alone, to
-/// which bytes may have been added behind.
+/// which bytes may have been added behind. It has 24 bytes, as a unit's list has one for each of
+/// its values.
 #[derive(Clone, Copy, Debug)]
 pub struct Stored {
-    via: Option<Uleb>,
-    value: Kept,
+    kept: Kept,
 }
 
-/// The same without its indirect form. Spans count from the pool's first byte.
+/// Each value with its indirect form first, so that this lies in the bytes before the words.
 #[derive(Clone, Copy, Debug)]
 enum Kept {
-    Num(u64),
-    Wide(u128),
-    Uleb(Uleb),
-    Sleb(Sleb),
-    Block { width: u8, start: usize, len: usize },
-    Text { start: usize, len: usize },
-    Present,
-    Implicit(Sleb),
+    Num(Option<Via>, u64),
+    /// The lower and the upper eight bytes.
+    Wide(Option<Via>, u64, u64),
+    Uleb(Option<Via>, Uleb),
+    Sleb(Option<Via>, Sleb),
+    /// The width of its length first.
+    Block(u8, Option<Via>, Span),
+    Text(Option<Via>, Span),
+    Present(Option<Via>),
+    Implicit(Option<Via>, Sleb),
 }
 
 impl Stored {
     /// Stores a value, its text or block being copied to the end of the pool. The error says that
     /// the pool had no room for them and could not grow; it holds then what it held.
+    ///
+    /// An indirect value names a form by a number of 16 bits, as every value that has a spelling
+    /// does.
     pub fn keep(value: &AttrValue<'_>, pool: &mut Vec<u8>) -> Result<Stored, AllocError>
+        requires { NamesForm (attribute_of value.now) }
         ensures pool { IfOk result (λ _.
             pool.new.items ≡ pool.old.items ++ bytes_in (attribute_of value.now)) }
         ensures content { IfOk result (λ s. content pool.new.items s ≡ attribute_of value.now) }
@@ -41,29 +49,24 @@ impl Stored {
             (vec_capacity pool.old
             < vec_len pool.old + length (bytes_in (attribute_of value.now))) }
     {
-        let start = pool.len();
-        let kept = match value.value {
-            Value::Num(x) => Kept::Num(x),
-            Value::Wide(x) => Kept::Wide(x),
-            Value::Uleb(x) => Kept::Uleb(x),
-            Value::Sleb(x) => Kept::Sleb(x),
-            Value::Block { width, bytes } => {
-                pool.extend_from_slice(bytes)?;
-                let len = bytes.len();
-                Kept::Block { width, start, len }
-            }
-            Value::Text(bytes) => {
-                pool.extend_from_slice(bytes)?;
-                let len = bytes.len();
-                Kept::Text { start, len }
-            }
-            Value::Present => Kept::Present,
-            Value::Implicit(x) => Kept::Implicit(x),
+        let via = match value.via {
+            Some(form) => Some(Via::new(form)),
+            None => None,
         };
-        Ok(Stored {
-            via: value.via,
-            value: kept,
-        })
+        let kept = match value.value {
+            Value::Num(x) => Kept::Num(via, x),
+            Value::Wide(x) => {
+                let (low, high) = halves(x);
+                Kept::Wide(via, low, high)
+            }
+            Value::Uleb(x) => Kept::Uleb(via, x),
+            Value::Sleb(x) => Kept::Sleb(via, x),
+            Value::Block { width, bytes } => Kept::Block(width, via, Span::append(pool, bytes)?),
+            Value::Text(bytes) => Kept::Text(via, Span::append(pool, bytes)?),
+            Value::Present => Kept::Present(via),
+            Value::Implicit(x) => Kept::Implicit(via, x),
+        };
+        Ok(Stored { kept })
     }
 
     /// The value, its bytes being lent from the pool in which it was stored, or from one that
@@ -72,22 +75,37 @@ impl Stored {
         requires { StoredFits (length pool.now) self.now }
         ensures { attribute_of result ≡ content pool.now self.now }
     {
-        let value = match self.value {
-            Kept::Num(x) => Value::Num(x),
-            Kept::Wide(x) => Value::Wide(x),
-            Kept::Uleb(x) => Value::Uleb(x),
-            Kept::Sleb(x) => Value::Sleb(x),
-            Kept::Block { width, start, len } => {
-                let bytes = &pool[start..start + len];
-                Value::Block { width, bytes }
+        let (via, value) = match self.kept {
+            Kept::Num(via, x) => (via, Value::Num(x)),
+            Kept::Wide(via, low, high) => (via, Value::Wide(whole(low, high))),
+            Kept::Uleb(via, x) => (via, Value::Uleb(x)),
+            Kept::Sleb(via, x) => (via, Value::Sleb(x)),
+            Kept::Block(width, via, span) => {
+                let bytes = span.of(pool);
+                (via, Value::Block { width, bytes })
             }
-            Kept::Text { start, len } => Value::Text(&pool[start..start + len]),
-            Kept::Present => Value::Present,
-            Kept::Implicit(x) => Value::Implicit(x),
+            Kept::Text(via, span) => (via, Value::Text(span.of(pool))),
+            Kept::Present(via) => (via, Value::Present),
+            Kept::Implicit(via, x) => (via, Value::Implicit(x)),
         };
-        AttrValue {
-            via: self.via,
-            value,
-        }
+        let via = match via {
+            Some(via) => Some(via.number()),
+            None => None,
+        };
+        AttrValue { via, value }
     }
+}
+
+/// The lower and the upper eight bytes of a number of sixteen.
+fn halves(x: u128) -> (u64, u64)
+    ensures { result.0 + 2 ^ 64 * result.1 ≡ x }
+{
+    ((x % (1 << 64)) as u64, (x / (1 << 64)) as u64)
+}
+
+/// The number of which these are the lower and the upper eight bytes.
+fn whole(low: u64, high: u64) -> u128
+    ensures { result ≡ low + 2 ^ 64 * high }
+{
+    low as u128 + (1 << 64) * high as u128
 }
