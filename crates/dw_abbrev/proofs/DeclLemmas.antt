@@ -1,10 +1,10 @@
 -- The steps of reading a declaration.
-use Rattle.std.proofs.Common.{◌≡◌, ◌≤◌, ℕ, List, Option, sym, ap, subst}
+use Rattle.std.proofs.Common.{◌≡◌, ℕ, List, Option, ap, subst}
 use Rattle.dw_leb.specs.declared.errors.ReadError.{ReadError}
 use Rattle.dw_leb.specs.Number.{Unsigned, Signed}
 use Rattle.dw_leb.specs.Reader.{◌and_then◌}
 use Rattle.dw_leb.specs.ReadNumber.{read_uleb}
-use Rattle.dw_abbrev.specs.Table.{zero_of, Described}
+use Rattle.dw_abbrev.specs.Table.{zero_of}
 use Rattle.dw_abbrev.specs.ReadTable.{read_flag, read_pairs, read_described}
 use Rattle.dw_abbrev.specs.Place.{Gives, Fails, then_second, then_both}
 

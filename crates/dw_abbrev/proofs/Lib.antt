@@ -3,3 +3,5 @@ pub mod DeclLemmas
 pub mod TableLemmas
 pub mod SpellLemmas
 pub mod Kept
+pub mod BuildLemmas
+mod BuildRows

@@ -1,22 +1,14 @@
 -- What is written by structure is the spelling.
 use Rattle.dw_abbrev.specs.declared.pair.Pair.{Pair as RustPair}
 use Rattle.dw_abbrev.specs.PairView.{pair_of}
-use Rattle.std.proofs.Common.{◌≡◌, ◌+◌, ◌≤◌, ◌<◌, ℕ, suc, zero, Bool, true, false, List, [], ◌∷◌, ◌++◌, length, drop, get_or, Option, Some, None, refl, sym, ap, ◌∙◌, append_assoc, arith}
+use Rattle.std.proofs.Common.{◌≡◌, ◌+◌, ◌<◌, ℕ, suc, zero, Bool, true, false, List, [], ◌∷◌, ◌++◌, length, drop, get_or, Option, Some, None, refl, sym, ap, ◌∙◌, append_assoc, arith}
 use Rattle.std.specs.Prelude.{map, ◌==◌, if◌then◌else◌}
-use Rattle.dw_leb.specs.Part.{Part, ◌then◌, judged, optional}
+use Rattle.dw_leb.specs.Part.{◌then◌, optional}
 use Rattle.dw_leb.specs.Number.{Unsigned, Signed, uleb, sleb}
 use Rattle.dw_leb.specs.Repeat.{items_bytes, ItemsFit}
-use Rattle.dw_abbrev.specs.Table.{Pair, Declaration, Table, Described, half, is_end, too_many, repeats, is_null, described, pair_parts, declaration_parts, zero_of, table}
+use Rattle.dw_abbrev.specs.DecideTable.{Item, pair_head, pair_rest, code_head}
+use Rattle.dw_abbrev.specs.Table.{Pair, Declaration, Table, Described, is_end, is_null, described, pair_parts, declaration_parts, zero_of, table}
 use Rattle.dw_abbrev.specs.Spelling.{constant_bytes, pair_bytes, pairs_bytes, flag_bytes, declaration_bytes, declarations_bytes, table_bytes}
-
-abbrev Item : Type 0
-Item = (Unsigned × Unsigned) × Option Signed
-
-abbrev pair_head : List Item → Part (Unsigned × Unsigned)
-pair_head before = judged (judged (uleb then λ _. uleb) half) (too_many (length before))
-
-abbrev pair_rest : Unsigned × Unsigned → Part (Option Signed)
-pair_rest x = optional (x.1.value == 0x21) sleb
 
 constant_spelled : (v : Bool) (o : Option Signed) → (optional v sleb).Fits o → (optional v sleb).spell o ≡ constant_bytes o
 constant_spelled true None h = absurd h
@@ -36,9 +28,6 @@ pairs_spelled before (p ∷ ps) n f fits =
     ap (λ (s : List ℕ). s ++ items_bytes pair_head is_end pair_rest (before ++ pair_parts p ∷ []) (map pair_parts ps) (n, f)) (pair_spelled p fits.0.2)
     ∙ ap (λ (s : List ℕ). pair_bytes p ++ s) (pairs_spelled (before ++ pair_parts p ∷ []) ps n f fits.1)
     ∙ sym (append_assoc (pair_bytes p) (pairs_bytes ps) (uleb.spell n ++ uleb.spell f))
-
-abbrev code_head : List (Unsigned × Described) → Part Unsigned
-code_head before = judged uleb (repeats before)
 
 declaration_spelled : (d : Declaration) → described.Fits (declaration_parts d).1 → uleb.spell d.code ++ described.spell (declaration_parts d).1 ≡ declaration_bytes d
 declaration_spelled d fits =

@@ -1,22 +1,24 @@
 -- The steps of reading a table.
-use Rattle.std.proofs.Common.{◌≡◌, ◌+◌, ◌-◌, ◌<◌, ◌≤◌, ℕ, Bool, true, false, cond, eqb, List, [], ◌∷◌, ◌++◌, length, drop, Option, Some, None, is_some, refl, sym, ap, subst, ◌∙◌, arith, inl, inr}
-use Rattle.std.specs.Prelude.{map, ◌||◌, if◌then◌else◌}
+use Rattle.std.proofs.Common.{◌≡◌, ◌-◌, ◌<◌, ◌≤◌, ℕ, Bool, true, false, cond, eqb, List, [], ◌∷◌, ◌++◌, length, drop, Option, Some, None, is_some, refl, sym, ap, subst, ◌∙◌, arith, inl, inr}
+use Rattle.std.specs.Prelude.{◌⊎◌, Result, Ok, Err, IfOk, IfErr, map, ◌||◌, if◌then◌else◌}
 use Rattle.std.specs.Map.{lookup}
 use Rattle.std.proofs.lemmas.List.{map-append}
-use Rattle.dw_leb.specs.declared.errors.Reason.{Reason}
 use Rattle.dw_leb.specs.declared.errors.Reason.TheVariants.{DuplicateCode}
 use Rattle.dw_leb.specs.declared.errors.ReadError.{ReadError}
 use Rattle.dw_leb.specs.declared.errors.ReadError.TheVariants as reads
-use Rattle.dw_leb.specs.Number.{Unsigned}
+use Rattle.dw_leb.specs.Part.{judged}
+use Rattle.dw_leb.specs.Number.{Unsigned, uleb}
 use Rattle.dw_leb.specs.Reader.{Outcome}
 use Rattle.dw_leb.specs.ReadNumber.{read_uleb}
-use Rattle.dw_leb.specs.Decide.{AreBytes, Says, found, broken}
-use Rattle.dw_abbrev.specs.Table.{Declaration, Table, Described, declared_in, is_among, is_null, repeats, described_of, declaration_parts, table, unbounded, TableAt, TableBreaks}
+use Rattle.dw_leb.specs.Decide.{AreBytes, Says, found, broken, judged_decides}
+use Rattle.dw_leb.specs.DecideNumber.{uleb_decides}
+use Rattle.dw_abbrev.specs.Table.{Declaration, Table, Described, declared_in, is_among, is_null, repeats, described_of, declaration_parts, table, unbounded, TableAt}
 use Rattle.dw_abbrev.specs.ReadTable.{read_code, read_described, read_declarations, table_from, read_table}
 use Rattle.dw_abbrev.specs.DecideTable.{declarations_back, AreBytes-drop, table_decides}
+use Rattle.dw_abbrev.specs.Laws.{one_table_at, no_break_at}
 use Rattle.dw_abbrev.specs.TableView.{decls_in, AreKeyed}
-use Rattle.dw_abbrev.specs.Tells.{TellsFault}
-use Rattle.dw_abbrev.specs.Place.{Gives, Fails, fault_at, checked_fails, checked_refuses, checked_passes, made_fails, made_gives, ReadTo, nothing_yet, one_item, items_end, head_fails, body_fails}
+use Rattle.dw_abbrev.specs.Tells.{TellsFault, Declares, IsFault, refused_memory}
+use Rattle.dw_abbrev.specs.Place.{Gives, Fails, fault_at, checked_refuses, checked_passes, made_fails, made_gives, ReadTo, nothing_yet, one_item, items_end, head_fails, body_fails}
 
 -- ---- look-ups by code
 
@@ -104,6 +106,25 @@ module _ (section : List ℕ) (at : ℕ) (fit : AreBytes section) where
       let h : Says table (drop at section) lim (found t (next - at)) = subst (λ (o : Outcome Table). Says table (drop at section) lim o) (g.reads lim (omega arith)) said in
       h.fits
 
+  -- the code at the front of what is read
+  pub declares : (here : ℕ) → (here ≡ at) ⊎ Declares section at → (before : List (Unsigned × Described)) (code : Unsigned) (next : ℕ) → Gives (read_code before) section here code next
+      → here < next → next ≤ length section → is_null code ≡ false → Declares section at
+  declares here begun before code next g lt within some =
+      let all = (judged_decides uleb read_uleb (repeats before) uleb_decides).says (drop here section) lim (AreBytes-drop here section fit) in
+      let h : Says (judged uleb (repeats before)) (drop here section) lim (found code (next - here)) =
+      subst (λ (o : Outcome Unsigned). Says (judged uleb (repeats before)) (drop here section) lim o) (g.reads lim (omega arith)) all in
+      let there : Declares section here = record {
+        inside = omega (arith, lt, within);
+        code = code;
+        some = some;
+        size = next - here;
+        taken = record { rest = h.rest; fits = h.fits.0; split = h.split; is_size = h.is_size; within = h.within };
+      } in
+      elim begun [
+        | inl e ↦ subst (λ (n : ℕ). Declares section n) e there
+        | inr s ↦ s
+      ]
+
   pub table_at : at < length section → (t : Table) (next : ℕ) → Gives read_table section at t next → TableAt section at t
   table_at lt t next g =
       let h : Says table (drop at section) lim (found t (next - at)) = subst (λ (o : Outcome Table). Says table (drop at section) lim o) (g.reads lim (omega arith)) said in
@@ -115,3 +136,18 @@ module _ (section : List ℕ) (at : ℕ) (fit : AreBytes section) where
       (g.in_table, inr (lt, (f.offset - at, omega (arith, g.forward), h)))
   table_tells lt reads.NoMemory g = tt
   table_tells lt (reads.Io kind) g = absurd g
+
+-- ---- where a table stands, nothing else is answered
+
+pub only_memory : (section : List ℕ) (offset : ℕ) (t : Table) (e : ReadError) → TableAt section offset t → TellsFault section offset e → e ≡ refused_memory
+only_memory section offset t (reads.Fault f) h k = absurd (no_break_at section offset t f.offset f.reason h k.1)
+only_memory section offset t reads.NoMemory h k = refl
+only_memory section offset t (reads.Io kind) h k = absurd k
+
+pub only_that : (section : List ℕ) (offset : ℕ) (r : Result Table ReadError) → IfOk r (λ x. TableAt section offset x) → IfErr r (λ e. TellsFault section offset e)
+    → (t : Table) → TableAt section offset t → IfOk r (λ x. x ≡ t) × IfErr r (λ e. e ≡ refused_memory)
+only_that section offset (Ok x) h k t at = (one_table_at section offset x t h at, tt)
+only_that section offset (Err e) h k t at = (tt, only_memory section offset t e at k)
+
+pub no_memory : (e : ReadError) → IsFault e → e ≡ refused_memory → ⊥
+no_memory e h same = subst (λ (x : ReadError). IsFault x) same h

@@ -27,13 +27,13 @@ two = uleb then λ _. uleb
 abbrev read_two : Reader (Unsigned × Unsigned)
 read_two = read_uleb and_then λ _. read_uleb
 
-abbrev Item : Type 0
+abbrev pub Item : Type 0
 Item = (Unsigned × Unsigned) × Option Signed
 
-abbrev pair_head : List Item → Part (Unsigned × Unsigned)
+abbrev pub pair_head : List Item → Part (Unsigned × Unsigned)
 pair_head before = judged (judged two half) (too_many (length before))
 
-abbrev pair_rest : Unsigned × Unsigned → Part (Option Signed)
+abbrev pub pair_rest : Unsigned × Unsigned → Part (Option Signed)
 pair_rest x = optional (x.1.value == 0x21) sleb
 
 pairs_decides : Decides pairs read_pairs
@@ -45,7 +45,7 @@ pairs_decides = repeated_decides pair_head is_end pair_rest (λ before. checked 
 described_decides : Decides described read_described
 described_decides = then_decides _ _ _ _ uleb_decides (λ _. then_decides _ _ _ _ (judged_decides (fixed Little 1) (read_fixed Little 1) bad_flag (fixed_decides Little 1)) (λ _. pairs_decides))
 
-abbrev code_head : List (Unsigned × Described) → Part Unsigned
+abbrev pub code_head : List (Unsigned × Described) → Part Unsigned
 code_head before = judged uleb (repeats before)
 
 declarations_decides : Decides declarations read_declarations

@@ -6,3 +6,5 @@ pub mod PairView
 pub mod TableView
 pub mod Tells
 pub mod Spelling
+pub mod Build
+pub mod Laws

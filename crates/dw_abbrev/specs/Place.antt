@@ -14,7 +14,7 @@ use Rattle.dw_leb.specs.declared.errors.ReadError.{ReadError}
 use Rattle.dw_leb.specs.declared.errors.ReadError.TheVariants as reads
 use Rattle.dw_leb.specs.declared.errors.Fault.{Fault}
 use Rattle.dw_leb.specs.declared.errors.Section.TheVariants as sections
-use Rattle.dw_leb.specs.Reader.{Outcome, Found, Broken, Reader, paired, behind, ◌and_then◌, mapped, made, refused_if, judged_outcome, checked, read_optional, read_items, read_repeated}
+use Rattle.dw_leb.specs.Reader.{Outcome, Found, Broken, Reader, paired, behind, ◌and_then◌, mapped, made, refused_if, judged_outcome, checked, read_repeated}
 use Rattle.dw_leb.specs.Decide.{Decides, found, broken}
 use Rattle.dw_abbrev.specs.Table.{first_of}
 use Rattle.dw_leb.specs.ItemSteps.{ReadSoFar, none_read, one_read, all_read, head_breaks, body_breaks}

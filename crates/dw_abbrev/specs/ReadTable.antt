@@ -1,6 +1,5 @@
 -- Abbreviation tables read by a plain, slow reader.
-use Rattle.std.specs.Prelude.{ℕ, ◌+◌, Bool, true, false, List, ◌∷◌, length, drop, Option, nat_lt, ◌==◌, if◌then◌else◌, map}
-use Rattle.dw_leb.specs.declared.errors.Reason.{Reason}
+use Rattle.std.specs.Prelude.{ℕ, ◌+◌, Bool, true, false, List, length, drop, Option, nat_lt, ◌==◌, if◌then◌else◌, map}
 use Rattle.dw_leb.specs.declared.errors.Reason.TheVariants.{AbbrevOffset}
 use Rattle.dw_leb.specs.declared.order.Order.TheVariants.{Little}
 use Rattle.dw_leb.specs.Number.{Unsigned, Signed}

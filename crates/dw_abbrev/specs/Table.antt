@@ -1,5 +1,5 @@
 -- Abbreviation tables (section 7.5.3).
-use Rattle.std.specs.Prelude.{◌≡◌, ℕ, suc, ◌+◌, ◌<◌, Bool, true, false, List, [], ◌∷◌, ◌++◌, length, drop, Option, Some, None, nat_lt, ◌==◌, if◌then◌else◌, ◌||◌, ◌&&◌, ◌⊎◌, map}
+use Rattle.std.specs.Prelude.{◌≡◌, ℕ, suc, ◌+◌, ◌<◌, Bool, false, List, [], ◌∷◌, ◌++◌, length, drop, Option, Some, None, nat_lt, ◌==◌, if◌then◌else◌, ◌||◌, ◌&&◌, ◌⊎◌, map}
 use Rattle.dw_leb.specs.declared.errors.Reason.{Reason}
 use Rattle.dw_leb.specs.declared.errors.Reason.TheVariants.{BadChildren, HalfPair, DuplicateCode, TooManyPairs, AbbrevOffset}
 use Rattle.dw_leb.specs.Part.{Part, ◌then◌, judged, seen, optional}
@@ -48,7 +48,7 @@ abbrev pub too_many : ℕ → Unsigned × Unsigned → Option Reason
 too_many before x = if is_end x || nat_lt before most_pairs then None else Some TooManyPairs
 
 -- why a pair is refused: as half a pair first
-abbrev pub first_of : Option Reason → Option Reason → Option Reason
+abbrev pub first_of : {X : Type 0} → Option X → Option X → Option X
 first_of (Some reason) later = Some reason
 first_of None later = later
 

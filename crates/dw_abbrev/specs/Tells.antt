@@ -1,9 +1,11 @@
 -- What the reading of a table tells.
-use Rattle.std.specs.Prelude.{◌≡◌, ℕ, List}
+use Rattle.std.specs.Prelude.{◌≡◌, ◌<◌, ℕ, false, List, length, drop}
 use Rattle.dw_leb.specs.declared.errors.ReadError.{ReadError}
 use Rattle.dw_leb.specs.declared.errors.ReadError.TheVariants as reads
 use Rattle.dw_leb.specs.declared.errors.Section.TheVariants as sections
-use Rattle.dw_abbrev.specs.Table.{Table, TableBreaks}
+use Rattle.dw_leb.specs.Part.{Taken}
+use Rattle.dw_leb.specs.Number.{Unsigned, uleb}
+use Rattle.dw_abbrev.specs.Table.{Table, TableBreaks, is_null, unbounded}
 use Rattle.dw_abbrev.specs.ReadTable.{read_table}
 use Rattle.dw_abbrev.specs.Place.{Gives}
 
@@ -20,3 +22,16 @@ IsScan section at t = (next : ℕ) × Gives read_table section at t next
 
 abbrev pub refused_memory : ReadError
 refused_memory = reads.NoMemory
+
+-- a declaration begins at the offset: there stands a code other than 0
+pub record Declares (section : List ℕ) (offset : ℕ) : Type 0 where
+  pub inside : offset < length section
+  pub code : Unsigned
+  pub some : is_null code ≡ false
+  pub size : ℕ
+  pub taken : Taken uleb (drop offset section) (unbounded section) code size
+
+abbrev pub IsFault : ReadError → Type 0
+IsFault (reads.Fault f) = Unit {0}
+IsFault reads.NoMemory = ⊥
+IsFault (reads.Io kind) = ⊥

@@ -1,17 +1,20 @@
 //! Abbreviation declarations (section 7.5.3).
-ghost use Rattle.std.specs.Prelude.{◌≡◌, ◌<◌, ◌≤◌, length, None, IfOk, IfErr, OnOk, map};
+ghost use Rattle.std.specs.Prelude.{◌≡◌, ◌<◌, ◌≤◌, false, length, None, IfOk, IfErr, OnOk, OnErr, map};
+ghost use Rattle.std.specs.Result.{result_err};
 ghost use Rattle.std.specs.Io.KnownBytes.{Appends};
 ghost use Rattle.dw_leb.specs.View.{uleb_of};
 ghost use Rattle.dw_leb.specs.Watch.{inner_of, fault_of, told_by_write, AppendsFront};
 ghost use Rattle.dw_abbrev.specs.Spelling.{declaration_bytes};
-ghost use Rattle.dw_abbrev.specs.Table.{described_of};
+ghost use Rattle.dw_abbrev.specs.Table.{described_of, is_null};
+ghost use Rattle.dw_abbrev.specs.Build.{new_refusal, without_pairs, pair_refusal, with_pair, or_memory, has_too_many, DeclarationFits};
 ghost use Rattle.dw_abbrev.specs.ReadTable.{read_described};
-ghost use Rattle.dw_abbrev.specs.PairView.{pair_of};
+ghost use Rattle.dw_abbrev.specs.PairView.{pair_of, pair_from};
 ghost use Rattle.dw_abbrev.specs.Place.{Gives, Fails};
 
-use crate::fields::{flag_at, uleb_at, write_flag, write_uleb};
-use crate::pair::{Pair, pairs_at, write_pairs};
-use dw_leb::{ReadError, Uleb, Watched, WriteError};
+use crate::fields::{flag_at, uleb_at, write_flag, write_uleb, zero};
+use crate::pair::{MOST_PAIRS, Pair, misfit, pairs_at, write_pairs};
+use crate::refusal::TableRefusal;
+use dw_leb::{ReadError, Sleb, Uleb, Watched, WriteError};
 use std::alloc::Global;
 use std::io::Write;
 use std::marker::Model;
@@ -32,16 +35,78 @@ impl Model for Decl {
 
     ghost Value = { Declaration };
 
-    ghost use Rattle.std.specs.Prelude.{map};
+    ghost use Rattle.std.specs.Prelude.{◌≡◌, false, map};
     ghost use Rattle.dw_leb.specs.View.{uleb_of};
     ghost use Rattle.dw_abbrev.specs.PairView.{pair_of};
+    ghost use Rattle.dw_abbrev.specs.Build.{ArePairs};
+    ghost use Rattle.dw_abbrev.specs.Table.{is_null};
 
     ghost view = { λ d. record { code = uleb_of d.code; tag = uleb_of d.tag; children = d.children; pairs = map pair_of d.pairs.items; name_zero = d.name_zero.width; form_zero = d.form_zero.width } };
 
-    ghost invariant = { λ d. IsZero (uleb_of d.name_zero) × IsZero (uleb_of d.form_zero) };
+    ghost invariant = { λ d. record { name_zero : IsZero (uleb_of d.name_zero); form_zero : IsZero (uleb_of d.form_zero); some : is_null (uleb_of d.code) ≡ false; pairs : ArePairs (map pair_of d.pairs.items) } };
 }
 
 impl Decl {
+    /// A declaration without pairs. `zeros` are the counts of bytes in which the two zeros behind
+    /// the pairs are written. It takes no memory.
+    ///
+    /// Refused are a code 0 (`ZeroCode`), and then counts of bytes other than 1 to 16 (`BadWidth`).
+    pub fn new(
+        alloc: Global,
+        code: Uleb,
+        tag: Uleb,
+        children: bool,
+        zeros: (u8, u8),
+    ) -> Result<Decl, TableRefusal>
+        ensures new { IfOk result (λ d. d ≡ without_pairs (uleb_of code) (uleb_of tag) children zeros) }
+        ensures refused { result_err result ≡ new_refusal (uleb_of code) zeros }
+    {
+        if code.value == 0 {
+            return Err(TableRefusal::ZeroCode);
+        }
+        let name_zero = zero(zeros.0)?;
+        let form_zero = zero(zeros.1)?;
+        Ok(Decl {
+            code,
+            tag,
+            children,
+            pairs: Vec::new(alloc),
+            name_zero,
+            form_zero,
+        })
+    }
+
+    /// One more attribute specification, behind the others. A declaration may have any number of
+    /// them; a table takes one of at most 1,024.
+    ///
+    /// Refused are a name or a form 0 (`HalfPair`), then a constant with a form other than
+    /// `DW_FORM_implicit_const` or that form without a constant (`WrongConstant`), and then a
+    /// growth for which there is no memory (`NoMemory`). After each the declaration is unchanged.
+    pub fn pair(
+        &mut self,
+        name: Uleb,
+        form: Uleb,
+        constant: Option<Sleb>,
+    ) -> Result<(), TableRefusal>
+        ensures added { OnOk result (self.new ≡ with_pair self.old (pair_from name form constant)) }
+        ensures allowed { OnOk result (pair_refusal (pair_from name form constant) ≡ None) }
+        ensures refused { IfErr result (λ e. e ≡ or_memory (pair_refusal (pair_from name form constant))) }
+        ensures unchanged { OnErr result (self.new ≡ self.old) }
+    {
+        let pair = Pair {
+            name,
+            form,
+            constant,
+        };
+        if let Some(refusal) = misfit(pair) {
+            return Err(refusal);
+        }
+        match self.pairs.push(pair) {
+            Ok(_) => Ok(()),
+            Err(_) => Err(TableRefusal::NoMemory),
+        }
+    }
+
     /// The abbreviation code, by which entries name the declaration. It isn't 0.
     pub fn code(&self) -> Uleb
         ensures { uleb_of result ≡ self.now.code }
@@ -77,6 +142,14 @@ impl Decl {
         (self.name_zero.width, self.form_zero.width)
     }
 
+    /// Whether the declaration has more pairs than a table takes. Without that it fits one.
+    pub(crate) fn has_too_many(&self) -> bool
+        ensures count { result ≡ has_too_many self.now }
+        ensures fits { result ≡ false → DeclarationFits self.now }
+    {
+        self.pairs.len() > MOST_PAIRS
+    }
+
     /// Writes the declaration, the two zeros behind its pairs included.
     pub(crate) fn write<W: Write>(&self, writer: &mut Watched<W>) -> Result<(), WriteError>
         requires { fault_of writer.old ≡ None }
@@ -100,7 +173,8 @@ pub(crate) fn decl_at(
     at: usize,
     code: Uleb,
 ) -> Result<(Decl, usize), ReadError>
-    requires { at ≤ length section.now }
+    requires within { at ≤ length section.now }
+    requires some { is_null (uleb_of code) ≡ false }
     ensures ok { IfOk result (λ x. Gives read_described section.now at (described_of x.0) x.1) }
     ensures code { IfOk result (λ x. x.0.code ≡ uleb_of code) }
     ensures forward { IfOk result (λ x. (at < x.1) × (x.1 ≤ length section.now)) }

@@ -1,15 +1,20 @@
 //! The fields of tables, each read at its offset from the first byte of `.debug_abbrev`, and
 //! written. Only the section's end bounds a table.
 ghost use Rattle.std.specs.Prelude.{◌≡◌, ◌<◌, ◌≤◌, length, None, IfOk, IfErr, OnOk};
+ghost use Rattle.std.specs.Result.{result_err};
 ghost use Rattle.std.specs.Io.KnownBytes.{Appends};
 ghost use Rattle.dw_leb.specs.Number.{uleb, sleb};
 ghost use Rattle.dw_leb.specs.View.{uleb_of, sleb_of};
 ghost use Rattle.dw_leb.specs.Watch.{inner_of, fault_of, told_by_write, AppendsFront};
+ghost use Rattle.dw_abbrev.specs.Table.{zero_of};
+ghost use Rattle.dw_abbrev.specs.Build.{width_refusal};
 ghost use Rattle.dw_abbrev.specs.Spelling.{flag_bytes};
 ghost use Rattle.dw_leb.specs.ReadNumber.{read_uleb, read_sleb};
 ghost use Rattle.dw_abbrev.specs.ReadTable.{read_flag, flag_number};
 ghost use Rattle.dw_abbrev.specs.Place.{Gives, Fails, fault_at};
+ghost use Rattle.dw_abbrev.specs.Tells.{IsFault};
 
+use crate::refusal::TableRefusal;
 use dw_leb::{
     Fault, Order, ReadError, Reason, Section, Sleb, Uleb, Watched, WriteError, read_fixed,
     write_all,
@@ -27,12 +32,24 @@ pub(crate) fn fault(at: usize, reason: Reason) -> ReadError
     })
 }
 
+/// A zero in so many bytes.
+pub(crate) fn zero(width: u8) -> Result<Uleb, TableRefusal>
+    ensures zero { IfOk result (λ z. uleb_of z ≡ zero_of width) }
+    ensures refused { result_err result ≡ width_refusal width }
+{
+    match Uleb::with_width(0, width) {
+        Some(number) => Ok(number),
+        None => Err(TableRefusal::BadWidth),
+    }
+}
+
 /// The unsigned number at `at`, and where what follows begins.
 pub(crate) fn uleb_at(section: &[u8], at: usize) -> Result<(Uleb, usize), ReadError>
     requires { at ≤ length section.now }
     ensures ok { IfOk result (λ x. Gives read_uleb section.now at (uleb_of x.0) x.1) }
     ensures forward { IfOk result (λ x. (at < x.1) × (x.1 ≤ length section.now)) }
     ensures err { IfErr result (λ e. Fails read_uleb section.now at e) }
+    ensures fault { IfErr result IsFault }
 {
     match Uleb::read(&section[at..], u64::MAX) {
         Ok(n) => Ok((n, at + n.width as usize)),

@@ -1,16 +1,22 @@
 //! Abbreviation tables of DWARF 5 (section 7.5.3), with every width in which they are written.
 #![tactic(auto)]
 
+mod builder;
+#[cfg(test)]
+mod builder_tests;
 mod decl;
 mod fields;
 pub mod laws;
 mod pair;
+mod refusal;
 mod table;
 mod tables;
 #[cfg(test)]
 mod tests;
 
+pub use builder::TableBuilder;
 pub use decl::Decl;
 pub use pair::Pair;
+pub use refusal::TableRefusal;
 pub use table::Table;
 pub use tables::Tables;

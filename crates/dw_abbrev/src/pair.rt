@@ -1,5 +1,5 @@
 //! Attribute specifications: the pairs of name and form (section 7.5.3).
-ghost use Rattle.std.specs.Prelude.{◌≡◌, ◌<◌, ◌≤◌, length, None, IfOk, IfErr, OnOk, map, option_map};
+ghost use Rattle.std.specs.Prelude.{◌≡◌, ◌<◌, ◌≤◌, true, length, None, IfOk, IfErr, OnOk, map, option_map};
 ghost use Rattle.std.specs.Io.KnownBytes.{Appends};
 ghost use Rattle.dw_leb.specs.View.{uleb_of, sleb_of};
 ghost use Rattle.dw_leb.specs.Watch.{inner_of, fault_of, told_by_write, AppendsFront};
@@ -8,8 +8,10 @@ ghost use Rattle.dw_abbrev.specs.Table.{is_end as ends_pairs, refused_pair};
 ghost use Rattle.dw_abbrev.specs.ReadTable.{read_names, read_constant, read_pairs};
 ghost use Rattle.dw_abbrev.specs.PairView.{pair_of, pairs_of};
 ghost use Rattle.dw_abbrev.specs.Place.{Gives, Fails};
+ghost use Rattle.dw_abbrev.specs.Build.{constant_belongs, pair_refusal, ArePairs};
 
 use crate::fields::{fault, sleb_at, uleb_at, write_sleb, write_uleb};
+use crate::refusal::TableRefusal;
 use dw_leb::{ReadError, Reason, Sleb, Uleb, Watched, WriteError};
 use std::alloc::Global;
 use std::io::Write;
@@ -18,7 +20,7 @@ use std::io::Write;
 const IMPLICIT_CONST: u64 = 0x21;
 
 /// The most pairs of a declaration.
-const MOST_PAIRS: usize = 1024;
+pub(crate) const MOST_PAIRS: usize = 1024;
 
 /// An attribute specification: the name of an attribute and the form of its values.
 #[derive(Clone, Copy, Debug, PartialEq, Eq)]
@@ -29,6 +31,19 @@ pub struct Pair {
     pub form: Uleb,
     /// The value that a pair of the form `DW_FORM_implicit_const` has itself.
     pub constant: Option<Sleb>,
+}
+
+/// Why a pair can't stand in a declaration.
+pub(crate) fn misfit(pair: Pair) -> Option<TableRefusal>
+    ensures { result ≡ pair_refusal (pair_of pair) }
+{
+    if pair.name.value == 0 || pair.form.value == 0 {
+        return Some(TableRefusal::HalfPair);
+    }
+    if pair.constant.is_some() != (pair.form.value == IMPLICIT_CONST) {
+        return Some(TableRefusal::WrongConstant);
+    }
+    None
 }
 
 /// The pairs of a declaration, and the two zeros that end them.
@@ -64,6 +79,7 @@ fn names_at(section: &[u8], at: usize, before: usize) -> Result<((Uleb, Uleb), u
     requires { at ≤ length section.now }
     ensures ok { IfOk result (λ x. Gives (read_names before) section.now at (uleb_of x.0.0, uleb_of x.0.1) x.1) }
     ensures forward { IfOk result (λ x. (at < x.1) × (x.1 ≤ length section.now)) }
+    ensures judged { IfOk result (λ x. refused_pair before (uleb_of x.0.0, uleb_of x.0.1) ≡ None) }
     ensures err { IfErr result (λ e. Fails (read_names before) section.now at e) }
 {
     let (name, form_at) = uleb_at(section, at)?;
@@ -84,6 +100,7 @@ fn constant_at(
     requires { at ≤ length section.now }
     ensures ok { IfOk result (λ x. Gives (read_constant (uleb_of name, uleb_of form)) section.now at (option_map sleb_of x.0) x.1) }
     ensures forward { IfOk result (λ x. (at ≤ x.1) × (x.1 ≤ length section.now)) }
+    ensures belongs { IfOk result (λ x. constant_belongs (uleb_of form) (option_map sleb_of x.0) ≡ true) }
     ensures err { IfErr result (λ e. Fails (read_constant (uleb_of name, uleb_of form)) section.now at e) }
 {
     if form.value != IMPLICIT_CONST {
@@ -104,6 +121,7 @@ pub(crate) fn pairs_at(
     ensures ok { IfOk result (λ x. Gives read_pairs section.now at (pairs_of x.0) x.1) }
     ensures forward { IfOk result (λ x. (at < x.1) × (x.1 ≤ length section.now)) }
     ensures zeros { IfOk result (λ x. (x.0.name_zero.value ≡ 0) × (x.0.form_zero.value ≡ 0)) }
+    ensures pairs { IfOk result (λ x. ArePairs (map pair_of x.0.list.items)) }
     ensures err { IfErr result (λ e. Fails read_pairs section.now at e) }
 {
     let mut list = Vec::new(alloc);

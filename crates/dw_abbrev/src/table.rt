@@ -1,13 +1,13 @@
 //! Abbreviation tables (section 7.5.3).
-ghost use Rattle.std.specs.Prelude.{◌≡◌, ◌<◌, ◌≤◌, ◌∷◌, ◌++◌, [], length, map, nat_eq, None, IfOk, IfErr, OnOk, option_copied};
+ghost use Rattle.std.specs.Prelude.{◌≡◌, ◌<◌, ◌≤◌, ◌∷◌, ◌++◌, [], length, map, nat_eq, None, IfOk, IfErr, OnOk, OnErr, option_copied};
 ghost use Rattle.indexmap.specs.IndexMap.{get};
 ghost use Rattle.std.specs.Io.KnownBytes.{Appends};
 ghost use Rattle.dw_leb.specs.View.{uleb_of};
 ghost use Rattle.dw_leb.specs.Watch.{inner_of, fault_of, told_by_write, AppendsFront};
 ghost use Rattle.dw_abbrev.specs.Spelling.{declarations_bytes};
-ghost use Rattle.dw_abbrev.specs.Table.{table as part, declared, declaration_parts, TableAt};
+ghost use Rattle.dw_abbrev.specs.Table.{Table as Spelled, table as part, declared, declaration_parts, IsZero, TableAt};
 ghost use Rattle.dw_abbrev.specs.TableView.{decls_in, AreKeyed};
-ghost use Rattle.dw_abbrev.specs.Tells.{IsScan, TellsFault, refused_memory};
+ghost use Rattle.dw_abbrev.specs.Tells.{IsScan, TellsFault, Declares, IsFault, refused_memory};
 ghost use Rattle.dw_abbrev.specs.Place.{Gives, Fails};
 ghost use Rattle.dw_abbrev.specs.ReadTable.{read_code, read_table};
 
@@ -50,10 +50,12 @@ impl Table {
     /// (`LebTooBig`), a code that was declared before (`DuplicateCode`), a children flag other than
     /// 0 and 1 (`BadChildren`), a pair of which one number is 0 (`HalfPair`) and one past 1,024
     /// others (`TooManyPairs`), both at the pair's name. `NoMemory` is answered where a growth by
-    /// one pair or one declaration was refused. Never `Io`.
+    /// one pair or one declaration was refused; so there is one. Never `Io`.
     pub fn read(alloc: Global, section: &[u8], offset: u64) -> Result<Table, ReadError>
         ensures found { IfOk result (λ t. TableAt section.now offset t) }
+        ensures only { (t : Spelled) → TableAt section.now offset t → IfOk result (λ x. x ≡ t) × IfErr result (λ e. e ≡ refused_memory) }
         ensures broken { IfErr result (λ e. TellsFault section.now offset e) }
+        ensures memory { IfErr result (λ e. e ≡ refused_memory → Declares section.now offset) }
     {
         if offset >= section.len() as u64 {
             return Err(ReadError::Fault(Fault {
@@ -69,6 +71,7 @@ impl Table {
         requires { at ≤ length section.now }
         ensures ok { IfOk result (λ t. IsScan section.now at t) }
         ensures err { IfErr result (λ e. Fails read_table section.now at e) }
+        ensures memory { IfErr result (λ e. e ≡ refused_memory → Declares section.now at) }
     {
         let mut decls = IndexMap::new(alloc);
         let mut here = at;
@@ -81,14 +84,27 @@ impl Table {
                 });
             }
             let (decl, next) = decl_at(alloc, section, behind, code)?;
-            keep(&mut decls, decl)?;
-            here = next;
+            match keep(&mut decls, decl) {
+                Ok(_) => here = next,
+                Err(_) => return Err(ReadError::NoMemory),
+            }
         }
+    }
+
+    /// A table of these declarations, each under its code, and of the zero that ends them.
+    pub(crate) fn of(decls: IndexMap<u64, Decl>, last_zero: Uleb) -> Table
+        requires keyed { AreKeyed decls.entries }
+        requires zero { IsZero (uleb_of last_zero) }
+        requires fits { part.Fits (record { declarations = decls_in decls.entries; last_zero = last_zero.width }) }
+        ensures { result ≡ record { declarations = decls_in decls.entries; last_zero = last_zero.width } }
+    {
+        Table { decls, last_zero }
     }
 
     /// The declaration of a code.
     pub fn get(&self, code: u64) -> Option<&Decl>
-        ensures { option_copied result ≡ declared self.now code }
+        ensures value { option_copied result ≡ declared self.now code }
+        ensures fits { part.Fits self.now }
     {
         self.decls.get(&code)
     }
@@ -118,6 +134,7 @@ fn code_at(
     ensures forward { IfOk result (λ x. (at < x.1) × (x.1 ≤ length section.now)) }
     ensures fresh { IfOk result (λ x. get nat_eq decls.now x.0.value ≡ None) }
     ensures err { IfErr result (λ e. Fails (read_code (map declaration_parts (decls_in decls.now.entries))) section.now at e) }
+    ensures fault { IfErr result IsFault }
 {
     let (code, next) = uleb_at(section, at)?;
     if decls.contains_key(&code.value) {
@@ -126,15 +143,16 @@ fn code_at(
     Ok((code, next))
 }
 
-/// Keeps a declaration of a new code, behind the others.
-fn keep(decls: &mut IndexMap<u64, Decl>, decl: Decl) -> Result<(), ReadError>
+/// Keeps a declaration of a new code, behind the others. Where there is no memory it is handed back.
+pub(crate) fn keep(decls: &mut IndexMap<u64, Decl>, decl: Decl) -> Result<(), Decl>
     requires { get nat_eq decls.old decl.code.value ≡ None }
     ensures ok { OnOk result (decls.new.entries ≡ decls.old.entries ++ (decl.code.value, decl) ∷ []) }
-    ensures err { IfErr result (λ e. e ≡ refused_memory) }
+    ensures unchanged { OnErr result (decls.new.entries ≡ decls.old.entries) }
+    ensures handed_back { IfErr result (λ d. d ≡ decl) }
 {
     match decls.insert(decl.code().value, decl) {
         Ok(_) => Ok(()),
-        Err(_) => Err(ReadError::NoMemory),
+        Err(refused) => Err(refused.value.1),
     }
 }
 

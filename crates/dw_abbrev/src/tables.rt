@@ -1,7 +1,7 @@
 //! The tables of a section, read at need and shared.
-ghost use Rattle.std.specs.Prelude.{◌≡◌, ◌∷◌, ◌++◌, [], nat_eq, None, IfOk, IfErr, OnOk, OnErr};
+ghost use Rattle.std.specs.Prelude.{◌≡◌, ◌<◌, length, ◌∷◌, ◌++◌, [], nat_eq, None, IfOk, IfErr, OnOk, OnErr};
 ghost use Rattle.indexmap.specs.IndexMap.{get};
-ghost use Rattle.dw_abbrev.specs.Table.{TableAt};
+ghost use Rattle.dw_abbrev.specs.Table.{Table as Spelled, TableAt};
 ghost use Rattle.dw_abbrev.specs.Tells.{TellsFault, refused_memory};
 
 use crate::table::Table;
@@ -49,7 +49,9 @@ impl<'a> Tables<'a> {
     /// answered where a table couldn't be kept.
     pub fn get(&mut self, offset: u64) -> Result<Rc<Table>, ReadError>
         ensures found { IfOk result (λ t. TableAt self.old offset t.value) }
+        ensures only { (t : Spelled) → TableAt self.old offset t → IfOk result (λ x. x.value ≡ t) × IfErr result (λ e. e ≡ refused_memory) }
         ensures broken { IfErr result (λ e. TellsFault self.old offset e) }
+        ensures memory { IfErr result (λ e. e ≡ refused_memory → offset < length self.old) }
         ensures section { self.new ≡ self.old }
     {
         if let Some(table) = self.kept.get(&offset) {

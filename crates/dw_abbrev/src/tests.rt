@@ -1,25 +1,26 @@
 //! What no clause says: tables whose bytes and numbers come from the standard, each call once with
 //! memory to spare, and a writer that fails.
-use crate::laws::{one_outcome, one_spelling};
+use crate::laws::{one_outcome, one_spelling, one_table, written_stands};
 use crate::{Pair, Table, Tables};
 use dw_leb::devices::Stepped;
 use dw_leb::{ReadError, Reason, Sleb, Uleb, Watched, WriteError};
 use std::alloc::{AllocError, Global};
 use std::io::ErrorKind;
+use std::rc::Rc;
 use std::test::Fail;
 
 /// One declaration: code 1, tag 0x11, no children, one pair of name 3 and form 8.
 const ONE_PAIR: [u8; 8] = [0x01, 0x11, 0, 0x03, 0x08, 0, 0, 0];
 
 /// The same, each number with padding of its own.
-const PADDED: [u8; 17] = [
+pub(crate) const PADDED: [u8; 17] = [
     0x81, 0, 0x91, 0, 0, 0x83, 0x80, 0, 0x88, 0, 0x80, 0, 0x80, 0, 0x80, 0x80, 0,
 ];
 
 /// A pair of the form implicit_const, whose constant is -1 in two bytes.
-const CONSTANT: [u8; 10] = [0x01, 0x11, 0, 0x0b, 0x21, 0xff, 0x7f, 0, 0, 0];
+pub(crate) const CONSTANT: [u8; 10] = [0x01, 0x11, 0, 0x0b, 0x21, 0xff, 0x7f, 0, 0, 0];
 
-fn written(alloc: Global, table: &Table) -> Result<Vec<u8>, WriteError> {
+pub(crate) fn written(alloc: Global, table: &Table) -> Result<Vec<u8>, WriteError> {
     let mut writer = Watched::new(Vec::new(alloc));
     table.write(&mut writer)?;
     Ok(writer.into_inner())
@@ -171,6 +172,18 @@ fn asks_in_any_order(rt: HostRuntime) -> Result<(), Fail> {
 }
 
 #[test]
+fn shares_what_was_read(rt: HostRuntime) -> Result<(), Fail> {
+    let mut tables = Tables::new(rt.alloc(), &ONE_PAIR);
+    let first = tables.get(0)?;
+    let end = tables.get(7)?;
+    assert!(rt; tables.get(8).is_err());
+    let again = tables.get(0)?;
+    assert!(rt; Rc::ptr_eq(&first, &again));
+    assert!(rt; !Rc::ptr_eq(&first, &end));
+    Ok(())
+}
+
+#[test]
 fn asks_as_if_read_anew(rt: HostRuntime) -> Result<(), Fail> {
     let section = two_tables(rt.alloc())?;
     let mut tables = Tables::new(rt.alloc(), section.as_slice());
@@ -210,4 +223,6 @@ fn keeps_a_writers_fault(rt: HostRuntime) -> Result<(), Fail> {
 fn laws_hold() {
     one_spelling();
     one_outcome();
+    one_table();
+    written_stands();
 }

@@ -1,6 +1,5 @@
-use Rattle.dw_leb.specs.View.{uleb_of, sleb_of}
+use Rattle.dw_leb.specs.View.{uleb_of}
 use Rattle.dw_abbrev.specs.PairView.{pair_of}
-use Rattle.std.proofs.Common.{◌≡◌, ◌≤◌, length, Err}
 use Rattle.std.specs.Prelude.{map}
 use Rattle.std.proofs.lemmas.Result.{err_from_is_err_and}
 use Rattle.dw_abbrev.specs.Table.{pair_parts}

@@ -1,9 +1,9 @@
-use Rattle.dw_leb.specs.View.{uleb_of, sleb_of}
-use Rattle.std.proofs.Common.{◌≡◌, ◌+◌, ◌-◌, ◌^◌, ◌≤◌, length, sym, ap, subst, arith}
+use Rattle.dw_leb.specs.View.{uleb_of}
+use Rattle.std.proofs.Common.{◌-◌, ◌^◌, arith}
 use Rattle.dw_leb.specs.Number.{uleb}
 use Rattle.dw_leb.specs.ReadNumber.{read_uleb}
 use Rattle.dw_leb.specs.DecideNumber.{uleb_decides}
-use Rattle.dw_abbrev.specs.Place.{Gives, field_gives, field_fails, uleb_same}
+use Rattle.dw_abbrev.specs.Place.{field_gives, field_fails, uleb_same}
 use Rattle.dw_abbrev.proofs.fields.uleb_at.Goals as goal
 
 pub returns-in-Ok-clause-ok : goal.returns-in-Ok-clause-ok

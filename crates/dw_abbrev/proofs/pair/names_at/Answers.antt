@@ -1,7 +1,7 @@
-use Rattle.dw_leb.specs.View.{uleb_of, sleb_of}
-use Rattle.std.proofs.Common.{◌≡◌, ◌≤◌, ◌∙◌, sym, length, Err}
+use Rattle.dw_leb.specs.View.{uleb_of}
+use Rattle.std.proofs.Common.{◌∙◌, sym}
 use Rattle.std.proofs.lemmas.Result.{err_from_is_err_and}
-use Rattle.dw_abbrev.proofs.PairLemmas.{name_fails, form_fails, names_refused, names_pass}
+use Rattle.dw_abbrev.proofs.PairLemmas.{form_fails, names_refused, names_pass}
 use Rattle.dw_abbrev.proofs.pair.names_at.Goals as goal
 
 pub returns-in_err-form-clause-err : goal.returns-in_err-form-clause-err

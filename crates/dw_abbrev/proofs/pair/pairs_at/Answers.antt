@@ -3,13 +3,14 @@ use Rattle.dw_abbrev.specs.declared.pair.Pair.{Pair as RustPair}
 use Rattle.dw_abbrev.specs.PairView.{pair_of}
 use Rattle.std.specs.Prelude.{map, option_map}
 use Rattle.dw_leb.specs.View.{uleb_of, sleb_of}
-use Rattle.std.proofs.Common.{◌≡◌, ◌≤◌, ◌∙◌, [], ◌∷◌, ◌++◌, sym, length, Err, arith, rules}
+use Rattle.std.proofs.Common.{◌≡◌, ◌∙◌, [], ◌∷◌, ◌++◌, sym, arith, rules}
 use Rattle.std.proofs.lemmas.Result.{err_from_is_err_and}
 use Rattle.dw_abbrev.proofs.PairLemmas.{no_pairs, names_fail, pairs_end, constant_fails, one_pair}
+use Rattle.dw_abbrev.proofs.BuildLemmas.{more_pairs, whole_pair, first_none}
 use Rattle.dw_abbrev.proofs.pair.pairs_at.Goals as goal
 
 pub loop-list-init : goal.loop-list-init
-loop-list-init c = rw c.new-list.ensures.items (record { read = no_pairs c.args.section.now c.args.at c.requires; within = c.requires })
+loop-list-init c = rw c.new-list.ensures.items (record { read = no_pairs c.args.section.now c.args.at c.requires; pairs = tt; within = c.requires })
 
 pub returns-in_err-name-clause-err : goal.returns-in_err-name-clause-err
 returns-in_err-name-clause-err c =
@@ -34,5 +35,7 @@ loop-list-preserved c =
     rw e (record {
       read = rw (map-append pair_of c.loop-list.list.items (p ∷ [])) (one_pair c.args.section.now c.args.at (map pair_of c.loop-list.list.items) c.loop-list.here c.loop-list.invariant.read c.len.result (omega (arith, c.loop-list.list.ok.0, length-map c.loop-list.list.items pair_of))
           (uleb_of c.in_ok-name.name, uleb_of c.in_ok-name.form) c.in_ok-name.behind c.in_ok-name.ensures.ok (sym c.is_end.ensures ∙ c.if-is_end.false) c.in_ok-name.ensures.forward.0 (option_map sleb_of c.in_ok-constant.constant) c.in_ok-constant.next c.in_ok-constant.ensures.ok);
+      pairs = rw (map-append pair_of c.loop-list.list.items (p ∷ [])) (more_pairs (map pair_of c.loop-list.list.items) (pair_of p) c.loop-list.invariant.pairs
+          (whole_pair (pair_of p) (first_none _ _ c.in_ok-name.ensures.judged) (sym c.is_end.ensures ∙ c.if-is_end.false) c.in_ok-constant.ensures.belongs));
       within = c.in_ok-constant.ensures.forward.1;
     })

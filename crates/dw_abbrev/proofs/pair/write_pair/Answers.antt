@@ -1,12 +1,12 @@
 use Rattle.dw_leb.specs.declared.signed.Sleb.{Sleb}
-use Rattle.std.specs.Prelude.{map, option_map}
-use Rattle.dw_leb.specs.View.{uleb_of, sleb_of}
+use Rattle.std.specs.Prelude.{option_map}
+use Rattle.dw_leb.specs.View.{sleb_of}
 use Rattle.dw_abbrev.specs.PairView.{pair_of}
-use Rattle.std.proofs.Common.{◌≡◌, ℕ, List, Option, [], ◌++◌, subst, ap}
+use Rattle.std.proofs.Common.{ℕ, List, Option, ◌++◌, subst, ap}
 use Rattle.dw_leb.specs.Number.{uleb, sleb}
 use Rattle.dw_leb.specs.Watch.{inner_of}
 use Rattle.dw_abbrev.specs.Spelling.{constant_bytes, pair_bytes}
-use Rattle.dw_leb.specs.Towards.{Towards, towards_start, towards_step, towards_fails, towards_front, towards_handed, towards_end, towards_all}
+use Rattle.dw_leb.specs.Towards.{Towards, towards_start, towards_step, towards_fails, towards_front, towards_all}
 use Rattle.dw_abbrev.proofs.pair.write_pair.Goals as goal
 
 pub returns-in_err-write_uleb-2-clause-front : goal.returns-in_err-write_uleb-2-clause-front

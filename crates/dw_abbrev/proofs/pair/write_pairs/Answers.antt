@@ -1,10 +1,9 @@
-use Rattle.std.specs.Prelude.{map, option_map}
+use Rattle.std.specs.Prelude.{map}
 use Rattle.dw_abbrev.specs.declared.pair.Pair.{Pair as RustPair}
 use Rattle.dw_abbrev.specs.PairView.{pair_of}
-use Rattle.std.proofs.Common.{◌≡◌, ◌+◌, ◌∙◌, ℕ, List, Option, [], ◌++◌, drop, length, sym, subst, ap, arith}
+use Rattle.std.proofs.Common.{◌≡◌, ◌+◌, ℕ, List, Option, [], drop, subst, arith}
 use Rattle.std.proofs.Math.ListN.{drop_of_length-le}
 use Rattle.dw_leb.specs.Watch.{inner_of}
-use Rattle.dw_abbrev.specs.Table.{Pair}
 use Rattle.dw_abbrev.specs.Spelling.{pair_bytes, pairs_bytes}
 use Rattle.dw_leb.specs.Towards.{Towards, towards_step, towards_fails, towards_end, towards_all}
 use Rattle.dw_abbrev.proofs.SpellLemmas.{pairs_left_behind}

@@ -1,4 +1,4 @@
-use Rattle.std.specs.Prelude.{map, option_map}
+use Rattle.std.specs.Prelude.{map}
 use Rattle.dw_abbrev.specs.PairView.{pair_of}
 use Rattle.std.proofs.Common.{◌≡◌, None, drop}
 use Rattle.dw_leb.specs.Watch.{inner_of, fault_of}

@@ -1,6 +1,5 @@
-use Rattle.dw_leb.specs.View.{uleb_of, sleb_of}
-use Rattle.std.proofs.Common.{◌≡◌, ◌≤◌, ◌∙◌, ℕ, eqb, is_some, sym, ap, length}
-use Rattle.std.specs.Map.{lookup}
+use Rattle.dw_leb.specs.View.{uleb_of}
+use Rattle.std.proofs.Common.{◌∙◌, sym}
 use Rattle.dw_abbrev.proofs.TableLemmas.{code_repeats, code_passes, no_value}
 use Rattle.dw_abbrev.proofs.table.code_at.Goals as goal
 

@@ -1,4 +1,4 @@
-use Rattle.std.proofs.Common.{◌≡◌, ◌∙◌, eqb}
+use Rattle.std.proofs.Common.{◌∙◌, eqb}
 use Rattle.indexmap.proofs.CallerLemmas.{insert_entry-new}
 use Rattle.dw_abbrev.proofs.tables.keep.Goals as goal
 

@@ -1,16 +1,16 @@
 use Rattle.dw_abbrev.specs.declared.pair.Pair.{Pair as RustPair}
-use Rattle.std.specs.Prelude.{map, option_map}
-use Rattle.dw_leb.specs.View.{uleb_of, sleb_of}
+use Rattle.std.specs.Prelude.{map}
+use Rattle.dw_leb.specs.View.{uleb_of}
 use Rattle.dw_abbrev.specs.PairView.{pair_of}
-use Rattle.std.proofs.Common.{◌≡◌, ℕ, List, Option, [], ◌++◌, sym, subst, ap}
+use Rattle.std.proofs.Common.{ℕ, List, Option, ◌++◌, subst}
 use Rattle.std.specs.Io.KnownBytes.{Appends}
 use Rattle.std.proofs.lemmas.Result.{on_ok_weaker}
 use Rattle.dw_leb.specs.Number.{Unsigned, uleb}
 use Rattle.dw_leb.specs.Watch.{inner_of, AppendsFront}
-use Rattle.dw_abbrev.specs.Table.{Pair, Declaration, zero_of}
+use Rattle.dw_abbrev.specs.Table.{Declaration, zero_of}
 use Rattle.dw_abbrev.specs.Spelling.{flag_bytes, pairs_bytes, declaration_bytes}
 use Rattle.dw_abbrev.proofs.DeclLemmas.{zero_is}
-use Rattle.dw_leb.specs.Towards.{Towards, towards_start, towards_step, towards_fails, towards_front, towards_handed}
+use Rattle.dw_leb.specs.Towards.{towards_start, towards_step, towards_fails, towards_front, towards_handed}
 use Rattle.dw_abbrev.proofs.decl.Decl.write.Goals as goal
 
 pub returns-in_err-write_uleb-2-clause-front : goal.returns-in_err-write_uleb-2-clause-front
@@ -67,7 +67,7 @@ returns-in_err-write_uleb-3-clause-front g c =
     let b4 : Option (List ℕ) = g.W.Write.contents (inner_of c.write_pairs.new.writer) in
     let t4 = towards_step a b3 b4 (pairs_bytes (map pair_of i.pairs.items)) (uleb.spell (zero_of i.name_zero.width) ++ (uleb.spell (zero_of i.form_zero.width))) (declaration_bytes d) t3 (subst (λ (ps : List RustPair). Appends b3 b4 (pairs_bytes (map pair_of ps))) c.as_slice.ensures.value c.in_ok-write_pairs.ensures.ok) in
     let e : Option (List ℕ) = g.W.Write.contents (inner_of c.write_uleb-3.new.writer) in
-    rw (← c.self.view_is) (towards_fails a b4 e (uleb.spell (zero_of i.name_zero.width)) (uleb.spell (zero_of i.form_zero.width)) (declaration_bytes d) t4 (subst (λ (u : Unsigned). AppendsFront b4 e (uleb.spell u)) (zero_is (uleb_of i.name_zero) c.self.invariant.0) c.in_err-write_uleb-3.ensures.front))
+    rw (← c.self.view_is) (towards_fails a b4 e (uleb.spell (zero_of i.name_zero.width)) (uleb.spell (zero_of i.form_zero.width)) (declaration_bytes d) t4 (subst (λ (u : Unsigned). AppendsFront b4 e (uleb.spell u)) (zero_is (uleb_of i.name_zero) c.self.invariant.name_zero) c.in_err-write_uleb-3.ensures.front))
 
 pub returns-clause-ok : goal.returns-clause-ok
 returns-clause-ok g c =
@@ -84,10 +84,10 @@ returns-clause-ok g c =
     let b4 : Option (List ℕ) = g.W.Write.contents (inner_of c.write_pairs.new.writer) in
     let t4 = towards_step a b3 b4 (pairs_bytes (map pair_of i.pairs.items)) (uleb.spell (zero_of i.name_zero.width) ++ (uleb.spell (zero_of i.form_zero.width))) (declaration_bytes d) t3 (subst (λ (ps : List RustPair). Appends b3 b4 (pairs_bytes (map pair_of ps))) c.as_slice.ensures.value c.in_ok-write_pairs.ensures.ok) in
     let b5 : Option (List ℕ) = g.W.Write.contents (inner_of c.write_uleb-3.new.writer) in
-    let t5 = towards_step a b4 b5 (uleb.spell (zero_of i.name_zero.width)) (uleb.spell (zero_of i.form_zero.width)) (declaration_bytes d) t4 (subst (λ (u : Unsigned). Appends b4 b5 (uleb.spell u)) (zero_is (uleb_of i.name_zero) c.self.invariant.0) c.in_ok-write_uleb-3.ensures.ok) in
+    let t5 = towards_step a b4 b5 (uleb.spell (zero_of i.name_zero.width)) (uleb.spell (zero_of i.form_zero.width)) (declaration_bytes d) t4 (subst (λ (u : Unsigned). Appends b4 b5 (uleb.spell u)) (zero_is (uleb_of i.name_zero) c.self.invariant.name_zero) c.in_ok-write_uleb-3.ensures.ok) in
     let e : Option (List ℕ) = g.W.Write.contents (inner_of c.write_uleb-4.new.writer) in
     rw (← c.self.view_is) (towards_handed c.write_uleb-4.result a b5 e (uleb.spell (zero_of i.form_zero.width)) (declaration_bytes d) t5
-    (on_ok_weaker c.write_uleb-4.result (λ h. subst (λ (u : Unsigned). Appends b5 e (uleb.spell u)) (zero_is (uleb_of i.form_zero) c.self.invariant.1) h) c.write_uleb-4.ensures.ok))
+    (on_ok_weaker c.write_uleb-4.result (λ h. subst (λ (u : Unsigned). Appends b5 e (uleb.spell u)) (zero_is (uleb_of i.form_zero) c.self.invariant.form_zero) h) c.write_uleb-4.ensures.ok))
 
 pub returns-clause-front : goal.returns-clause-front
 returns-clause-front g c =
@@ -104,7 +104,7 @@ returns-clause-front g c =
     let b4 : Option (List ℕ) = g.W.Write.contents (inner_of c.write_pairs.new.writer) in
     let t4 = towards_step a b3 b4 (pairs_bytes (map pair_of i.pairs.items)) (uleb.spell (zero_of i.name_zero.width) ++ (uleb.spell (zero_of i.form_zero.width))) (declaration_bytes d) t3 (subst (λ (ps : List RustPair). Appends b3 b4 (pairs_bytes (map pair_of ps))) c.as_slice.ensures.value c.in_ok-write_pairs.ensures.ok) in
     let b5 : Option (List ℕ) = g.W.Write.contents (inner_of c.write_uleb-3.new.writer) in
-    let t5 = towards_step a b4 b5 (uleb.spell (zero_of i.name_zero.width)) (uleb.spell (zero_of i.form_zero.width)) (declaration_bytes d) t4 (subst (λ (u : Unsigned). Appends b4 b5 (uleb.spell u)) (zero_is (uleb_of i.name_zero) c.self.invariant.0) c.in_ok-write_uleb-3.ensures.ok) in
+    let t5 = towards_step a b4 b5 (uleb.spell (zero_of i.name_zero.width)) (uleb.spell (zero_of i.form_zero.width)) (declaration_bytes d) t4 (subst (λ (u : Unsigned). Appends b4 b5 (uleb.spell u)) (zero_is (uleb_of i.name_zero) c.self.invariant.name_zero) c.in_ok-write_uleb-3.ensures.ok) in
     let e : Option (List ℕ) = g.W.Write.contents (inner_of c.write_uleb-4.new.writer) in
     rw (← c.self.view_is) (towards_front a b5 e (uleb.spell (zero_of i.form_zero.width)) (declaration_bytes d) t5
-    (subst (λ (u : Unsigned). AppendsFront b5 e (uleb.spell u)) (zero_is (uleb_of i.form_zero) c.self.invariant.1) c.write_uleb-4.ensures.front))
+    (subst (λ (u : Unsigned). AppendsFront b5 e (uleb.spell u)) (zero_is (uleb_of i.form_zero) c.self.invariant.form_zero) c.write_uleb-4.ensures.front))

@@ -1,16 +1,15 @@
-use Rattle.dw_leb.specs.View.{uleb_of, sleb_of}
-use Rattle.std.proofs.Common.{◌≡◌, ◌≤◌, ◌∙◌, ◌<◌, ◌∷◌, ◌++◌, [], false, length, Err, sym, ap, arith, rules}
+use Rattle.dw_leb.specs.View.{uleb_of}
+use Rattle.std.proofs.Common.{◌≡◌, false, refl, inl, inr, arith}
 use Rattle.std.proofs.lemmas.Bool.{eq-eqb, ne_eqb}
 use Rattle.std.proofs.lemmas.Result.{err_from_is_err_and}
-use Rattle.dw_leb.specs.Number.{Unsigned}
 use Rattle.dw_leb.specs.Field.{are_bytes}
 use Rattle.dw_abbrev.specs.Table.{is_null}
 use Rattle.dw_abbrev.specs.TableView.{decls_in}
-use Rattle.dw_abbrev.proofs.TableLemmas.{no_decls, code_fails, table_there, table_fits, declaration_fails, one_declaration, keyed-push}
+use Rattle.dw_abbrev.proofs.TableLemmas.{no_decls, code_fails, table_there, table_fits, declaration_fails, one_declaration, keyed-push, declares, no_memory}
 use Rattle.dw_abbrev.proofs.table.Table.scan.Goals as goal
 
 pub loop-decls-init : goal.loop-decls-init
-loop-decls-init c = rw c.new-decls.ensures.empty (record { read = no_decls c.args.section.now c.args.at c.requires; keyed = tt; within = c.requires })
+loop-decls-init c = rw c.new-decls.ensures.empty (record { read = no_decls c.args.section.now c.args.at c.requires; keyed = tt; begun = inl refl; within = c.requires })
 
 pub returns-in_err-code-clause-err : goal.returns-in_err-code-clause-err
 returns-in_err-code-clause-err c =
@@ -43,9 +42,29 @@ returns-in_err-decl-clause-err c =
 pub loop-decls-preserved : goal.loop-decls-preserved
 loop-decls-preserved c =
     let some : is_null (uleb_of c.in_ok-code.code) ≡ false = ne_eqb c.in_ok-code.code.value 0 c.if-code-eq0.false in
-    rw c.in_ok-keep.ensures.ok (record {
+    rw c.in-Ok.ensures.ok (record {
       read = one_declaration c.args.section.now c.args.at c.loop-decls.decls.entries c.loop-decls.here c.loop-decls.invariant.read (uleb_of c.in_ok-code.code) c.in_ok-code.behind c.in_ok-code.ensures.ok some c.in_ok-code.ensures.forward.0
           c.in_ok-decl.decl c.in_ok-decl.ensures.code c.in_ok-decl.next c.in_ok-decl.ensures.ok;
       keyed = keyed-push c.loop-decls.decls.entries c.in_ok-decl.decl c.loop-decls.invariant.keyed;
+      begun = inr (declares c.args.section.now c.args.at (are_bytes c.args.section.now (λ k. omega (arith, c.type_inv.section k))) c.loop-decls.here c.loop-decls.invariant.begun _ (uleb_of c.in_ok-code.code) c.in_ok-code.behind c.in_ok-code.ensures.ok
+          c.in_ok-code.ensures.forward.0 c.in_ok-code.ensures.forward.1 some);
       within = c.in_ok-decl.ensures.forward.1;
     })
+
+pub returns-in_err-code-clause-memory : goal.returns-in_err-code-clause-memory
+returns-in_err-code-clause-memory c =
+    let p = err_from_is_err_and c.from_residual.result c.from_residual.ensures.1 in
+    rw (p.1, p.2) (λ same. absurd (no_memory _ c.in_err-code.ensures.fault same))
+
+pub returns-in_err-decl-clause-memory : goal.returns-in_err-decl-clause-memory
+returns-in_err-decl-clause-memory c =
+    let p = err_from_is_err_and c.from_residual-in_err-decl.result c.from_residual-in_err-decl.ensures.1 in
+    let some : is_null (uleb_of c.in_ok-code.code) ≡ false = ne_eqb c.in_ok-code.code.value 0 c.if-code-eq0.false in
+    rw (p.1, p.2) (λ _. declares c.args.section.now c.args.at (are_bytes c.args.section.now (λ k. omega (arith, c.type_inv.section k))) c.loop-decls.here c.loop-decls.invariant.begun _ (uleb_of c.in_ok-code.code) c.in_ok-code.behind c.in_ok-code.ensures.ok
+    c.in_ok-code.ensures.forward.0 c.in_ok-code.ensures.forward.1 some)
+
+pub returns-in-Err-clause-memory : goal.returns-in-Err-clause-memory
+returns-in-Err-clause-memory c =
+    let some : is_null (uleb_of c.in_ok-code.code) ≡ false = ne_eqb c.in_ok-code.code.value 0 c.if-code-eq0.false in
+    λ _. declares c.args.section.now c.args.at (are_bytes c.args.section.now (λ k. omega (arith, c.type_inv.section k))) c.loop-decls.here c.loop-decls.invariant.begun _ (uleb_of c.in_ok-code.code) c.in_ok-code.behind c.in_ok-code.ensures.ok
+    c.in_ok-code.ensures.forward.0 c.in_ok-code.ensures.forward.1 some

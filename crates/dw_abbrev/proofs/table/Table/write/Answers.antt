@@ -1,5 +1,5 @@
-use Rattle.dw_leb.specs.View.{uleb_of, sleb_of}
-use Rattle.std.proofs.Common.{◌≡◌, ◌∙◌, ℕ, List, Option, ◌++◌, sym, subst, ap}
+use Rattle.dw_leb.specs.View.{uleb_of}
+use Rattle.std.proofs.Common.{◌≡◌, ◌∙◌, ℕ, List, Option, sym, subst, ap}
 use Rattle.std.specs.Io.KnownBytes.{Appends}
 use Rattle.std.proofs.lemmas.Result.{on_ok_weaker}
 use Rattle.dw_leb.specs.Number.{Unsigned, uleb}
@@ -9,7 +9,7 @@ use Rattle.dw_abbrev.specs.TableView.{decls_in}
 use Rattle.dw_abbrev.specs.Spelling.{declarations_bytes, table_bytes}
 use Rattle.dw_abbrev.proofs.DeclLemmas.{zero_is}
 use Rattle.dw_abbrev.proofs.SpellLemmas.{table_spelled}
-use Rattle.dw_leb.specs.Towards.{Towards, towards_start, towards_step, towards_fails, towards_front, towards_handed}
+use Rattle.dw_leb.specs.Towards.{towards_start, towards_step, towards_fails, towards_front, towards_handed}
 use Rattle.dw_abbrev.proofs.table.Table.write.Goals as goal
 
 pub returns-in_err-write_decls-clause-front : goal.returns-in_err-write_decls-clause-front
