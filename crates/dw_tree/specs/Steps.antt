@@ -1,0 +1,123 @@
+-- A tree that grows, as contracts see it, and what each call does to it.
+use Rattle.std.specs.Prelude.{ℕ, ◌+◌, ◌==◌, List, [], ◌∷◌, ◌++◌, length, take, drop, Option, Some, None, Bool, true, false, option_map}
+use Rattle.std.proofs.Common.{refl}
+use Rattle.std.specs.Coded.{Coded, code_by, coded×, coded_ℕ}
+use Rattle.dw_leb.specs.Number.{Unsigned, uleb}
+use Rattle.dw_form.specs.declared.shape.Ctx.{Ctx}
+use Rattle.dw_form.specs.Form.{Attribute, attribute}
+use Rattle.dw_abbrev.specs.Table.{Pair, Declaration, Table, declared}
+use Rattle.dw_tree.specs.Tree.{Tree, leaf, Forest, none, more, values, pairs_of}
+use Rattle.dw_tree.specs.Row.{rows_bytes}
+use Rattle.dw_tree.specs.Place.{Frame, Spot, add, enter, leave, rows_before, Unread, Place, place_code}
+use Rattle.dw_tree.specs.Codes.{context_code, table_code, tree_code}
+
+-- a tree under construction, whose root begins at this offset of its unit
+pub record Growing : Type 0 where
+  pub context : Ctx
+  pub table : Table
+  pub start : ℕ
+  pub place : Place
+
+abbrev pub growing_code : Coded Growing
+growing_code = code_by (Ctx × (Table × (ℕ × Place))) (coded× context_code (coded× table_code (coded× coded_ℕ place_code)))
+    (λ g. (g.context, (g.table, (g.start, g.place)))) (λ p. record { context = p.0; table = p.1.0; start = p.1.1.0; place = p.1.1.1 }) (λ _. refl)
+
+-- an entry with all its values is closed at once, or is opened
+abbrev pub settled : Bool → Bool → Spot → Unsigned → List Attribute → Place
+settled true true s code vs = record { spot = enter code vs s; reading = None }
+settled true false s code vs = record { spot = add (leaf code vs) s; reading = None }
+settled false children s code vs = record { spot = s; reading = Some (record { code = code; values = vs }) }
+
+-- an entry is given these values so far
+abbrev pub settle_by : Option Declaration → Spot → Unsigned → List Attribute → Place
+settle_by None s code vs = record { spot = s; reading = None }
+settle_by (Some d) s code vs = settled (length vs == length d.pairs) d.children s code vs
+
+abbrev pub settle : Table → Spot → Unsigned → List Attribute → Place
+settle t s code vs = settle_by (declared t code.value) s code vs
+
+-- an entry of this code begins
+abbrev pub begun_at : Unsigned → Growing → Growing
+begun_at code g = record g { place = settle g.table g.place.spot code [] }
+
+-- the entry that is read is given one more value
+abbrev pub value_at : Attribute → Growing → Option Unread → Growing
+value_at v g None = g
+value_at v g (Some r) = record g { place = settle g.table g.place.spot r.code (r.values ++ v ∷ []) }
+
+abbrev pub with_value : Attribute → Growing → Growing
+with_value v g = value_at v g g.place.reading
+
+-- the innermost open entry is closed
+abbrev pub closed_at : ℕ → Growing → Growing
+closed_at w g = record g { place = record { spot = leave w g.place.spot; reading = None } }
+
+-- the entry that is read is taken back
+abbrev pub undone : Growing → Growing
+undone g = record g { place = record { spot = g.place.spot; reading = None } }
+
+-- ---- the bytes so far, and where the next one stands
+
+-- the values of the first pairs, as many as there are values
+abbrev pub first_values : Ctx → List Pair → List Attribute → List ℕ
+first_values k ps vs = (values k (take (length vs) ps)).spell vs
+
+abbrev pub FirstsFit : Ctx → List Pair → List Attribute → Type 0
+FirstsFit k ps vs = (values k (take (length vs) ps)).Fits vs
+
+abbrev pub unread_bytes : Ctx → Table → Option Unread → List ℕ
+unread_bytes k t None = []
+unread_bytes k t (Some r) = uleb.spell r.code ++ first_values k (pairs_of (declared t r.code.value)) r.values
+
+abbrev pub end_of : Growing → ℕ
+end_of g = g.start + (length (rows_bytes g.context g.table (rows_before g.place.spot.above g.place.spot.left)) + length (unread_bytes g.context g.table g.place.reading))
+
+-- ---- what the caller has tested
+
+-- the pairs whose values are still to come
+abbrev pub next_pairs : Table → Unread → List Pair
+next_pairs t r = drop (length r.values) (pairs_of (declared t r.code.value))
+
+abbrev pub FirstFits : Ctx → List Pair → Attribute → Type 0
+FirstFits k [] v = ⊥
+FirstFits k (p ∷ ps) v = (attribute k p.form.value p.constant).Fits v
+
+abbrev pub first_bytes : Ctx → List Pair → Attribute → List ℕ
+first_bytes k [] v = []
+first_bytes k (p ∷ ps) v = (attribute k p.form.value p.constant).spell v
+
+-- the value has a spelling as the next one of the entry that is read
+abbrev pub NextFits : Ctx → Table → Option Unread → Attribute → Type 0
+NextFits k t None v = ⊥
+NextFits k t (Some r) v = FirstFits k (next_pairs t r) v
+
+abbrev pub next_bytes : Ctx → Table → Option Unread → Attribute → List ℕ
+next_bytes k t None v = []
+next_bytes k t (Some r) v = first_bytes k (next_pairs t r) v
+
+-- ---- a whole tree
+
+-- a tree whose root begins at this offset of its unit
+pub record TreeAt : Type 0 where
+  pub context : Ctx
+  pub table : Table
+  pub start : ℕ
+  pub root : Tree
+
+abbrev pub tree_at_code : Coded TreeAt
+tree_at_code = code_by (Ctx × (Table × (ℕ × Tree))) (coded× context_code (coded× table_code (coded× coded_ℕ tree_code)))
+    (λ g. (g.context, (g.table, (g.start, g.root)))) (λ p. record { context = p.0; table = p.1.0; start = p.1.1.0; root = p.1.1.1 }) (λ _. refl)
+
+-- the tree of a place behind a whole one
+abbrev pub only_tree : Forest → Option Tree
+only_tree none = None
+only_tree (more x none) = Some x
+only_tree (more x (more y ts)) = None
+
+abbrev pub whole_tree : List Frame → Forest → Option Unread → Option Tree
+whole_tree [] ts None = only_tree ts
+whole_tree [] ts (Some r) = None
+whole_tree (f ∷ fs) ts o = None
+
+abbrev pub finished : Growing → Option TreeAt
+finished g = option_map (λ (x : Tree). record { context = g.context; table = g.table; start = g.start; root = x }) (whole_tree g.place.spot.above g.place.spot.left g.place.reading)

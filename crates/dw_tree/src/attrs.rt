@@ -1,0 +1,120 @@
+//! The attributes of an entry, as they are lent (sections 2.2, 7.5.2 and 7.5.3).
+ghost use Rattle.std.specs.Prelude.{◌≡◌, map, option_map};
+ghost use Rattle.std.specs.Iterator.{YieldsFirstBy, item_count};
+ghost use Rattle.dw_leb.specs.View.{uleb_of};
+ghost use Rattle.dw_form.specs.Lent.{attribute_of};
+ghost use Rattle.dw_form.specs.Pieces.{form_in};
+ghost use Rattle.dw_abbrev.specs.PairView.{pair_of};
+ghost use Rattle.dw_tree.specs.Flat.{contents};
+ghost use Rattle.dw_tree.specs.Lent.{lent_attribute, lent_attributes};
+ghost use Rattle.dw_tree.specs.Lent.{AreLent, attr_of};
+
+use dw_abbrev::Pair;
+use dw_form::{AttrValue, Ctx, Stored, size_of};
+use dw_leb::Uleb;
+use std::marker::Model;
+
+/// An attribute of an entry (section 2.2). Its value borrows the unit.
+#[derive(Clone, Copy, Debug)]
+pub struct AttrRef<'a> {
+    /// The name, `DW_AT_..`.
+    pub name: u64,
+    /// The form in effect, `DW_FORM_..`: of an indirect value the one that it names itself, of any
+    /// other the one that the declaration gives (section 7.5.3).
+    pub form: u64,
+    /// Where the value begins, counted from the unit's first byte, that of its initial length. A
+    /// value of no bytes begins where the next one does.
+    pub offset: u64,
+    /// The value.
+    pub attr: AttrValue<'a>,
+}
+
+/// The attributes of an entry that are left, in the order in which its declaration names them, which
+/// is that of their values (section 7.5.2).
+#[derive(Drop)]
+pub struct Attrs<'a> {
+    ctx: Ctx,
+    pairs: &'a [Pair],
+    stored: &'a [Stored],
+    pool: &'a [u8],
+    /// Where the first value begins.
+    at: u64,
+}
+
+impl<'a> Model for Attrs<'a> {
+    ghost use Rattle.std.specs.Prelude.{List, map};
+    ghost use Rattle.dw_abbrev.specs.PairView.{pair_of};
+    ghost use Rattle.dw_tree.specs.Flat.{contents};
+    ghost use Rattle.dw_tree.specs.Lent.{LentAttribute, lent_attributes};
+    ghost use Rattle.dw_tree.specs.Lent.{AreLent};
+
+    ghost Value = { List LentAttribute };
+
+    ghost view = { λ a. lent_attributes a.ctx a.at (map pair_of a.pairs.now) (contents a.stored.now a.pool.now) };
+
+    ghost invariant = { λ a. AreLent a.ctx a.at (map pair_of a.pairs.now) a.stored.now a.pool.now };
+}
+
+impl<'a> Attrs<'a> {
+    /// The values that are stored over a pool, one for each pair, of which the first begins at `at`.
+    pub(crate) fn of(
+        ctx: Ctx,
+        pairs: &'a [Pair],
+        stored: &'a [Stored],
+        pool: &'a [u8],
+        at: u64,
+    ) -> Attrs<'a>
+        requires { AreLent ctx at (map pair_of pairs.now) stored.now pool.now }
+        ensures { result ≡ lent_attributes ctx at (map pair_of pairs.now) (contents stored.now pool.now) }
+    {
+        Attrs {
+            ctx,
+            pairs,
+            stored,
+            pool,
+            at,
+        }
+    }
+}
+
+impl<'a> Iterator for Attrs<'a> {
+    type Item = AttrRef<'a>;
+
+    ghost next_gives = { YieldsFirstBy attr_of (λ s. s) };
+
+    ghost remaining = { item_count (λ s. s) };
+
+    fn next(&mut self) -> Option<AttrRef<'a>> {
+        let (pair, pairs) = self.pairs.split_first()?;
+        let (stored, others) = self.stored.split_first()?;
+        let attr = stored.lend(self.pool);
+        let size = size_of(self.ctx, pair.form.value, &attr);
+        let first = attr_at(pair, &attr, self.at);
+        self.pairs = pairs;
+        self.stored = others;
+        self.at += size;
+        Some(first)
+    }
+}
+
+/// The attribute of a pair, with its value that begins at `at`.
+fn attr_at<'a>(pair: &Pair, attr: &AttrValue<'a>, at: u64) -> AttrRef<'a>
+    ensures { attr_of result ≡ lent_attribute at (pair_of pair.now) (attribute_of attr.now) }
+{
+    AttrRef {
+        name: pair.name.value,
+        form: form_of(pair.form, attr.via),
+        offset: at,
+        attr: *attr,
+    }
+}
+
+/// The form in effect where the declaration gives one and the value may name another.
+fn form_of(form: Uleb, via: Option<Uleb>) -> u64
+    ensures { result ≡ form_in form.value (option_map uleb_of via) }
+{
+    match via {
+        Some(via) => via.value,
+        None => form.value,
+    }
+}

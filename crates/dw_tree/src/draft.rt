@@ -1,0 +1,259 @@
+//! A tree under construction.
+ghost use Rattle.std.specs.Prelude.{◌≡◌, ◌≢◌, ◌+◌, ◌<◌, ◌≤◌, ◌^◌, ◌-◌, [], length, IfOk, None, Some, IsSome, OnOk, OnErr, vec_len, vec_capacity};
+ghost use Rattle.dw_leb.specs.Number.{uleb};
+ghost use Rattle.dw_leb.specs.View.{uleb_of};
+ghost use Rattle.dw_form.specs.Form.{IsContext};
+ghost use Rattle.dw_form.specs.Lent.{attribute_of};
+ghost use Rattle.dw_abbrev.specs.Table.{declared, zero_of};
+ghost use Rattle.dw_tree.specs.Tree.{nesting, tree as part};
+ghost use Rattle.dw_tree.specs.Place.{nowhere};
+ghost use Rattle.dw_tree.specs.Standing.{is_bare};
+ghost use Rattle.dw_tree.specs.Settled.{settled_rows, settled_open, settled_reading};
+ghost use Rattle.dw_tree.specs.Steps.{begun_at, with_value, closed_at, undone, end_of, NextFits, next_bytes, finished};
+
+use crate::row::{Kind, Reading, Row};
+use crate::tree::EntryTree;
+use dw_abbrev::Table;
+use dw_form::{AttrValue, Ctx, Stored};
+use dw_leb::Uleb;
+use std::alloc::{AllocError, Global};
+use std::marker::Model;
+use std::rc::Rc;
+
+/// A tree of entries that grows at one open place: below the entry that was begun last and isn't
+/// closed yet, or at the root's (section 2.3).
+///
+/// What a call's `requires` asks for its caller has tested. So the calls answer only that memory was
+/// refused, and the draft holds then what it held.
+#[derive(Drop)]
+pub struct TreeDraft {
+    context: Ctx,
+    table: Rc<Table>,
+    start: u64,
+    /// Where the next byte stands.
+    here: u64,
+    rows: Vec<Row>,
+    values: Vec<Stored>,
+    pool: Vec<u8>,
+    /// The rows of the open entries, the outermost first.
+    nested: Vec<usize>,
+    reading: Option<Reading>,
+}
+
+impl Model for TreeDraft {
+    ghost use Rattle.dw_tree.specs.Steps.{Growing, growing_code};
+
+    ghost Value = { Growing };
+
+    ghost coded = { growing_code };
+
+    ghost use Rattle.dw_tree.specs.DraftView.{growing, IsDraft};
+
+    ghost view = { growing };
+
+    ghost invariant = { IsDraft };
+}
+
+impl TreeDraft {
+    /// A draft without entries, over the table of their declarations. The root will begin at the
+    /// offset `start`, counted from the unit's first byte.
+    pub fn new(alloc: Global, context: Ctx, table: Rc<Table>, start: u64) -> TreeDraft
+        requires context { IsContext context }
+        requires near { start < 2 ^ 63 }
+        ensures { result ≡ record { context = context; table = table.value; start = start; place = record { spot = nowhere; reading = None } } }
+    {
+        TreeDraft {
+            context,
+            table,
+            start,
+            here: start,
+            rows: Vec::new(alloc),
+            values: Vec::new(alloc),
+            pool: Vec::new(alloc),
+            nested: Vec::new(alloc),
+            reading: None,
+        }
+    }
+
+    /// An entry of this code begins. Where its declaration asks for no values it is complete.
+    pub fn begin(&mut self, code: Uleb) -> Result<(), AllocError>
+        requires some { 0 < code.value }
+        requires known { IsSome (declared self.old.table code.value) }
+        requires free { self.old.place.reading ≡ None }
+        requires level { length self.old.place.spot.above < nesting }
+        requires near { end_of self.old + code.width < 2 ^ 63 }
+        ensures ok { OnOk result (self.new ≡ begun_at (uleb_of code) self.old) }
+        ensures err { OnErr result (self.new ≡ self.old) }
+    {
+        self.rows.reserve(1)?;
+        self.nested.reserve(1)?;
+        if let Some(decl) = self.table.get(code.value) {
+            let reading = Reading {
+                code,
+                offset: self.here,
+                first: self.values.len(),
+                count: decl.pairs().len(),
+                children: decl.has_children(),
+                pool: self.pool.len(),
+            };
+            self.here += code.width as u64;
+            self.reading = settle(&mut self.rows, &mut self.nested, self.values.len(), reading);
+        }
+        Ok(())
+    }
+
+    /// The entry that is read is given its next value, which has `size` bytes. With its last value it
+    /// is complete: closed where its declaration has no children, else open.
+    pub fn value(&mut self, value: &AttrValue<'_>, size: u64) -> Result<(), AllocError>
+        requires fits { NextFits self.old.context self.old.table self.old.place.reading (attribute_of value.now) }
+        requires size { size ≡ length (next_bytes self.old.context self.old.table self.old.place.reading (attribute_of value.now)) }
+        requires near { end_of self.old + size < 2 ^ 63 }
+        ensures ok { OnOk result (self.new ≡ with_value (attribute_of value.now) self.old) }
+        ensures err { OnErr result (self.new ≡ self.old) }
+    {
+        self.values.reserve(1)?;
+        if let Some(reading) = self.reading {
+            let stored = Stored::keep(value, &mut self.pool)?;
+            self.values.push_reserved(stored);
+            self.here += size;
+            self.reading = settle(&mut self.rows, &mut self.nested, self.values.len(), reading);
+        }
+        Ok(())
+    }
+
+    /// The entry that is read is taken back, with the values that it was given.
+    pub fn undo(&mut self)
+        ensures { self.new ≡ undone self.old }
+    {
+        if let Some(reading) = self.reading {
+            self.values.truncate(reading.first);
+            self.pool.truncate(reading.pool);
+            self.here = reading.offset;
+            self.reading = None;
+        }
+    }
+
+    /// The innermost open entry is closed by a null of this width.
+    pub fn close(&mut self, null: Uleb) -> Result<(), AllocError>
+        requires zero { null.value ≡ 0 }
+        requires inside { self.old.place.spot.above ≢ [] }
+        requires free { self.old.place.reading ≡ None }
+        requires near { end_of self.old + null.width < 2 ^ 63 }
+        ensures ok { OnOk result (self.new ≡ closed_at null.width self.old) }
+        ensures err { OnErr result (self.new ≡ self.old) }
+    {
+        self.rows.reserve(1)?;
+        let depth = self.nested.len() as u16 + 1;
+        if let Some(at) = self.nested.pop() {
+            let end = self.rows.len() + 1;
+            let row = self.rows[at];
+            self.rows[at] = Row { end, ..row };
+            self.rows.push_reserved(Row {
+                offset: self.here,
+                end,
+                first: self.values.len(),
+                code: null,
+                depth,
+                kind: Kind::Null,
+            });
+            self.here += null.width as u64;
+        }
+        Ok(())
+    }
+
+    /// Where the next byte stands, counted from the unit's first byte.
+    pub fn end(&self) -> u64
+        ensures { result ≡ end_of self.now }
+    {
+        self.here
+    }
+
+    /// The table of its entries' declarations.
+    pub fn table(&self) -> &Table
+        ensures { result.now ≡ self.now.table }
+    {
+        &self.table
+    }
+
+    /// How many entries are open.
+    pub fn depth(&self) -> usize
+        ensures { result ≡ length self.now.place.spot.above }
+    {
+        self.nested.len()
+    }
+
+    /// Whether no entry was begun, besides one whose values aren't complete.
+    pub fn is_empty(&self) -> bool
+        ensures { result ≡ is_bare self.now.place.spot }
+    {
+        self.rows.len() == 0
+    }
+
+    /// The tree, once its root is closed.
+    pub fn finish(self) -> EntryTree
+        requires { IsSome (finished self) }
+        ensures whole { finished self ≡ Some result }
+        ensures fits { (part result.context result.table (nesting - 1)).Fits result.root }
+        ensures size { end_of self ≡ result.start + length ((part result.context result.table (nesting - 1)).spell result.root) }
+    {
+        let TreeDraft {
+            context,
+            table,
+            start,
+            here,
+            rows,
+            values,
+            pool,
+            nested: _,
+            reading: _,
+        } = self;
+        EntryTree {
+            context,
+            table,
+            start,
+            end: here,
+            rows,
+            values,
+            pool,
+        }
+    }
+}
+
+/// Where an entry has all its values, its row is put; else it is read on.
+fn settle(
+    rows: &mut Vec<Row>,
+    nested: &mut Vec<usize>,
+    values: usize,
+    reading: Reading,
+) -> Option<Reading>
+    requires row { vec_len rows.old < vec_capacity rows.old }
+    requires place { vec_len nested.old < vec_capacity nested.old }
+    requires first { reading.first ≤ values }
+    requires level { vec_len nested.old < 2 ^ 15 }
+    ensures rows { rows.new.items ≡ settled_rows reading values (vec_len nested.old + 1) rows.old.items }
+    ensures nested { nested.new.items ≡ settled_open reading values (vec_len rows.old) nested.old.items }
+    ensures reading { result ≡ settled_reading reading values }
+    ensures room { IsSome result → (vec_len rows.new < vec_capacity rows.new) }
+    ensures open_room { IsSome result → (vec_len nested.new < vec_capacity nested.new) }
+{
+    if values - reading.first != reading.count {
+        return Some(reading);
+    }
+    let at = rows.len();
+    let depth = nested.len() as u16 + 1;
+    let (kind, end) = if reading.children {
+        nested.push_reserved(at);
+        (Kind::Branch, 0)
+    } else {
+        (Kind::Leaf, at + 1)
+    };
+    rows.push_reserved(Row {
+        offset: reading.offset,
+        end,
+        first: reading.first,
+        code: reading.code,
+        depth,
+        kind,
+    });
+    None
+}

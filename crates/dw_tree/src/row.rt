@@ -1,0 +1,45 @@
+//! The rows of a tree, and the entry that is being read.
+
+use dw_leb::Uleb;
+
+/// What a row is.
+#[derive(Clone, Copy, Debug, PartialEq, Eq)]
+pub(crate) enum Kind {
+    /// An entry without children.
+    Leaf,
+    /// An entry whose children follow, up to their null.
+    Branch,
+    /// The null that ends the children of an entry.
+    Null,
+}
+
+/// An entry or a null. Rows stand in the order of their bytes.
+#[derive(Clone, Copy, Debug)]
+pub(crate) struct Row {
+    /// Where its code begins, counted from the unit's first byte.
+    pub(crate) offset: u64,
+    /// Of an entry: the row behind its subtree, its own null included.
+    pub(crate) end: usize,
+    /// Of an entry: its first value. How many it has its declaration says.
+    pub(crate) first: usize,
+    /// The code, 0 of a null.
+    pub(crate) code: Uleb,
+    /// The level: 1 of the root.
+    pub(crate) depth: u16,
+    pub(crate) kind: Kind,
+}
+
+/// An entry whose values aren't complete. Its row is no row yet.
+#[derive(Clone, Copy, Debug)]
+pub(crate) struct Reading {
+    pub(crate) code: Uleb,
+    /// Where its code begins.
+    pub(crate) offset: u64,
+    /// The place of its first value.
+    pub(crate) first: usize,
+    /// How many values its declaration asks for.
+    pub(crate) count: usize,
+    pub(crate) children: bool,
+    /// How long the pool was when the entry began.
+    pub(crate) pool: usize,
+}
