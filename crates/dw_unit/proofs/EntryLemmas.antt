@@ -1,6 +1,5 @@
 -- The steps of reading values and padding.
 use Rattle.std.proofs.Common.{◌≡◌, ◌≤◌, ◌<◌, ◌+◌, ◌-◌, ℕ, zero, suc, List, [], ◌∷◌, ◌++◌, length, drop, get_or, Err, refl, sym, ap, ◌∙◌, append_assoc, append-nil, arith}
-use Rattle.std.specs.Prelude.{map}
 use Rattle.std.specs.List.{AllByRecursion}
 use Rattle.std.proofs.lemmas.List.{drop-drop, map-append}
 use Rattle.dw_leb.specs.declared.errors.Reason.{Reason}
@@ -18,10 +17,19 @@ use Rattle.dw_form.specs.Kept.{content, StoredFits, content_stays, stored_fits}
 use Rattle.dw_abbrev.specs.Table.{Pair}
 use Rattle.dw_abbrev.specs.PairView.{pair_of}
 use Rattle.dw_abbrev.specs.declared.pair.Pair.{Pair as RustPair}
-use Rattle.dw_unit.specs.ReadUnit.{read_values, read_padding}
-use Rattle.dw_unit.specs.Tree.{not_null}
-use Rattle.dw_unit.specs.DecideTree.{padding_step}
-use Rattle.dw_unit.specs.Entries.{put_front, contents, value_part, RefusedAt}
+use Rattle.dw_tree.specs.ReadTree.{read_values, read_padding}
+use Rattle.dw_tree.specs.Tree.{not_null}
+use Rattle.dw_tree.specs.DecideTree.{padding_step}
+use Rattle.std.proofs.Common.{Bool, true, false, Option, Some, map}
+use Rattle.std.specs.Prelude.{Result, Ok, OnOk}
+use Rattle.std.specs.Result.{is_err}
+use Rattle.std.proofs.lemmas.Bool.{ne_eqb, eq-eqb}
+use Rattle.dw_abbrev.specs.Table.{Declaration, Table, declared}
+use Rattle.dw_tree.specs.Flat.{value_part}
+use Rattle.dw_tree.specs.Place.{Spot}
+use Rattle.dw_tree.specs.Steps.{settled, settle_by, settle, FirstsFit, FirstFits}
+use Rattle.dw_tree.specs.Tree.{pairs_of}
+use Rattle.dw_unit.specs.Entries.{put_front}
 use Rattle.dw_unit.specs.Told.{Tells}
 use Rattle.dw_unit.specs.declared.bad.BodyError.{BodyError}
 use Rattle.dw_unit.specs.declared.bad.BodyError.TheVariants as errors
@@ -44,20 +52,6 @@ taken_reads P R it bytes lim x size h =
     let within : length (P.spell x) ≤ lim = omega (arith, h.is_size, h.within) in
     ap (λ (b : List ℕ). R b lim) h.split ∙ it.takes x h.rest lim h.fits within ∙ ap (λ (n : ℕ). Found x n) h.is_size
 
--- ---- stored values in a pool that grows
-
-pub contents_stay : (pool more : List ℕ) (xs : List Stored) → AllByRecursion (StoredFits (length pool)) xs → contents xs (pool ++ more) ≡ contents xs pool
-contents_stay pool more [] h = refl
-contents_stay pool more (x ∷ xs) h = rw (content_stays pool more x h.0, contents_stay pool more xs h.1) refl
-
-pub all_room : (m n : ℕ) (xs : List Stored) → m ≤ n → AllByRecursion (StoredFits m) xs → AllByRecursion (StoredFits n) xs
-all_room m n [] le h = tt
-all_room m n (x ∷ xs) le h = (stored_fits m n x le h.0, all_room m n xs le h.1)
-
-pub all_push : (P : Stored → Type 0) (xs : List Stored) (x : Stored) → AllByRecursion P xs → P x → AllByRecursion P (xs ++ x ∷ [])
-all_push P [] x h k = (k, tt)
-all_push P (y ∷ ys) x h k = (h.0, all_push P ys x h.1 k)
-
 -- ---- the next value
 
 pair_next : (ps : List RustPair) (i : ℕ) (p : RustPair) → i < length ps → p ≡ get_or ps i p → drop i ps ≡ p ∷ drop (suc i) ps
@@ -65,49 +59,62 @@ pair_next [] i p lt e = absurd (omega (arith, lt))
 pair_next (q ∷ ps) zero p lt e = ap (λ (r : RustPair). r ∷ ps) (sym e)
 pair_next (q ∷ ps) (suc i) p lt e = pair_next ps i p (omega (arith, lt)) e
 
-module _ (k : Ctx) (all : List Pair) (b : List ℕ) (lim : ℕ) (ps : List RustPair) (i : ℕ) (p : RustPair) (lt : i < length ps) (e : p ≡ get_or ps i p) (stored : List Stored) (pool : List ℕ) (at : ℕ)
-    (read : read_values k all b lim ≡ put_front (contents stored pool) at (read_values k (map pair_of (drop i ps)) (drop at b) (lim - at))) where
-  here : read_values k all b lim ≡ put_front (contents stored pool) at (read_values k (pair_of p ∷ map pair_of (drop (suc i) ps)) (drop at b) (lim - at))
-  here = read ∙ ap (λ (qs : List RustPair). put_front (contents stored pool) at (read_values k (map pair_of qs) (drop at b) (lim - at))) (pair_next ps i p lt e)
+-- the pairs whose values are still to come
+drop_map : (ps : List RustPair) (i : ℕ) → drop i (map pair_of ps) ≡ map pair_of (drop i ps)
+drop_map ps zero = refl
+drop_map [] (suc i) = refl
+drop_map (p ∷ ps) (suc i) = drop_map ps i
 
+pub next_pair : (ps : List RustPair) (i : ℕ) (p : RustPair) → i < length ps → p ≡ get_or ps i p → drop i (map pair_of ps) ≡ pair_of p ∷ drop (suc i) (map pair_of ps)
+next_pair ps i p lt e = drop_map ps i ∙ (ap (λ (qs : List RustPair). map pair_of qs) (pair_next ps i p lt e) ∙ ap (λ (qs : List Pair). pair_of p ∷ qs) (sym (drop_map ps (suc i))))
+
+module _ (k : Ctx) (whole : Outcome (List Attribute)) (ps : List RustPair) (i : ℕ) (p : RustPair) (lt : i < length ps) (e : p ≡ get_or ps i p) (vs : List Attribute) (n : ℕ) (bytes : List ℕ) (lim : ℕ)
+    (read : whole ≡ put_front vs n (read_values k (drop i (map pair_of ps)) bytes lim)) where
   abbrev rest : List Pair
-  rest = map pair_of (drop (suc i) ps)
+  rest = drop (suc i) (map pair_of ps)
+
+  here : whole ≡ put_front vs n (read_values k (pair_of p ∷ rest) bytes lim)
+  here = read ∙ ap (λ (qs : List Pair). put_front vs n (read_values k qs bytes lim)) (next_pair ps i p lt e)
 
   abbrev next : Outcome Attribute → Outcome (List Attribute)
-  next o = put_front (contents stored pool) at (mapped (λ x. x.0 ∷ x.1) (behind o (λ _. read_values k rest) (drop at b) (lim - at)))
+  next o = put_front vs n (mapped (λ x. x.0 ∷ x.1) (behind o (λ _. read_values k rest) bytes lim))
 
   -- a value that breaks
-  pub value_breaks : (reason : Reason) → (value_part k p).Break (drop at b) (lim - at) 0 reason → read_values k all b lim ≡ Broken at reason
+  pub value_breaks : (reason : Reason) → (value_part k p).Break bytes lim 0 reason → whole ≡ Broken n reason
   value_breaks reason h =
-      here ∙ ap next ((attribute_decides k (pair_of p).form.value (pair_of p).constant).faults (drop at b) (lim - at) 0 reason h)
-      ∙ ap (λ (n : ℕ). Broken n reason) (omega arith)
+      here ∙ ap next ((attribute_decides k (pair_of p).form.value (pair_of p).constant).faults bytes lim 0 reason h)
+      ∙ ap (λ (m : ℕ). Broken m reason) (omega arith)
 
   -- a value that is taken
-  pub value_read : (a : Attribute) (size : ℕ) → Taken (value_part k p) (drop at b) (lim - at) a size
-      → read_values k all b lim ≡ put_front (contents stored pool ++ a ∷ []) (at + size) (read_values k (map pair_of (drop (i + 1) ps)) (drop (at + size) b) (lim - (at + size)))
+  pub value_read : (a : Attribute) (size : ℕ) → Taken (value_part k p) bytes lim a size → whole ≡ put_front (vs ++ a ∷ []) (n + size) (read_values k rest (drop size bytes) (lim - size))
   value_read a size h =
-      let one : suc i ≡ i + 1 = omega arith in
-      let moved : drop size (drop at b) ≡ drop (at + size) b = drop-drop size at b in
-      let left : lim - at - size ≡ lim - (at + size) = omega arith in
-      here ∙ ap next (taken_reads (value_part k p) (read_attribute k (pair_of p).form.value (pair_of p).constant) (attribute_decides k (pair_of p).form.value (pair_of p).constant) (drop at b) (lim - at) a size h)
-      ∙ put_one (contents stored pool) at a size (read_values k rest (drop size (drop at b)) (lim - at - size))
-      ∙ ap (λ (bs : List ℕ). put_front (contents stored pool ++ a ∷ []) (at + size) (read_values k rest bs (lim - at - size))) moved
-      ∙ ap (λ (n : ℕ). put_front (contents stored pool ++ a ∷ []) (at + size) (read_values k rest (drop (at + size) b) n)) left
-      ∙ ap (λ (n : ℕ). put_front (contents stored pool ++ a ∷ []) (at + size) (read_values k (map pair_of (drop n ps)) (drop (at + size) b) (lim - (at + size)))) one
+      here ∙ ap next (taken_reads (value_part k p) (read_attribute k (pair_of p).form.value (pair_of p).constant) (attribute_decides k (pair_of p).form.value (pair_of p).constant) bytes lim a size h)
+      ∙ put_one vs n a size (read_values k rest (drop size bytes) (lim - size))
 
--- one more stored value
-pub contents_push : (pool more new : List ℕ) (xs : List Stored) (x : Stored) → new ≡ pool ++ more → AllByRecursion (StoredFits (length pool)) xs → contents (xs ++ x ∷ []) new ≡ contents xs pool ++ content new x ∷ []
-contents_push pool more new xs x e h =
-    map-append (content new) xs (x ∷ [])
-    ∙ ap (λ (ys : List Attribute). ys ++ content new x ∷ []) (ap (contents xs) e ∙ contents_stay pool more xs h)
+-- ---- an entry that is given its values
 
--- a refused value, told
-pub value_refused : (k : Ctx) (all : List Pair) (b : List ℕ) (lim : ℕ) (ps : List RustPair) (i : ℕ) (p : RustPair) (lt : i < length ps) (e : p ≡ get_or ps i p) (stored : List Stored) (pool : List ℕ) (at : ℕ)
-    (read : read_values k all b lim ≡ put_front (contents stored pool) at (read_values k (map pair_of (drop i ps)) (drop at b) (lim - at)))
-    {X : Type 0} (view : X → List Attribute) (error : BodyError) → RefusedAt (value_part k p) (drop at b) (lim - at) at error → Tells view (Err error) (read_values k all b lim)
-value_refused k all b lim ps i p lt e stored pool at read view (errors.Bad bad) h =
-    value_breaks k all b lim ps i p lt e stored pool at read bad.reason h.1 ∙ ap (λ (n : ℕ). Broken n bad.reason) (sym h.0)
-value_refused k all b lim ps i p lt e stored pool at read view errors.NoMemory h = tt
+module _ (t : Table) (s : Spot) (code : Unsigned) (vs : List Attribute) (d : Declaration) (known : declared t code.value ≡ Some d) where
+  -- some are still to come
+  pub settle_open : length vs < length d.pairs → settle t s code vs ≡ record { spot = s; reading = Some (record { code = code; values = vs }) }
+  settle_open lt =
+      ap (λ (o : Option Declaration). settle_by o s code vs) known
+      ∙ ap (λ (b : Bool). settled b d.children s code vs) (ne_eqb (length vs) (length d.pairs) (λ e. omega (arith, lt, e)))
+
+  -- or none
+  pub settle_whole : length vs ≡ length d.pairs → settle t s code vs ≡ settled true d.children s code vs
+  settle_whole same =
+      ap (λ (o : Option Declaration). settle_by o s code vs) known
+      ∙ ap (λ (b : Bool). settled b d.children s code vs) (eq-eqb (length vs) (length d.pairs) same)
+
+  pub pairs_are : pairs_of (declared t code.value) ≡ d.pairs
+  pairs_are = ap pairs_of known
+
+-- the first values, and one more
+pub prefix_more : (k : Ctx) (ps : List Pair) (vs : List Attribute) (v : Attribute) → FirstsFit k ps vs → FirstFits k (drop (length vs) ps) v → FirstsFit k ps (vs ++ v ∷ [])
+prefix_more k [] [] v h n = absurd n
+prefix_more k (p ∷ ps) [] v h n = (n, tt)
+prefix_more k [] (w ∷ vs) v h n = absurd h
+prefix_more k (p ∷ ps) (w ∷ vs) v h n = (h.0, prefix_more k ps vs v h.1 n)
 
 -- ---- padding
 
@@ -144,3 +151,15 @@ module _ (whole : Outcome (List ℕ)) (total : ℕ) (bytes : List ℕ) (ws : Lis
     padding_read u size e =
         let after : lim - at - size ≡ lim - (at + size) = omega arith in
         padding_goes ∙ rw e (put_width ws at u size (read_padding (total - (count + 1)) (drop size bytes) (lim - at - size)) ∙ ap (λ (n : ℕ). put_front (ws ++ u.width ∷ []) (at + size) (read_padding (total - (count + 1)) (drop size bytes) n)) after)
+
+-- ---- a call that didn't fail
+
+pub no_error : {X E : Type 0} (r : Result X E) (P : Type 0) → is_err r ≡ false → OnOk r P → P
+no_error (Ok x) P e h = h
+no_error (Err x) P e h = absurd cc
+
+pub drop_past : {X : Type 0} (xs : List X) (n : ℕ) → length xs ≤ n → drop n xs ≡ []
+drop_past [] zero h = refl
+drop_past [] (suc n) h = refl
+drop_past (x ∷ xs) zero h = absurd (omega (arith, h))
+drop_past (x ∷ xs) (suc n) h = drop_past xs n (omega (arith, h))

@@ -1,13 +1,13 @@
 -- Worked rows: the children of an entry, computed by the plain reader.
 use Rattle.std.specs.Prelude.{◌≡◌, ◌∷◌, []}
 use Rattle.std.proofs.Common.{refl}
-use Rattle.dw_leb.specs.declared.errors.Reason.TheVariants.{Truncated, PastUnit, UnknownCode, TooDeep, NotYet}
+use Rattle.dw_leb.specs.declared.errors.Reason.TheVariants.{Truncated, PastUnit, UnknownCode, TooDeep}
 use Rattle.dw_leb.specs.declared.order.Format.TheVariants.{Dwarf32}
 use Rattle.dw_leb.specs.Reader.{Found, Broken}
-use Rattle.dw_form.specs.Form.{shape, Num}
+use Rattle.dw_form.specs.Form.{shape, Num, Text}
 use Rattle.dw_form.specs.ReadForm.{read_attribute}
-use Rattle.dw_unit.specs.Tree.{leaf, none, more}
-use Rattle.dw_unit.specs.ReadUnit.{read_children}
+use Rattle.dw_tree.specs.Tree.{leaf, branch, none, more}
+use Rattle.dw_tree.specs.ReadTree.{read_children}
 use Rattle.dw_unit.proofs.Samples.{narrow, plain, base_types, little}
 
 -- ---- children, up to a null
@@ -56,9 +56,12 @@ unknown_child_below_the_deepest_level : read_children (little Dwarf32) base_type
 unfolding shape read_attribute read_children
 unknown_child_below_the_deepest_level = refl
 
--- ---- not read yet
-
--- A child whose declaration has children is refused at its code. Once such entries are read, it is Truncated at 5.
-child_with_children : read_children (little Dwarf32) base_types 1 (0x02 ∷ 0x04 ∷ 0x01 ∷ 0x61 ∷ 0x00 ∷ []) 99 ≡ Broken 2 NotYet
+-- a child with children of its own, whose bytes end before its null
+child_with_children : read_children (little Dwarf32) base_types 1 (0x02 ∷ 0x04 ∷ 0x01 ∷ 0x61 ∷ 0x00 ∷ []) 99 ≡ Broken 5 Truncated
 unfolding shape read_attribute read_children
 child_with_children = refl
+
+grandchildren : read_children (little Dwarf32) base_types 2 (0x01 ∷ 0x61 ∷ 0x00 ∷ 0x02 ∷ 0x04 ∷ 0x80 ∷ 0x00 ∷ 0x00 ∷ []) 99
+    ≡ Found (more (branch (narrow 1) (plain (Text (0x61 ∷ [])) ∷ []) (more (leaf (narrow 2) (plain (Num 4) ∷ [])) none) 2) none, narrow 0) 8
+unfolding shape read_attribute read_children
+grandchildren = refl

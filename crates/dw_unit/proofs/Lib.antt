@@ -3,7 +3,6 @@ pub mod RootLemmas
 pub mod UnitLemmas
 pub mod WriteLemmas
 pub mod UnitWritten
-pub mod LentLemmas
 mod Samples
 mod NumberRows
 mod TableRows
@@ -14,3 +13,10 @@ mod UnitRows
 mod EntryRows
 mod WrittenRows
 pub mod RoundTrip
+pub mod GivenValue
+pub mod Chain
+pub mod RootRead
+pub mod Levels
+pub mod BuildLemmas
+pub mod PutValues
+pub mod OpenLemmas

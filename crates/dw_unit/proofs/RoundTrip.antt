@@ -1,37 +1,18 @@
 -- The round trip: what was written is read again, and what was read is written again.
-use Rattle.std.proofs.Common.{◌≡◌, ℕ, List, ◌++◌, take, refl, sym, ap, subst, ◌∙◌}
+use Rattle.std.proofs.Common.{◌≡◌, ℕ, List, ◌++◌, take, refl, sym, ap, ap₂, subst, ◌∙◌}
 use Rattle.std.proofs.lemmas.List.{take_at}
 use Rattle.dw_leb.specs.declared.errors.Reason.{Reason}
 use Rattle.dw_leb.specs.declared.errors.Section.{Section}
 use Rattle.dw_leb.specs.declared.order.Order.{Order}
-use Rattle.dw_leb.specs.Number.{Unsigned}
-use Rattle.dw_form.specs.Form.{Attribute}
 use Rattle.dw_abbrev.specs.Table.{Table, TableAt}
 use Rattle.dw_unit.specs.DecideUnit.{unit_take, unit_fault}
-use Rattle.dw_unit.specs.Header.{Header}
 use Rattle.dw_unit.specs.ReadUnit.{Unit, Fault, read_unit}
-use Rattle.dw_unit.specs.Tree.{leaf}
 use Rattle.dw_unit.specs.Unit.{Contents, UnitFits, UnitIn, Fails}
 use Rattle.dw_unit.specs.WholeUnit.{WholeUnit, UnitAt, contents_of, bytes_of}
 use Rattle.dw_unit.proofs.UnitLemmas.{same_table}
 
-same_code : (a b : Unsigned) (x y : List Attribute) → leaf a x ≡ leaf b y → a ≡ b
-same_code a b x y e = cc
-
-same_values : (a b : Unsigned) (x y : List Attribute) → leaf a x ≡ leaf b y → x ≡ y
-same_values a b x y e = cc
-
-abbrev whole : Header → Table → Unsigned → List Attribute → List ℕ → WholeUnit
-whole h t c x p = record { header = h; table = t; code = c; values = x; padding = p }
-
-same_parts : (h g : Header) (t s : Table) (c d : Unsigned) (x y : List Attribute) (p q : List ℕ) → h ≡ g → t ≡ s → c ≡ d → x ≡ y → p ≡ q → whole h t c x p ≡ whole g s d y q
-same_parts h g t s c d x y p q e f i j k = cc
-
 same_whole : (u v : WholeUnit) → contents_of u ≡ contents_of v → u.table ≡ v.table → u ≡ v
-same_whole u v e t =
-    let root : leaf u.code u.values ≡ leaf v.code v.values = ap (λ (c : Contents). c.root) e in
-    same_parts u.header v.header u.table v.table u.code v.code u.values v.values u.padding v.padding
-    (ap (λ (c : Contents). c.header) e) t (same_code u.code v.code u.values v.values root) (same_values u.code v.code u.values v.values root) (ap (λ (c : Contents). c.padding) e)
+same_whole u v e t = ap₂ (λ (c : Contents) (s : Table). record { header = c.header; table = s; root = c.root; padding = c.padding }) e t
 
 stands : (section : List ℕ) (u : WholeUnit) (rest : List ℕ) → TableAt section u.header.abbrev_offset u.table → UnitFits u.table (contents_of u) → UnitIn section (contents_of u) (bytes_of u ++ rest) rest
 stands section u rest at fits = record { table = u.table; table_at = at; fits = fits; split = refl }

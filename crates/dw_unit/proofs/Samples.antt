@@ -11,7 +11,7 @@ use Rattle.dw_abbrev.specs.Table.{Pair, Declaration, Table}
 use Rattle.dw_unit.specs.declared.kind.Kind.{Kind}
 use Rattle.dw_unit.specs.declared.kind.Kind.TheVariants.{Compile}
 use Rattle.dw_unit.specs.Header.{Header}
-use Rattle.dw_unit.specs.Tree.{Tree, leaf}
+use Rattle.dw_tree.specs.Tree.{Tree, leaf}
 use Rattle.dw_unit.specs.Unit.{Contents}
 
 -- one declaration: code 1, DW_TAG_compile_unit, no children, DW_AT_name as DW_FORM_string

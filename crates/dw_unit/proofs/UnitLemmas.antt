@@ -1,11 +1,12 @@
 -- Units: what is read stands at the front, and what is refused fails.
-use Rattle.std.proofs.Common.{◌≡◌, ◌+◌, ◌-◌, ◌++◌, ℕ, List, length, drop, Err, sym, ap, subst, ◌∙◌, append_assoc}
+use Rattle.std.proofs.Common.{◌≡◌, ◌+◌, ◌-◌, ◌++◌, ℕ, List, length, drop, Err, sym, ap, subst, ◌∙◌, append_assoc, arith}
 use Rattle.std.proofs.lemmas.List.{drop_at, length-append}
 use Rattle.dw_leb.specs.declared.errors.ReadError.{ReadError}
 use Rattle.dw_leb.specs.declared.errors.ReadError.TheVariants as reads
 use Rattle.dw_leb.specs.declared.errors.Section.{Section}
 use Rattle.dw_leb.specs.declared.order.Order.{Order}
 use Rattle.dw_leb.specs.Number.{initial_length}
+use Rattle.dw_leb.specs.DecideNumber.{initial-size}
 use Rattle.dw_leb.specs.Reader.{Outcome, Found, Broken}
 use Rattle.dw_leb.specs.Decide.{AreBytes, AreBytes-behind, found_value}
 use Rattle.dw_form.specs.declared.shape.Ctx.{Ctx}
@@ -17,17 +18,23 @@ use Rattle.dw_unit.specs.declared.bad.BodyError.TheVariants as errors
 use Rattle.dw_unit.specs.Header.{Header, fields, fields_of, context_of}
 use Rattle.dw_unit.specs.HeadRead.{HeadFound}
 use Rattle.dw_unit.specs.HeaderLemmas.{header_back}
-use Rattle.dw_unit.specs.Tree.{Tree}
+use Rattle.dw_tree.specs.Tree.{Tree}
 use Rattle.dw_unit.specs.Unit.{header_of, Contents, UnitFits, UnitIn, unit_bytes, Fails}
 use Rattle.dw_unit.specs.ReadUnit.{read_entries, answer_entries, Unit, header_from}
 use Rattle.dw_unit.specs.DecideUnit.{EntriesSay, AnswerSays, entries_say, entries_answer}
-use Rattle.dw_unit.specs.WholeUnit.{WholeUnit, UnitAt, TellsFault, contents_of, unit_error_of}
-use Rattle.dw_unit.specs.Told.{Tells}
+use Rattle.dw_unit.specs.WholeUnit.{WholeUnit, UnitAt, TellsFault, contents_of, unit_error_of, header_size}
+use Rattle.dw_unit.specs.Entries.{Refuses}
 
 -- one table stands at a place
 pub same_table : (section : List ℕ) (offset : ℕ) (s t : Table) → TableAt section offset s → TableAt section offset t → s ≡ t
 same_table section offset s t a b =
     (found_value s t (length (table.spell s)) (length (table.spell t)) (sym (table_take section offset s a) ∙ table_take section offset t b)).0
+
+-- what stands behind a header
+pub header_bytes : (order : Order) (bytes : List ℕ) (h : Header) (n left at : ℕ) → HeadFound order bytes h n left at → at ≡ header_size h
+header_bytes order bytes h n left at head =
+    let f = ap (λ (q : Order). length ((fields q h.format).spell (fields_of h))) head.order_is in
+    omega (arith, head.at_is, f, initial-size order 0 h.format n)
 
 module _ (section : List ℕ) (order : Order) (bytes : List ℕ) (fit : AreBytes bytes) (h : Header) (n left at : ℕ) (head : HeadFound order bytes h n left at) where
   rest_is : drop at bytes ≡ head.rest
@@ -61,13 +68,13 @@ module _ (section : List ℕ) (order : Order) (bytes : List ℕ) (fit : AreBytes
         (subst (λ (m : ℕ). AnswerSays order section bytes (answer_entries (header_from order h.format (fields_of h)) m o)) head.at_is said)
 
     -- what is read stands at the front
-    pub unit_found : (w : WholeUnit) (size : ℕ) → w.header ≡ h → w.table ≡ t → read_entries (context_of h) t (drop at bytes) left ≡ Found ((contents_of w).root, w.padding) size → UnitAt section order bytes w (at + size)
+    pub unit_found : (w : WholeUnit) (size : ℕ) → w.header ≡ h → w.table ≡ t → read_entries (context_of h) t (drop at bytes) left ≡ Found (w.root, w.padding) size → UnitAt section order bytes w (at + size)
     unit_found w size is_h is_t e =
-        let u : Contents = record { header = h; root = (contents_of w).root; padding = w.padding } in
-        let said : AnswerSays order section bytes (Unit u (at + size)) = answers (Found ((contents_of w).root, w.padding) size) e in
+        let u : Contents = record { header = h; root = w.root; padding = w.padding } in
+        let said : AnswerSays order section bytes (Unit u (at + size)) = answers (Found (w.root, w.padding) size) e in
         let in_unit : UnitIn section u bytes said.1 = said.2 in
         let same : in_unit.table ≡ w.table = same_table section h.abbrev_offset in_unit.table t in_unit.table_at stands ∙ sym is_t in
-        let whole : u ≡ contents_of w = ap (λ (g : Header). (record { header = g; root = (contents_of w).root; padding = w.padding })) (sym is_h) in
+        let whole : u ≡ contents_of w = ap (λ (g : Header). (record { header = g; root = w.root; padding = w.padding })) (sym is_h) in
         record {
           order_is = ap (λ (g : Header). g.order) is_h ∙ head.order_is;
           table_at = subst (λ (g : Header). TableAt section g.abbrev_offset w.table) (sym is_h) (subst (λ (s : Table). TableAt section h.abbrev_offset s) (sym is_t) stands);
@@ -78,9 +85,9 @@ module _ (section : List ℕ) (order : Order) (bytes : List ℕ) (fit : AreBytes
         }
 
     -- entries that break
-    pub unit_broken : {X : Type 0} (view : X → Tree × List ℕ) (e : BodyError) → Tells view (Err e) (read_entries (context_of h) t (drop at bytes) left) → TellsFault section order bytes (unit_error_of at e)
-    unit_broken view (errors.Bad bad) told = answers (Broken bad.offset bad.reason) told
-    unit_broken view errors.NoMemory told = tt
+    pub unit_broken : (e : BodyError) → Refuses e (read_entries (context_of h) t (drop at bytes) left) → TellsFault section order bytes (unit_error_of at e)
+    unit_broken (errors.Bad bad) told = answers (Broken bad.offset bad.reason) told
+    unit_broken errors.NoMemory told = tt
 
   -- a table that breaks
   pub table_broken : (e : ReadError) → tables.TellsFault section h.abbrev_offset e → TellsFault section order bytes e

@@ -1,16 +1,17 @@
 -- Worked rows: units, computed by the plain reader.
 use Rattle.std.specs.Prelude.{ℕ, negsuc, ◌≡◌, List, ◌∷◌, [], ◌++◌}
 use Rattle.std.proofs.Common.{refl}
-use Rattle.dw_leb.specs.declared.errors.Reason.TheVariants.{Truncated, PastUnit, NoRoot, UnknownCode, UnknownForm, BadIndirect, SecondRoot, AbbrevOffset, BadChildren, HalfPair, DuplicateCode, NotYet}
+use Rattle.dw_leb.specs.declared.errors.Reason.TheVariants.{Truncated, PastUnit, NoRoot, UnknownCode, UnknownForm, BadIndirect, SecondRoot, AbbrevOffset, BadChildren, HalfPair, DuplicateCode}
 use Rattle.dw_leb.specs.declared.order.Order.TheVariants.{Little}
 use Rattle.dw_leb.specs.declared.order.Format.TheVariants.{Dwarf32}
 use Rattle.dw_leb.specs.declared.errors.Section.TheVariants.{Info, Abbrev}
 use Rattle.dw_form.specs.Form.{shape, Num, Uleb, Text, Implicit}
 use Rattle.dw_form.specs.ReadForm.{read_attribute}
 use Rattle.dw_abbrev.specs.ReadTable.{read_table, read_table_at}
-use Rattle.dw_unit.specs.declared.kind.Kind.TheVariants.{Compile}
-use Rattle.dw_unit.specs.Tree.{leaf, nesting}
-use Rattle.dw_unit.specs.ReadUnit.{read_fields, read_children, read_tree, read_unit, Unit, Fault}
+use Rattle.dw_unit.specs.declared.kind.Kind.TheVariants.{Compile, TypeUnit}
+use Rattle.dw_tree.specs.Tree.{leaf, branch, none, more, nesting}
+use Rattle.dw_tree.specs.ReadTree.{read_children, read_tree}
+use Rattle.dw_unit.specs.ReadUnit.{read_fields, read_unit, Unit, Fault}
 use Rattle.dw_unit.proofs.Samples.{first_table, header, narrow, plain, by_way_of, entry, named, headed, contents, compiled}
 
 -- ---- one root over the first table
@@ -157,13 +158,21 @@ table_past_the_section = refl
 
 -- ---- entries with children
 
--- An entry whose declaration has children is refused as NotYet at its code, whatever follows. Once such entries are
--- read, these rows give a tree.
+-- the declarations of base_types, as bytes
+abbrev parents : List ℕ
+parents = 0x01 ∷ 0x11 ∷ 0x01 ∷ 0x03 ∷ 0x08 ∷ 0x00 ∷ 0x00 ∷ 0x02 ∷ 0x24 ∷ 0x00 ∷ 0x0b ∷ 0x0b ∷ 0x00 ∷ 0x00 ∷ 0x00 ∷ []
 
-root_with_a_child : read_unit Little (0x01 ∷ 0x11 ∷ 0x01 ∷ 0x03 ∷ 0x08 ∷ 0x00 ∷ 0x00 ∷ 0x02 ∷ 0x24 ∷ 0x00 ∷ 0x0b ∷ 0x0b ∷ 0x00 ∷ 0x00 ∷ 0x00 ∷ []) (header 0x0e ++ (0x01 ∷ 0x61 ∷ 0x00 ∷ 0x02 ∷ 0x04 ∷ 0x00 ∷ [])) ≡ Fault Info 12 NotYet
+root_with_a_child : read_unit Little parents (header 0x0e ++ (0x01 ∷ 0x61 ∷ 0x00 ∷ 0x02 ∷ 0x04 ∷ 0x00 ∷ []))
+    ≡ Unit (compiled (branch (narrow 1) (plain (Text (0x61 ∷ [])) ∷ []) (more (leaf (narrow 2) (plain (Num 4) ∷ [])) none) 1)) 18
 unfolding shape read_attribute read_table read_table_at read_fields read_children read_tree read_unit nesting
 root_with_a_child = refl
 
-type_unit_with_a_child : read_unit Little signatures (0x18 ∷ 0x00 ∷ 0x00 ∷ 0x00 ∷ 0x05 ∷ 0x00 ∷ 0x02 ∷ 0x08 ∷ 0x00 ∷ 0x00 ∷ 0x00 ∷ 0x00 ∷ 0x88 ∷ 0x77 ∷ 0x66 ∷ 0x55 ∷ 0x44 ∷ 0x33 ∷ 0x22 ∷ 0x11 ∷ 0x19 ∷ 0x00 ∷ 0x00 ∷ 0x00 ∷ 0x01 ∷ 0x02 ∷ 0x04 ∷ 0x00 ∷ []) ≡ Fault Info 24 NotYet
+-- the end of the unit closes no list of children
+missing_null : read_unit Little parents (header 0x0d ++ (0x01 ∷ 0x61 ∷ 0x00 ∷ 0x02 ∷ 0x04 ∷ [])) ≡ Fault Info 17 PastUnit
+unfolding shape read_attribute read_table read_table_at read_fields read_children read_tree read_unit nesting
+missing_null = refl
+
+type_unit_with_a_child : read_unit Little signatures (0x18 ∷ 0x00 ∷ 0x00 ∷ 0x00 ∷ 0x05 ∷ 0x00 ∷ 0x02 ∷ 0x08 ∷ 0x00 ∷ 0x00 ∷ 0x00 ∷ 0x00 ∷ 0x88 ∷ 0x77 ∷ 0x66 ∷ 0x55 ∷ 0x44 ∷ 0x33 ∷ 0x22 ∷ 0x11 ∷ 0x19 ∷ 0x00 ∷ 0x00 ∷ 0x00 ∷ 0x01 ∷ 0x02 ∷ 0x04 ∷ 0x00 ∷ [])
+    ≡ Unit (contents (headed Little Dwarf32 (TypeUnit 0x1122334455667788 0x19)) (branch (narrow 1) [] (more (leaf (narrow 2) (plain (Num 4) ∷ [])) none) 1)) 28
 unfolding shape read_attribute read_table read_table_at read_fields read_children read_tree read_unit nesting
 type_unit_with_a_child = refl

@@ -4,9 +4,9 @@ use Rattle.std.proofs.lemmas.List.{length-append}
 use Rattle.dw_leb.specs.Number.{initial_length, length_size}
 use Rattle.dw_leb.specs.DecideNumber.{initial-size}
 use Rattle.dw_unit.specs.Header.{fields, fields_of, context_of}
-use Rattle.dw_unit.specs.Tree.{tree, nulls, nesting}
+use Rattle.dw_tree.specs.Tree.{tree, nulls, nesting}
 use Rattle.dw_unit.specs.Unit.{body_bytes}
-use Rattle.dw_unit.specs.WholeUnit.{WholeUnit, bytes_of, contents_of, root_of}
+use Rattle.dw_unit.specs.WholeUnit.{WholeUnit, bytes_of, contents_of}
 
 -- the length field counts what follows it
 pub counted : (u : WholeUnit) (size : ℕ) → length (bytes_of u) ≡ size → size - length_size u.header.format ≡ length (body_bytes u.table (contents_of u))
@@ -19,7 +19,7 @@ abbrev pub head_bytes : WholeUnit → ℕ → List ℕ
 head_bytes u n = (initial_length u.header.order 0).spell (u.header.format, n) ++ (fields u.header.order u.header.format).spell (fields_of u.header)
 
 abbrev pub root_bytes : WholeUnit → List ℕ
-root_bytes u = (tree (context_of u.header) u.table (nesting - 1)).spell (root_of u)
+root_bytes u = (tree (context_of u.header) u.table (nesting - 1)).spell u.root
 
 pub parted : (u : WholeUnit) (n : ℕ) → n ≡ length (body_bytes u.table (contents_of u)) → head_bytes u n ++ (root_bytes u ++ nulls u.padding) ≡ bytes_of u
 parted u n is =

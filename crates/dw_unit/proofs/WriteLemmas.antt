@@ -14,7 +14,7 @@ use Rattle.dw_form.specs.declared.shape.Shape.TheVariants as shapes
 use Rattle.dw_form.specs.Form.{Attribute, Value, Implicit, attribute, shape, shaped, shaped_if, by_indirection}
 use Rattle.dw_form.specs.Pieces.{HasSpelling, spelling, constant_in}
 use Rattle.dw_abbrev.specs.Table.{Pair, Declaration, Table, declared}
-use Rattle.dw_unit.specs.Tree.{values, tree, leaf, pairs_of, children_of}
+use Rattle.dw_tree.specs.Tree.{values, tree, leaf, pairs_of, children_of}
 
 -- ---- a value's spelling doesn't need the declaration's constant
 

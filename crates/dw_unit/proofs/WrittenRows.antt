@@ -6,10 +6,10 @@ use Rattle.dw_leb.specs.declared.order.Format.TheVariants.{Dwarf32, Dwarf64}
 use Rattle.dw_form.specs.Form.{shape, shaped, attribute, Num, Text}
 use Rattle.dw_abbrev.specs.Table.{Table}
 use Rattle.dw_unit.specs.declared.kind.Kind.TheVariants.{Compile, TypeUnit, Skeleton}
-use Rattle.dw_unit.specs.Tree.{Tree, leaf, branch, none, more, children, nesting}
+use Rattle.dw_tree.specs.Tree.{Tree, leaf, branch, none, more, children, nesting}
 use Rattle.dw_unit.specs.Unit.{unit_bytes}
-use Rattle.dw_unit.specs.Spelling.{tree_bytes}
-use Rattle.dw_unit.specs.Offset.{offset_at}
+use Rattle.dw_tree.specs.Spelling.{tree_bytes}
+use Rattle.dw_tree.specs.Offset.{offset_at}
 use Rattle.dw_unit.proofs.Samples.{narrow, plain, pair, declaration, table_of, base_types, named, headed, contents, compiled, little}
 
 abbrev first : Table

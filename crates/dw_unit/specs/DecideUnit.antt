@@ -14,19 +14,21 @@ use Rattle.dw_abbrev.specs.Table.{Table, TableAt}
 use Rattle.dw_unit.specs.declared.kind.Kind.{Kind}
 use Rattle.dw_unit.specs.declared.kind.Kind.TheVariants.{Compile, Partial, TypeUnit, Skeleton}
 use Rattle.dw_unit.specs.Header.{Header, bad_version, bad_type, numbers, added_sizes, kind_number, kind_fields, fields, Fields, fields_of, context_of}
-use Rattle.dw_unit.specs.Tree.{Tree, tree, nesting, nulls, AreNulls, PaddingBreaks}
+use Rattle.dw_tree.specs.Tree.{Tree, tree, nesting, nulls, AreNulls, PaddingBreaks}
 use Rattle.dw_unit.specs.Unit.{Contents, body_bytes, unit_bytes, header_of, table_offset, Headed, HeaderBreaks, EntriesBreak, BodyBreaks, UnitBreaks, Fails, UnitIn}
 use Rattle.dw_leb.specs.declared.errors.Section.{Section}
 use Rattle.dw_leb.specs.declared.errors.Section.TheVariants.{Info, Abbrev}
 use Rattle.dw_leb.specs.Reader.{Outcome, Found, Broken, ◌and_then◌, behind, paired}
 use Rattle.dw_leb.specs.ReadNumber.{read_length}
-use Rattle.dw_unit.specs.ReadUnit.{read_fields, read_tree, read_padding, first_number, second_number, kind_from, header_from, Answer, Unit, Fault, read_entries, answer_entries, answer_table, answer_fields, answer_length, read_unit}
+use Rattle.dw_tree.specs.ReadTree.{read_tree, read_padding}
+use Rattle.dw_unit.specs.ReadUnit.{read_fields, first_number, second_number, kind_from, header_from, Answer, Unit, Fault, read_entries, answer_entries, answer_table, answer_fields, answer_length, read_unit}
 use Rattle.dw_abbrev.specs.ReadTable.{read_table_at}
 use Rattle.dw_leb.specs.Decide.{Says, AreBytes, AreBytes-behind, found, broken}
 use Rattle.dw_leb.specs.Stay.{Stays, After_stays}
 use Rattle.dw_leb.specs.DecideRepeat.{behind_at}
 use Rattle.dw_leb.specs.DecideNumber.{initial_length_decides, initial_length_stays, initial_within}
-use Rattle.dw_unit.specs.DecideTree.{fields_decides, fields_stays, tree_decides, tree_stays, padding_take, padding_fault, padding_stays, PaddingSays, padding_says}
+use Rattle.dw_unit.specs.DecideHeader.{fields_decides, fields_stays}
+use Rattle.dw_tree.specs.DecideTree.{tree_decides, tree_stays, padding_take, padding_fault, padding_stays, PaddingSays, padding_says}
 use Rattle.dw_abbrev.specs.DecideTable.{table_take, table_fault, TableSays, table_says}
 
 -- ---- entries

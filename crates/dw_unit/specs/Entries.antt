@@ -1,64 +1,73 @@
--- Entries as they are read one after the other: what was read so far stands before the reading of the rest.
-use Rattle.std.specs.Prelude.{◌≡◌, ℕ, ◌+◌, List, ◌++◌, map, Some, false}
-use Rattle.std.proofs.Common.{refl}
-use Rattle.dw_leb.specs.Part.{Part}
-use Rattle.dw_leb.specs.Reader.{Outcome, Found, Broken}
+-- Entries as they are read into a tree that grows.
+use Rattle.std.specs.Prelude.{◌≡◌, ℕ, suc, zero, ◌+◌, Bool, true, false, List, [], ◌++◌, Result, Ok, Err, None}
+use Rattle.dw_leb.specs.declared.errors.Reason.TheVariants.{TooDeep}
+use Rattle.dw_leb.specs.Reader.{Outcome, Found, Broken, Reader, checked, failing, made, read_repeated}
+use Rattle.dw_leb.specs.ReadNumber.{read_uleb}
 use Rattle.dw_leb.specs.Number.{Unsigned}
 use Rattle.dw_leb.specs.View.{uleb_of}
 use Rattle.dw_leb.specs.declared.unsigned.Uleb.{Uleb}
-use Rattle.dw_unit.specs.Tree.{Tree, leaf}
 use Rattle.dw_form.specs.declared.shape.Ctx.{Ctx}
-use Rattle.dw_form.specs.declared.read.ValueError.{ValueError}
-use Rattle.dw_form.specs.declared.read.ValueError.TheVariants as value_errors
-use Rattle.dw_form.specs.Told.{Refuses}
-use Rattle.dw_abbrev.specs.PairView.{pair_of}
-use Rattle.dw_abbrev.specs.declared.pair.Pair.{Pair}
+use Rattle.dw_form.specs.Form.{Attribute}
+use Rattle.dw_abbrev.specs.Table.{Table, is_null}
+use Rattle.dw_tree.specs.Tree.{Tree, Forest, none, more, Body, bad_child}
+use Rattle.dw_tree.specs.ReadTree.{read_body, read_children, nodes_from}
+use Rattle.dw_tree.specs.Place.{Place}
+use Rattle.dw_tree.specs.Steps.{Growing, TreeAt, settle}
 use Rattle.dw_unit.specs.declared.bad.BodyError.{BodyError}
 use Rattle.dw_unit.specs.declared.bad.BodyError.TheVariants as errors
-use Rattle.dw_form.specs.Form.{Attribute, attribute}
-use Rattle.dw_form.specs.Kept.{content}
-use Rattle.dw_form.specs.declared.stored.Stored.{Stored}
-use Rattle.dw_abbrev.specs.Table.{Table, Declaration, declared}
-use Rattle.dw_unit.specs.declared.values.Values.{Values}
 
 -- these items, of so many bytes, stand before the outcome of reading more
 abbrev pub put_front : {A : Type 0} → List A → ℕ → Outcome (List A) → Outcome (List A)
 put_front xs size (Found ys own) = Found (xs ++ ys) (size + own)
 put_front xs size (Broken offset reason) = Broken (size + offset) reason
 
--- the values that are stored over a pool
-abbrev pub contents : List Stored → List ℕ → List Attribute
-contents stored pool = map (content pool) stored
+-- a tree that grows, with its open place here
+abbrev pub placed : Growing → Place → Growing
+placed g p = record { context = g.context; table = g.table; start = g.start; place = p }
 
-abbrev pub values_of : Values → List Attribute
-values_of v = contents v.stored.items v.pool.items
+-- what a refusal at a place tells of the plain reader there; where a growth was refused it tells nothing
+abbrev pub TellsError : {X : Type 0} → ℕ → BodyError → Outcome X → Type 0
+TellsError at (errors.Bad e) o = (own : ℕ) × (o ≡ Broken own e.reason) × (e.offset ≡ at + own)
+TellsError at errors.NoMemory o = Unit {0}
 
--- a code of the table, whose entries have no children
-abbrev pub IsLeafCode : Table → ℕ → Type 0
-IsLeafCode t code = (d : Declaration) × (declared t code ≡ Some d) × (d.children ≡ false)
+-- the same of a refusal at the front
+abbrev pub Refuses : {X : Type 0} → BodyError → Outcome X → Type 0
+Refuses (errors.Bad e) o = o ≡ Broken e.offset e.reason
+Refuses errors.NoMemory o = Unit {0}
 
--- the value of a pair
-abbrev pub value_part : Ctx → Pair → Part Attribute
-value_part k p = attribute k (pair_of p).form.value (pair_of p).constant
+-- an entry of this code was put, with the values that are read at a place
+abbrev pub TellsEntry : ℕ → Unsigned → Growing → Growing → Result ℕ BodyError → Outcome (List Attribute) → Type 0
+TellsEntry at code old new (Ok next) o = (vs : List Attribute) × (size : ℕ) × (o ≡ Found vs size) × (next ≡ at + size) × (new ≡ placed old (settle old.table old.place.spot code vs))
+TellsEntry at code old new (Err e) o = TellsError at e o
 
--- the error of a value that begins at a place
-abbrev pub refused_at : ℕ → ValueError → BodyError
-refused_at at (value_errors.Bad reason) = errors.Bad (record { offset = at; reason = reason })
-refused_at at value_errors.NoMemory = errors.NoMemory
+-- the chain of entries that is read at a place, up to its null, was put where none was
+abbrev pub TellsForest : ℕ → Growing → Growing → Result (Uleb × ℕ) BodyError → Outcome (Forest × Unsigned) → Type 0
+TellsForest at old new (Ok x) o = (ts : Forest) × (size : ℕ) × (o ≡ Found (ts, uleb_of x.0) size) × (x.1 ≡ at + size)
+    × (new ≡ placed old (record { spot = record { above = old.place.spot.above; left = ts }; reading = None }))
+TellsForest at old new (Err e) o = TellsError at e o
 
--- a refusal at a place is the break of the bytes there
-abbrev pub RefusedAt : {X : Type 0} → Part X → List ℕ → ℕ → ℕ → BodyError → Type 0
-RefusedAt P bytes lim at (errors.Bad e) = (e.offset ≡ at) × P.Break bytes lim 0 e.reason
-RefusedAt P bytes lim at errors.NoMemory = Unit {0}
+-- the root that is read at the front was put, with all that is below it
+abbrev pub TellsRoot : Growing → Growing → Result ℕ BodyError → Outcome Tree → Type 0
+TellsRoot old new (Ok size) o = (x : Tree) × (o ≡ Found x size) × (new ≡ placed old (record { spot = record { above = []; left = more x none }; reading = None }))
+TellsRoot old new (Err e) o = Refuses e o
 
-pub refuses_at : {X : Type 0} (P : Part X) (bytes : List ℕ) (lim at : ℕ) (e : ValueError) → Refuses P bytes lim e → RefusedAt P bytes lim at (refused_at at e)
-refuses_at P bytes lim at (value_errors.Bad reason) h = (refl, h)
-refuses_at P bytes lim at value_errors.NoMemory h = tt
+-- the tree that is read at the front
+abbrev pub TellsTree : Ctx → Table → ℕ → Result (TreeAt × ℕ) BodyError → Outcome Tree → Type 0
+TellsTree k t start (Ok x) o = (o ≡ Found x.0.root x.1) × (x.0 ≡ record { context = k; table = t; start = start; root = x.0.root })
+TellsTree k t start (Err e) o = Refuses e o
 
--- the root entry, and its outcome by that of its values
-abbrev pub root_view : Uleb × Values → Tree
-root_view x = leaf (uleb_of x.0) (values_of x.1)
+-- ---- the plain reader of a chain, with room for so many levels
 
-abbrev pub root_then : Unsigned → ℕ → Outcome (List Attribute) → Outcome Tree
-root_then code size (Found values own) = Found (leaf code values) (size + own)
-root_then code size (Broken offset reason) = Broken (size + offset) reason
+abbrev pub has_room : ℕ → Bool
+has_room zero = false
+has_room (suc room) = true
+
+abbrev pub code_reader : Table → ℕ → List (Unsigned × Body) → Reader Unsigned
+code_reader t room before = checked read_uleb (bad_child t (has_room room))
+
+abbrev pub body_reader : Ctx → Table → ℕ → Unsigned → Reader Body
+body_reader k t zero code = failing TooDeep
+body_reader k t (suc room) code = read_body k t (read_children k t room) code
+
+abbrev pub chain_reader : Ctx → Table → ℕ → Reader (Forest × Unsigned)
+chain_reader k t room = made (λ x. (nodes_from x.0, x.1)) (read_repeated (code_reader t room) is_null (body_reader k t room))

@@ -14,7 +14,7 @@ use Rattle.dw_leb.specs.DecideNumber.{initial_length_decides}
 use Rattle.dw_unit.specs.Header.{Header, Fields, fields, fields_of}
 use Rattle.dw_unit.specs.Unit.{Headed, HeaderBreaks}
 use Rattle.dw_unit.specs.ReadUnit.{read_fields, header_from}
-use Rattle.dw_unit.specs.DecideTree.{fields_decides}
+use Rattle.dw_unit.specs.DecideHeader.{fields_decides}
 use Rattle.dw_unit.specs.DecideUnit.{kind_there}
 
 -- a header in this order, and its unit_length, stand at the front of the bytes

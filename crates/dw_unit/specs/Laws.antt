@@ -7,8 +7,8 @@ use Rattle.dw_leb.specs.declared.order.Order.{Order}
 use Rattle.dw_abbrev.specs.Table.{Table, TableAt}
 use Rattle.std.specs.Prelude.{Some}
 use Rattle.dw_form.specs.declared.shape.Ctx.{Ctx}
-use Rattle.dw_unit.specs.Offset.{offset_at}
-use Rattle.dw_unit.specs.Tree.{Tree, tree}
+use Rattle.dw_tree.specs.Offset.{offset_at}
+use Rattle.dw_tree.specs.Tree.{Tree, tree}
 use Rattle.dw_unit.specs.Unit.{Contents, Fails, UnitFits, UnitIn, UnitBreaks}
 use Rattle.dw_unit.specs.WholeUnit.{WholeUnit, UnitAt, contents_of, bytes_of}
 use Rattle.dw_leb.specs.declared.errors.Section.{Section}

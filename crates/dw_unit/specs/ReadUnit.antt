@@ -17,7 +17,8 @@ use Rattle.dw_abbrev.specs.ReadTable.{read_table_at}
 use Rattle.dw_unit.specs.declared.kind.Kind.{Kind}
 use Rattle.dw_unit.specs.declared.kind.Kind.TheVariants.{Compile, Partial, TypeUnit, Skeleton}
 use Rattle.dw_unit.specs.Header.{Header, added_sizes, bad_version, bad_type, bad_address_size, Fields}
-use Rattle.dw_unit.specs.Tree.{Tree, leaf, branch, Forest, none, more, Body, pairs_of, children_of, bad_root, bad_child, nesting, not_null}
+use Rattle.dw_tree.specs.ReadTree.{read_tree, read_padding}
+use Rattle.dw_tree.specs.Tree.{Tree, leaf, branch, Forest, none, more, Body, pairs_of, children_of, bad_root, bad_child, nesting, not_null}
 use Rattle.dw_unit.specs.Unit.{Contents, header_of}
 
 abbrev pub read_numbers : Order → List ℕ → Reader (List ℕ)
@@ -45,33 +46,6 @@ kind_from kind added = if kind == 1 then Compile else (if kind == 2 then TypeUni
 
 abbrev pub header_from : Order → Format → Fields → Header
 header_from order format x = record { order = order; format = format; kind = kind_from x.1.0 x.1.1.1.1; address_size = x.1.1.0; abbrev_offset = x.1.1.1.0 }
-
-abbrev pub node_from : Unsigned × Body → Tree
-node_from (code, (values, None)) = leaf code values
-node_from (code, (values, Some (children, null))) = branch code values children null.width
-
-abbrev pub nodes_from : List (Unsigned × Body) → Forest
-nodes_from [] = none
-nodes_from (x ∷ xs) = more (node_from x) (nodes_from xs)
-
-abbrev pub read_values : Ctx → List Pair → Reader (List Attribute)
-read_values k [] = returned []
-read_values k (p ∷ ps) = made (λ x. x.0 ∷ x.1) ((read_attribute k p.form.value p.constant) and_then λ _. read_values k ps)
-
-abbrev pub read_body : Ctx → Table → Reader (Forest × Unsigned) → Unsigned → Reader Body
-read_body k t kids code = read_values k (pairs_of (declared t code.value)) and_then λ _. read_optional (children_of (declared t code.value)) kids
-
-unfoldable pub read_children : Ctx → Table → ℕ → Reader (Forest × Unsigned)
-read_children k t zero = made (λ x. (nodes_from x.0, x.1)) (read_repeated (λ _. checked read_uleb (bad_child t false)) is_null (λ _. failing TooDeep))
-read_children k t (suc room) = made (λ x. (nodes_from x.0, x.1)) (read_repeated (λ _. checked read_uleb (bad_child t true)) is_null (read_body k t (read_children k t room)))
-
-unfoldable pub read_tree : Ctx → Table → ℕ → Reader Tree
-read_tree k t room = made node_from (checked read_uleb (bad_root t) and_then read_body k t (read_children k t room))
-
--- nulls up to the unit's end
-abbrev pub read_padding : ℕ → Reader (List ℕ)
-read_padding zero bytes lim = Found [] 0
-read_padding (suc fuel) bytes lim = if lim == 0 then Found [] 0 else made (λ x. x.0.width ∷ x.1) (checked read_uleb not_null and_then λ _. read_padding fuel) bytes lim
 
 -- what reading a unit gives
 pub data Answer : Type 0 where

@@ -3,6 +3,9 @@ use Rattle.std.specs.Prelude.{◌≡◌, ◌≤◌, ◌+◌, ℕ, List, Result, 
 use Rattle.dw_leb.specs.Part.{Part}
 use Rattle.dw_leb.specs.Decide.{Says}
 use Rattle.dw_leb.specs.Reader.{Outcome, Found, Broken}
+use Rattle.dw_leb.specs.Number.{Unsigned}
+use Rattle.dw_leb.specs.View.{uleb_of}
+use Rattle.dw_leb.specs.declared.unsigned.Uleb.{Uleb}
 use Rattle.dw_unit.specs.declared.bad.Bad.{Bad}
 use Rattle.dw_unit.specs.declared.bad.BodyError.{BodyError}
 use Rattle.dw_unit.specs.declared.bad.BodyError.TheVariants as errors
@@ -11,6 +14,11 @@ use Rattle.dw_unit.specs.declared.bad.BodyError.TheVariants as errors
 abbrev pub told : {X Y : Type 0} → (X → Y) → Result (X × ℕ) Bad → Outcome Y
 told view (Ok x) = Found (view x.0) x.1
 told view (Err e) = Broken e.offset e.reason
+
+-- the same of a code, whose size is its width
+abbrev pub told_code : Result Uleb Bad → Outcome Unsigned
+told_code (Ok code) = Found (uleb_of code) code.width
+told_code (Err e) = Broken e.offset e.reason
 
 -- the same of a call that takes memory: where a growth was refused it tells nothing
 abbrev pub Tells : {X Y : Type 0} → (X → Y) → Result (X × ℕ) BodyError → Outcome Y → Type 0

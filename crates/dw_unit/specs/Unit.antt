@@ -10,7 +10,7 @@ use Rattle.dw_leb.specs.declared.errors.Section.TheVariants.{Info, Abbrev}
 use Rattle.dw_form.specs.declared.shape.Ctx.{Ctx}
 use Rattle.dw_abbrev.specs.Table.{Table, TableAt, TableBreaks}
 use Rattle.dw_unit.specs.Header.{Header, Fields, fields, fields_of, context_of}
-use Rattle.dw_unit.specs.Tree.{Tree, tree, nesting, nulls, AreNulls, PaddingBreaks}
+use Rattle.dw_tree.specs.Tree.{Tree, tree, nesting, nulls, AreNulls, PaddingBreaks}
 
 pub record Contents : Type 0 where
   pub header : Header

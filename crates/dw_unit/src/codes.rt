@@ -1,12 +1,13 @@
 //! Codes of entries, and the nulls after the root.
-ghost use Rattle.std.specs.Prelude.{◌≡◌, ◌≤◌, ◌<◌, ◌+◌, ◌-◌, ℕ, length, vec_items, IfOk, IfErr};
+ghost use Rattle.std.specs.Prelude.{◌≡◌, ◌≤◌, ◌<◌, ◌+◌, ◌-◌, ℕ, [], length, vec_items, IfOk, IfErr, IsSome};
+ghost use Rattle.dw_abbrev.specs.Table.{declared};
 ghost use Rattle.dw_leb.specs.View.{uleb_of};
 ghost use Rattle.dw_leb.specs.Reader.{checked};
 ghost use Rattle.dw_leb.specs.ReadNumber.{read_uleb};
-ghost use Rattle.dw_unit.specs.Tree.{bad_root, not_null};
-ghost use Rattle.dw_unit.specs.ReadUnit.{read_padding};
-ghost use Rattle.dw_unit.specs.Entries.{IsLeafCode};
-ghost use Rattle.dw_unit.specs.Told.{told, Tells, IsNear};
+ghost use Rattle.dw_tree.specs.Tree.{bad_root, not_null};
+ghost use Rattle.dw_tree.specs.ReadTree.{read_padding};
+ghost use Rattle.dw_unit.specs.Entries.{code_reader};
+ghost use Rattle.dw_unit.specs.Told.{told, told_code, Tells, IsNear};
 
 use crate::bad::{Bad, BodyError};
 use dw_abbrev::Table;
@@ -14,27 +15,48 @@ use dw_leb::{Reason, Uleb};
 use std::alloc::Global;
 
 /// The code of the root entry at the front of `b`, of which `lim` bytes are left to the unit's end.
-pub(crate) fn root_code(table: &Table, b: &[u8], lim: u64) -> Result<(Uleb, usize), Bad>
-    ensures exact { checked read_uleb (bad_root table.now) b.now lim ≡ told uleb_of result }
-    ensures leaf { IfOk result (λ x. IsLeafCode table.now x.0.value) }
-    ensures room { IfOk result (λ x. (x.1 ≤ length b.now) × (x.1 ≤ lim)) }
+pub(crate) fn root_code(table: &Table, b: &[u8], lim: u64) -> Result<Uleb, Bad>
+    ensures exact { checked read_uleb (bad_root table.now) b.now lim ≡ told_code result }
+    ensures known { IfOk result (λ x. (0 < x.value) × IsSome (declared table.now x.value)) }
+    ensures room { IfOk result (λ x. (x.width ≤ length b.now) × (x.width ≤ lim)) }
     ensures near { IfErr result (λ e. e.offset ≡ 0) }
 {
-    let code = match Uleb::read(b, lim) {
-        Ok(code) => code,
-        Err(reason) => return Err(Bad::here(reason)),
-    };
-    if code.value == 0 {
-        return Err(Bad::here(Reason::NoRoot));
-    }
-    match table.get(code.value) {
-        None => Err(Bad::here(Reason::UnknownCode)),
-        Some(decl) => {
-            if decl.has_children() {
-                return Err(Bad::here(Reason::NotYet));
+    match Uleb::read(b, lim) {
+        Ok(code) => {
+            if code.value == 0 {
+                return Err(Bad::here(Reason::NoRoot));
             }
-            Ok((code, code.width as usize))
+            match table.get(code.value) {
+                None => Err(Bad::here(Reason::UnknownCode)),
+                Some(_) => Ok(code),
+            }
         }
+        Err(reason) => Err(Bad::here(reason)),
+    }
+}
+
+/// A code among children at the front of `b`: a null, or the code of an entry, for which there has
+/// to be room for one more level.
+pub(crate) fn child_code(table: &Table, room: u16, b: &[u8], lim: u64) -> Result<Uleb, Bad>
+    ensures exact { code_reader table.now room [] b.now lim ≡ told_code result }
+    ensures known { IfOk result (λ x. 0 < x.value → (0 < room) × IsSome (declared table.now x.value)) }
+    ensures room { IfOk result (λ x. (x.width ≤ length b.now) × (x.width ≤ lim) × (1 ≤ x.width)) }
+    ensures near { IfErr result (λ e. e.offset ≡ 0) }
+{
+    match Uleb::read(b, lim) {
+        Ok(code) => {
+            if code.value == 0 {
+                return Ok(code);
+            }
+            if room == 0 {
+                return Err(Bad::here(Reason::TooDeep));
+            }
+            match table.get(code.value) {
+                None => Err(Bad::here(Reason::UnknownCode)),
+                Some(_) => Ok(code),
+            }
+        }
+        Err(reason) => Err(Bad::here(reason)),
     }
 }
 

@@ -1,83 +1,210 @@
-//! The entries of a unit and its padding.
-ghost use Rattle.std.specs.Prelude.{◌≡◌, ◌≤◌, ℕ, length, vec_len, IfOk, IfErr};
-ghost use Rattle.std.specs.List.{AllByRecursion};
+//! Reading the entries of a unit into a tree.
+ghost use Rattle.std.specs.Prelude.{◌≡◌, ◌≤◌, ◌<◌, ◌+◌, ◌-◌, ◌^◌, ℕ, length, drop, map, None, Some, IfOk, IfErr, IsSome};
+ghost use Rattle.dw_leb.specs.Part.{Taken};
+ghost use Rattle.dw_leb.specs.Reader.{checked, Found};
+ghost use Rattle.dw_leb.specs.ReadNumber.{read_uleb};
+ghost use Rattle.dw_leb.specs.View.{uleb_of};
 ghost use Rattle.dw_form.specs.Form.{IsContext};
-ghost use Rattle.dw_form.specs.Kept.{StoredFits};
-ghost use Rattle.dw_unit.specs.ReadUnit.{read_tree, read_entries};
-ghost use Rattle.dw_unit.specs.Entries.{IsLeafCode, root_view};
-ghost use Rattle.dw_unit.specs.EntriesView.{entries_of};
-ghost use Rattle.dw_unit.specs.Told.{Tells, IsNear};
+ghost use Rattle.dw_form.specs.Lent.{attribute_of};
+ghost use Rattle.dw_abbrev.specs.PairView.{pair_of};
+ghost use Rattle.dw_abbrev.specs.Table.{declared, Declaration};
+ghost use Rattle.dw_tree.specs.Tree.{bad_root, nesting, none, tree as part};
+ghost use Rattle.dw_tree.specs.Place.{nowhere};
+ghost use Rattle.dw_tree.specs.ReadTree.{read_values, read_children, read_tree};
+ghost use Rattle.dw_tree.specs.Flat.{value_part};
+ghost use Rattle.dw_tree.specs.Steps.{end_of};
+ghost use Rattle.dw_unit.specs.Entries.{TellsEntry, TellsForest, TellsRoot, TellsTree};
+ghost use Rattle.dw_unit.specs.Told.{IsNear};
 
-use crate::bad::BodyError;
-use crate::codes::{padding_at, root_code};
-use crate::values::{Values, values_at};
-use dw_abbrev::Table;
-use dw_form::Ctx;
+use crate::bad::{Bad, BodyError};
+use crate::codes::{child_code, root_code};
+use dw_abbrev::{Pair, Table};
+use dw_form::{AttrValue, Ctx, lend_value};
 use dw_leb::Uleb;
+use dw_tree::{EntryTree, TreeDraft};
 use std::alloc::Global;
+use std::rc::Rc;
 
-/// What stands behind a header.
-#[derive(Drop)]
-pub(crate) struct Entries {
-    pub(crate) code: Uleb,
-    pub(crate) values: Values,
-    /// The widths of the nulls after the root's end.
-    pub(crate) padding: Vec<u8>,
+/// The levels below the root's that a tree may have.
+const LEVELS: u16 = 255;
+
+/// The value of a pair at the place `at`.
+fn value_at<'a>(
+    ctx: Ctx,
+    pair: &Pair,
+    b: &'a [u8],
+    at: usize,
+    lim: u64,
+) -> Result<(AttrValue<'a>, usize), Bad>
+    requires context { IsContext ctx }
+    requires within { at ≤ length b.now }
+    requires left { at ≤ lim }
+    ensures found { IfOk result (λ x. Taken (value_part ctx pair.now) (drop at b.now) (lim - at) (attribute_of x.0) x.1) }
+    ensures broken { IfErr result (λ e. (e.offset ≡ at) × (value_part ctx pair.now).Break (drop at b.now) (lim - at) 0 e.reason) }
+    ensures room { IfOk result (λ x. (at + x.1 ≤ length b.now) × (at + x.1 ≤ lim)) }
+{
+    let (form, constant) = (pair.form.value, pair.constant);
+    match lend_value(ctx, form, constant, &b[at..], lim - at as u64) {
+        Ok(lent) => Ok(lent),
+        Err(reason) => Err(Bad { offset: at, reason }),
+    }
 }
 
-/// The root entry at the front of `b`.
-fn root_at(
-    alloc: Global,
+/// Puts an entry of this code, with its values that begin at the place `at`, one for each pair of its
+/// declaration. The result is the place behind them.
+fn entry_at(
+    draft: &mut TreeDraft,
+    ctx: Ctx,
+    code: Uleb,
+    pairs: &[Pair],
+    b: &[u8],
+    at: usize,
+    lim: u64,
+) -> Result<usize, BodyError>
+    requires context { IsContext ctx }
+    requires same { draft.old.context ≡ ctx }
+    requires some { 0 < code.value }
+    requires known { (d : Declaration) × (declared draft.old.table code.value ≡ Some d) × (map pair_of pairs.now ≡ d.pairs) }
+    requires free { draft.old.place.reading ≡ None }
+    requires level { length draft.old.place.spot.above < nesting }
+    requires within { at ≤ length b.now }
+    requires left { at ≤ lim }
+    requires bounded { end_of draft.old + code.width + (lim - at) < 2 ^ 63 }
+    ensures exact { TellsEntry at (uleb_of code) draft.old draft.new result (read_values ctx (map pair_of pairs.now) (drop at b.now) (lim - at)) }
+    ensures end { IfOk result (λ next. end_of draft.new + at ≡ end_of draft.old + code.width + next) }
+    ensures room { IfOk result (λ next. (at ≤ next) × (next ≤ length b.now) × (next ≤ lim)) }
+    ensures near { IfErr result (IsNear (length b.now)) }
+{
+    if draft.begin(code).is_err() {
+        return Err(BodyError::NoMemory);
+    }
+    let mut here = at;
+    for pair in pairs {
+        let (value, size) = match value_at(ctx, pair, b, here, lim) {
+            Ok(found) => found,
+            Err(e) => return Err(BodyError::Bad(e)),
+        };
+        if draft.value(&value, size as u64).is_err() {
+            return Err(BodyError::NoMemory);
+        }
+        here += size;
+    }
+    Ok(here)
+}
+
+/// Puts the entries of a chain that begins at the place `at`, up to its null, with room for so many
+/// levels. The result is the null, and the place behind it.
+fn children_at(
+    draft: &mut TreeDraft,
     ctx: Ctx,
     table: &Table,
+    room: u16,
+    b: &[u8],
+    at: usize,
+    lim: u64,
+) -> Result<(Uleb, usize), BodyError>
+    requires context { IsContext ctx }
+    requires same { draft.old.context ≡ ctx }
+    requires over { draft.old.table ≡ table.now }
+    requires free { draft.old.place.reading ≡ None }
+    requires empty { draft.old.place.spot.left ≡ none }
+    requires level { length draft.old.place.spot.above + room ≡ nesting }
+    requires within { at ≤ length b.now }
+    requires left { at ≤ lim }
+    requires bounded { end_of draft.old + (lim - at) < 2 ^ 63 }
+    ensures exact { TellsForest at draft.old draft.new result (read_children ctx table.now room (drop at b.now) (lim - at)) }
+    ensures null { IfOk result (λ x. x.0.value ≡ 0) }
+    ensures end { IfOk result (λ x. end_of draft.new + x.0.width + at ≡ end_of draft.old + x.1) }
+    ensures room { IfOk result (λ x. (at ≤ x.1) × (x.1 ≤ length b.now) × (x.1 ≤ lim)) }
+    ensures near { IfErr result (IsNear (length b.now)) }
+{
+    let mut here = at;
+    loop {
+        let code = match child_code(table, room, &b[here..], lim - here as u64) {
+            Ok(code) => code,
+            Err(e) => return Err(BodyError::Bad(e.behind(here))),
+        };
+        let behind = here + code.width as usize;
+        if code.value == 0 {
+            return Ok((code, behind));
+        }
+        let Some(decl) = table.get(code.value) else {
+            unreachable!()
+        };
+        let next = entry_at(draft, ctx, code, decl.pairs(), b, behind, lim)?;
+        here = next;
+        if decl.has_children() {
+            let (null, end) = children_at(draft, ctx, table, room - 1, b, next, lim)?;
+            if draft.close(null).is_err() {
+                return Err(BodyError::NoMemory);
+            }
+            here = end;
+        }
+    }
+}
+
+/// Puts the root, whose code stands at the front of `b`, with all that is below it. The result is the
+/// place behind it.
+fn root_at(
+    draft: &mut TreeDraft,
+    ctx: Ctx,
+    table: &Table,
+    code: Uleb,
     b: &[u8],
     lim: u64,
-) -> Result<((Uleb, Values), usize), BodyError>
-    requires { IsContext ctx }
-    ensures exact { Tells root_view result (read_tree ctx table.now 255 b.now lim) }
-    ensures fits { IfOk result (λ x. AllByRecursion (StoredFits (vec_len x.0.1.pool)) x.0.1.stored.items) }
-    ensures leaf { IfOk result (λ x. IsLeafCode table.now x.0.0.value) }
+) -> Result<usize, BodyError>
+    requires context { IsContext ctx }
+    requires same { draft.old.context ≡ ctx }
+    requires over { draft.old.table ≡ table.now }
+    requires fresh { draft.old.place ≡ record { spot = nowhere; reading = None } }
+    requires found { checked read_uleb (bad_root table.now) b.now lim ≡ Found (uleb_of code) code.width }
+    requires known { (0 < code.value) × IsSome (declared table.now code.value) }
+    requires within { (code.width ≤ length b.now) × (code.width ≤ lim) }
+    requires bounded { end_of draft.old + lim < 2 ^ 63 }
+    ensures exact { TellsRoot draft.old draft.new result (read_tree ctx table.now (nesting - 1) b.now lim) }
+    ensures room { IfOk result (λ x. (x ≤ length b.now) × (x ≤ lim)) }
+    ensures near { IfErr result (IsNear (length b.now)) }
+{
+    let Some(decl) = table.get(code.value) else {
+        unreachable!()
+    };
+    let behind = code.width as usize;
+    let end = entry_at(draft, ctx, code, decl.pairs(), b, behind, lim)?;
+    if !decl.has_children() {
+        return Ok(end);
+    }
+    let (null, next) = children_at(draft, ctx, table, LEVELS, b, end, lim)?;
+    if draft.close(null).is_err() {
+        return Err(BodyError::NoMemory);
+    }
+    Ok(next)
+}
+
+/// The tree at the front of `b`, of which `lim` bytes are left to the unit's end, and the count of its
+/// bytes. Its root begins at the offset `start` of the unit.
+pub(crate) fn tree_at(
+    alloc: Global,
+    ctx: Ctx,
+    table: Rc<Table>,
+    start: u64,
+    b: &[u8],
+    lim: u64,
+) -> Result<(EntryTree, usize), BodyError>
+    requires context { IsContext ctx }
+    requires near { start + lim < 2 ^ 63 }
+    ensures exact { TellsTree ctx table.value start result (read_tree ctx table.value (nesting - 1) b.now lim) }
+    ensures fits { IfOk result (λ x. (part ctx table.value (nesting - 1)).Fits x.0.root) }
     ensures room { IfOk result (λ x. (x.1 ≤ length b.now) × (x.1 ≤ lim)) }
     ensures near { IfErr result (IsNear (length b.now)) }
 {
-    let (code, size) = match root_code(table, b, lim) {
-        Ok(found) => found,
+    let code = match root_code(&table, b, lim) {
+        Ok(code) => code,
         Err(e) => return Err(BodyError::Bad(e)),
     };
-    match table.get(code.value) {
-        None => unreachable!(),
-        Some(decl) => match values_at(alloc, ctx, decl.pairs(), &b[size..], lim - size as u64) {
-            Ok((values, more)) => Ok(((code, values), size + more)),
-            Err(e) => Err(e.behind(size)),
-        },
-    }
-}
-
-/// The root entry and the padding up to the unit's end, before which `lim` bytes are left.
-pub(crate) fn entries_at(
-    alloc: Global,
-    ctx: Ctx,
-    table: &Table,
-    b: &[u8],
-    lim: u64,
-) -> Result<(Entries, usize), BodyError>
-    requires { IsContext ctx }
-    ensures exact { Tells entries_of result (read_entries ctx table.now b.now lim) }
-    ensures fits { IfOk result (λ x. AllByRecursion (StoredFits (vec_len x.0.values.pool)) x.0.values.stored.items) }
-    ensures leaf { IfOk result (λ x. IsLeafCode table.now x.0.code.value) }
-    ensures room { IfOk result (λ x. x.1 ≤ length b.now) }
-    ensures near { IfErr result (IsNear (length b.now)) }
-{
-    let ((code, values), size) = root_at(alloc, ctx, table, b, lim)?;
-    match padding_at(alloc, &b[size..], lim - size as u64) {
-        Ok((padding, more)) => {
-            let entries = Entries {
-                code,
-                values,
-                padding,
-            };
-            Ok((entries, size + more))
-        }
-        Err(e) => Err(e.behind(size)),
-    }
+    let Ok(shared) = table.clone() else {
+        return Err(BodyError::NoMemory);
+    };
+    let mut draft = TreeDraft::new(alloc, ctx, shared, start);
+    let end = root_at(&mut draft, ctx, &table, code, b, lim)?;
+    Ok((draft.finish(), end))
 }

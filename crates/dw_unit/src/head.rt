@@ -1,7 +1,9 @@
 //! Reading a header and its unit_length.
-ghost use Rattle.std.specs.Prelude.{◌≡◌, ◌≤◌, ◌<◌, ◌+◌, ◌^◌, ℕ, length, IfOk, IfErr, Ok};
+ghost use Rattle.std.specs.Prelude.{◌≡◌, ◌≤◌, ◌<◌, ◌+◌, ◌^◌, ℕ, length, IfOk, IfErr, IsOkAnd, Ok, Err};
+ghost use Rattle.dw_leb.specs.declared.errors.Fault.{Fault as TheFault};
 ghost use Rattle.dw_leb.specs.declared.errors.Section.TheVariants.{Info};
 ghost use Rattle.dw_leb.specs.Number.{length_size};
+ghost use Rattle.dw_unit.specs.Header.{Header as TheHeader};
 ghost use Rattle.dw_unit.specs.HeadRead.{HeaderAt, HeaderFault, read_head};
 ghost use Rattle.dw_unit.specs.Told.{told};
 
@@ -18,7 +20,9 @@ use dw_leb::{Fault, Format, Order, Section, read_length};
 /// end is `PastUnit`, before it could be `Truncated`.
 pub fn read_header(order: Order, b: &[u8]) -> Result<(Header, u64), Fault>
     ensures found { IfOk result (λ x. HeaderAt order b.now x.0 x.1) }
+    ensures only { (h : TheHeader) (n : ℕ) → HeaderAt order b.now h n → IsOkAnd result (λ x. (x.0 ≡ h) × (x.1 ≡ n)) }
     ensures broken { IfErr result (HeaderFault order b.now) }
+    ensures first { (f : TheFault) → HeaderFault order b.now f → result ≡ Err f }
 {
     match head_at(order, b) {
         Ok(((header, unit_length, _), _)) => Ok((header, unit_length)),

@@ -1,30 +1,40 @@
 //! Units of DWARF 5: headers, entries, and their reader and writer (section 7.5).
 #![tactic(auto)]
 
-mod attrs;
 mod bad;
+#[cfg(test)]
+mod block_tests;
+mod body;
+mod builder;
+#[cfg(test)]
+mod builder_tests;
 mod codes;
 mod entries;
-mod entry;
 #[cfg(test)]
 mod entry_tests;
 mod fields;
+mod given;
 mod head;
 mod header;
+#[cfg(test)]
+mod header_tests;
 mod kind;
 pub mod laws;
 mod reader;
+mod refusal;
 #[cfg(test)]
 mod tests;
+#[cfg(test)]
+mod tree_tests;
 mod unit;
-mod values;
 mod writer;
 
-pub use attrs::{AttrRef, Attrs};
-pub use entry::EntryRef;
+pub use builder::UnitBuilder;
+pub use dw_tree::{AttrRef, Attrs, Children, Entries, EntryRef};
 pub use head::read_header;
 pub use header::Header;
 pub use kind::Kind;
 pub use reader::read_unit;
+pub use refusal::Refusal;
 pub use unit::Unit;
 pub use writer::write_unit;

@@ -4,7 +4,7 @@ ghost use Rattle.dw_unit.specs.WholeUnit.{UnitAt, TellsFault, unit_error_of};
 ghost use Rattle.dw_unit.specs.Told.{IsNear};
 
 use crate::bad::BodyError;
-use crate::entries::entries_at;
+use crate::body::body_at;
 use crate::head::{head_at, info_fault};
 use crate::unit::Unit;
 use dw_abbrev::Tables;
@@ -35,10 +35,10 @@ pub fn read_unit(
         Err(e) => return Err(ReadError::Fault(info_fault(e))),
     };
     let table = tables.get(header.abbrev_offset())?;
-    match entries_at(alloc, header.context(), &table, &b[at..], left) {
-        Ok((entries, more)) => {
+    match body_at(alloc, header.context(), table, at as u64, &b[at..], left) {
+        Ok((body, more)) => {
             let size = at + more;
-            Ok((Unit::of(header, table, entries, size as u64), size))
+            Ok((Unit::of(header, body, size as u64), size))
         }
         Err(e) => Err(unit_error(at, e)),
     }

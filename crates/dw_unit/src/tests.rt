@@ -400,18 +400,6 @@ fn fault_of_the_third_value(rt: HostRuntime) -> Result<(), Fail> {
     Ok(())
 }
 
-#[test]
-fn children_are_not_read_yet(rt: HostRuntime) -> Result<(), Fail> {
-    let alloc = rt.alloc();
-    let section = [
-        0x01, 0x11, 0x01, 0x03, 0x08, 0, 0, 0x02, 0x24, 0, 0x0b, 0x0b, 0, 0, 0,
-    ];
-    let bytes = compiled(alloc, 0x0e, 0, &[0x01, 0x61, 0, 0x02, 0x04, 0])?;
-    let fault = refusal(alloc, Order::Little, &section, bytes.as_slice());
-    assert_eq!(rt; fault, in_info(12, Reason::NotYet));
-    Ok(())
-}
-
 fn is_header(format: Format, kind: Kind, address_size: u8, abbrev_offset: u64) -> bool {
     Header::new(Order::Little, format, kind, address_size, abbrev_offset).is_some()
 }

@@ -1,53 +1,45 @@
 //! Units (section 7.5).
-ghost use Rattle.std.specs.Prelude.{◌≡◌, ◌∷◌, [], length};
-ghost use Rattle.dw_leb.specs.View.{uleb_of};
-ghost use Rattle.dw_unit.specs.Entries.{values_of};
-ghost use Rattle.dw_unit.specs.WholeUnit.{IsUnit, bytes_of};
+ghost use Rattle.std.specs.Prelude.{◌≡◌, length};
+ghost use Rattle.dw_tree.specs.Lent.{root_of, entries_of, find_at};
+ghost use Rattle.dw_unit.specs.WholeUnit.{IsUnit, bytes_of, tree_of};
 
-use crate::entries::Entries;
+use crate::body::Body;
 use crate::header::Header;
-use crate::values::Values;
-use dw_abbrev::Table;
-use dw_leb::Uleb;
+use dw_tree::{Entries, EntryRef, EntryTree};
 use std::marker::Model;
-use std::rc::Rc;
 
 /// A unit over its abbreviation table: a header, a tree of entries, and the nulls after the root's
 /// end. It has exactly one spelling, and keeps every width in which its numbers were written.
 #[derive(Drop)]
 pub struct Unit {
     pub(crate) header: Header,
-    pub(crate) table: Rc<Table>,
-    pub(crate) code: Uleb,
-    pub(crate) values: Values,
+    pub(crate) tree: EntryTree,
     pub(crate) padding: Vec<u8>,
     pub(crate) size: u64,
 }
 
 impl Model for Unit {
-    ghost use Rattle.dw_leb.specs.View.{uleb_of};
-    ghost use Rattle.dw_unit.specs.Entries.{values_of};
-    ghost use Rattle.dw_unit.specs.WholeUnit.{WholeUnit, IsUnit};
+    ghost use Rattle.dw_unit.specs.WholeUnit.{WholeUnit, unit_code, IsUnit};
 
     ghost Value = { WholeUnit };
 
-    ghost view = { λ a. record { header = a.header; table = a.table.value; code = uleb_of a.code; values = values_of a.values; padding = a.padding.items } };
+    ghost coded = { unit_code };
 
-    ghost invariant = { λ a. IsUnit (record { header = a.header; table = a.table.value; code = uleb_of a.code; values = values_of a.values; padding = a.padding.items }) a.values a.size };
+    ghost view = { λ a. record { header = a.header; table = a.tree.table; root = a.tree.root; padding = a.padding.items } };
+
+    ghost invariant = { λ a. IsUnit (record { header = a.header; table = a.tree.table; root = a.tree.root; padding = a.padding.items }) a.tree a.size };
 }
 
 impl Unit {
     /// A unit of these parts, of `size` bytes.
-    pub(crate) fn of(header: Header, table: Rc<Table>, entries: Entries, size: u64) -> Unit
-        requires { IsUnit (record { header = header; table = table.value; code = uleb_of entries.code; values = values_of entries.values; padding = entries.padding.items }) entries.values size }
-        ensures { result ≡ record { header = header; table = table.value; code = uleb_of entries.code; values = values_of entries.values; padding = entries.padding.items } }
+    pub(crate) fn of(header: Header, body: Body, size: u64) -> Unit
+        requires { IsUnit (record { header = header; table = body.tree.table; root = body.tree.root; padding = body.padding.items }) body.tree size }
+        ensures { result ≡ record { header = header; table = body.tree.table; root = body.tree.root; padding = body.padding.items } }
     {
         Unit {
             header,
-            table,
-            code: entries.code,
-            values: entries.values,
-            padding: entries.padding,
+            tree: body.tree,
+            padding: body.padding,
             size,
         }
     }
@@ -71,5 +63,27 @@ impl Unit {
         ensures { result.now ≡ self.now.padding }
     {
         self.padding.as_slice()
+    }
+
+    /// The root entry, the first one behind the header (section 7.5.2). Its offset, and that of every
+    /// other entry, counts from the unit's first byte, that of its initial length.
+    pub fn root(&self) -> EntryRef<'_>
+        ensures { result ≡ root_of (tree_of self.now) }
+    {
+        self.tree.root()
+    }
+
+    /// The entry that begins exactly at this offset, counted from the unit's first byte.
+    pub fn entry_at(&self, offset: u64) -> Option<EntryRef<'_>>
+        ensures { result ≡ find_at offset (entries_of (tree_of self.now)) }
+    {
+        self.tree.entry_at(offset)
+    }
+
+    /// All entries, each before those below it, as they are written (section 7.5.2).
+    pub fn entries(&self) -> Entries<'_>
+        ensures { result ≡ entries_of (tree_of self.now) }
+    {
+        self.tree.entries()
     }
 }

@@ -1,16 +1,9 @@
 //! Writing a unit.
-ghost use Rattle.std.specs.Prelude.{◌≡◌, ◌≤◌, ◌<◌, ◌+◌, ◌-◌, ◌^◌, ◌++◌, ℕ, length, map, vec_len, None};
-ghost use Rattle.std.specs.List.{AllByRecursion};
+ghost use Rattle.std.specs.Prelude.{◌≡◌, ◌≤◌, ◌++◌, None};
 ghost use Rattle.dw_leb.specs.Watch.{inner_of, fault_of, told_by_write, Wrote};
-ghost use Rattle.dw_leb.specs.Number.{uleb, initial_length, FitsLength};
-ghost use Rattle.dw_leb.specs.View.{uleb_of};
-ghost use Rattle.dw_abbrev.specs.Table.{zero_of};
-ghost use Rattle.dw_form.specs.Form.{IsContext};
-ghost use Rattle.dw_form.specs.Kept.{StoredFits, content};
-ghost use Rattle.dw_abbrev.specs.PairView.{pair_of};
+ghost use Rattle.dw_leb.specs.Number.{initial_length, FitsLength};
 ghost use Rattle.dw_unit.specs.Header.{fields, fields_of, numbers, added_sizes, kind_number, kind_fields, KindFits};
-ghost use Rattle.dw_unit.specs.Tree.{values, nulls, AreNulls, tree, leaf, nesting};
-ghost use Rattle.dw_unit.specs.Entries.{contents, value_part, values_of, IsLeafCode};
+ghost use Rattle.dw_tree.specs.Tree.{nulls, AreNulls};
 ghost use Rattle.dw_unit.specs.WholeUnit.{bytes_of};
 
 use crate::fields::offset_bytes;
@@ -18,11 +11,9 @@ use crate::head::length_bytes;
 use crate::header::Header;
 use crate::kind::Kind;
 use crate::unit::Unit;
-use crate::values::Values;
 use arrayvec::ArrayVec;
-use dw_abbrev::{Pair, Table};
-use dw_form::{Ctx, Stored, write_value};
-use dw_leb::{Format, Order, Uleb, Watched, WriteError, write_all, write_fixed, write_length};
+use dw_leb::{Format, Order, Watched, WriteError, write_all, write_fixed, write_length};
+use dw_tree::write_null;
 use std::io::Write;
 
 /// The number of a kind (section 7.5.1).
@@ -70,13 +61,7 @@ pub fn write_unit<W: Write>(unit: &Unit, writer: &mut Watched<W>) -> Result<(), 
     let header = unit.header;
     let behind = unit.size - length_bytes(header.format()) as u64;
     write_head(header, behind, writer)?;
-    write_root(
-        header.context(),
-        &unit.table,
-        &unit.code,
-        &unit.values,
-        writer,
-    )?;
+    unit.tree.write(writer)?;
     write_nulls(unit.padding.as_slice(), writer)
 }
 
@@ -95,7 +80,7 @@ fn write_head<W: Write>(header: Header, n: u64, writer: &mut Watched<W>) -> Resu
 }
 
 /// The fields of a header.
-fn field_bytes(header: Header) -> ArrayVec<u8, 32>
+pub(crate) fn field_bytes(header: Header) -> ArrayVec<u8, 32>
     ensures spelling { result.items ≡ (fields header.order header.format).spell (fields_of header) }
 {
     let (order, format) = (header.order(), header.format());
@@ -107,35 +92,6 @@ fn field_bytes(header: Header) -> ArrayVec<u8, 32>
     let _fits = bytes.try_extend_from_slice(offset.as_slice());
     let _fits = bytes.try_extend_from_slice(added_bytes(order, format, header.kind()).as_slice());
     bytes
-}
-
-/// Writes a root without children.
-fn write_root<W: Write>(
-    ctx: Ctx,
-    table: &Table,
-    code: &Uleb,
-    values: &Values,
-    writer: &mut Watched<W>,
-) -> Result<(), WriteError>
-    requires context { IsContext ctx }
-    requires leaf_code { IsLeafCode table.now code.now.value }
-    requires spans { AllByRecursion (StoredFits (vec_len values.now.pool)) values.now.stored.items }
-    requires fits { (tree ctx table.now (nesting - 1)).Fits (leaf (uleb_of code.now) (values_of values.now)) }
-    requires clear { fault_of writer.old ≡ None }
-    ensures written { Wrote (W.contents (inner_of writer.old)) (W.contents (inner_of writer.new)) ((tree ctx table.now (nesting - 1)).spell (leaf (uleb_of code.now) (values_of values.now))) result }
-    ensures fault { fault_of writer.new ≡ told_by_write result }
-{
-    let Some(decl) = table.get(code.value) else {
-        unreachable!()
-    };
-    write_all(writer, code.bytes().as_slice())?;
-    write_values(
-        ctx,
-        decl.pairs(),
-        values.stored.as_slice(),
-        values.pool.as_slice(),
-        writer,
-    )
 }
 
 /// Writes nulls of these widths.
@@ -151,64 +107,4 @@ fn write_nulls<W: Write>(widths: &[u8], writer: &mut Watched<W>) -> Result<(), W
         left = others;
     }
     Ok(())
-}
-
-fn write_null<W: Write>(width: u8, writer: &mut Watched<W>) -> Result<(), WriteError>
-    requires null { uleb.Fits (zero_of width) }
-    requires clear { fault_of writer.old ≡ None }
-    ensures written { Wrote (W.contents (inner_of writer.old)) (W.contents (inner_of writer.new)) (uleb.spell (zero_of width)) result }
-    ensures fault { fault_of writer.new ≡ told_by_write result }
-{
-    match Uleb::with_width(0, width) {
-        Some(null) => write_all(writer, null.bytes().as_slice()),
-        None => unreachable!(),
-    }
-}
-
-/// Writes values under the pairs of their declaration.
-fn write_values<W: Write>(
-    ctx: Ctx,
-    pairs: &[Pair],
-    stored: &[Stored],
-    pool: &[u8],
-    writer: &mut Watched<W>,
-) -> Result<(), WriteError>
-    requires context { IsContext ctx }
-    requires spans { AllByRecursion (StoredFits (length pool.now)) stored.now }
-    requires fits { (values ctx (map pair_of pairs.now)).Fits (contents stored.now pool.now) }
-    requires clear { fault_of writer.old ≡ None }
-    ensures written { Wrote (W.contents (inner_of writer.old)) (W.contents (inner_of writer.new)) ((values ctx (map pair_of pairs.now)).spell (contents stored.now pool.now)) result }
-    ensures fault { fault_of writer.new ≡ told_by_write result }
-{
-    let mut pairs_left = pairs;
-    let mut left = stored;
-    while let Some((pair, other_pairs)) = pairs_left.split_first() {
-        match left.split_first() {
-            Some((value, others)) => {
-                write_one(ctx, pair, value, pool, writer)?;
-                left = others;
-            }
-            None => unreachable!(),
-        }
-        pairs_left = other_pairs;
-    }
-    Ok(())
-}
-
-/// Writes the value of a pair.
-fn write_one<W: Write>(
-    ctx: Ctx,
-    pair: &Pair,
-    stored: &Stored,
-    pool: &[u8],
-    writer: &mut Watched<W>,
-) -> Result<(), WriteError>
-    requires context { IsContext ctx }
-    requires span { StoredFits (length pool.now) stored.now }
-    requires fits { (value_part ctx pair.now).Fits (content pool.now stored.now) }
-    requires clear { fault_of writer.old ≡ None }
-    ensures written { Wrote (W.contents (inner_of writer.old)) (W.contents (inner_of writer.new)) ((value_part ctx pair.now).spell (content pool.now stored.now)) result }
-    ensures fault { fault_of writer.new ≡ told_by_write result }
-{
-    write_value(ctx, pair.form.value, &stored.lend(pool), writer)
 }

@@ -4,8 +4,8 @@ use Rattle.dw_leb.specs.View.{uleb_of}
 use Rattle.dw_leb.specs.Reader.{checked, Found, Broken}
 use Rattle.dw_leb.specs.ReadNumber.{read_uleb}
 use Rattle.dw_unit.specs.declared.bad.Bad.{Bad}
-use Rattle.dw_unit.specs.Tree.{not_null}
-use Rattle.dw_unit.specs.ReadUnit.{read_padding}
+use Rattle.dw_tree.specs.Tree.{not_null}
+use Rattle.dw_tree.specs.ReadTree.{read_padding}
 use Rattle.dw_unit.specs.Entries.{put_front}
 use Rattle.dw_unit.proofs.EntryLemmas.{no_padding, padding_ends, padding_breaks, padding_read}
 use Rattle.dw_unit.proofs.codes.padding_at.Goals as goal

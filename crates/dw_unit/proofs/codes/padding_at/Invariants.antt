@@ -1,5 +1,5 @@
 use Rattle.std.proofs.Common.{◌≡◌, ◌≤◌, ◌<◌, ◌-◌, ℕ, drop, length, vec_len}
-use Rattle.dw_unit.specs.ReadUnit.{read_padding}
+use Rattle.dw_tree.specs.ReadTree.{read_padding}
 use Rattle.dw_unit.specs.Entries.{put_front}
 use Rattle.dw_unit.proofs.codes.padding_at.Given as goal
 

@@ -4,7 +4,7 @@ use Rattle.dw_leb.specs.Decide.{Says}
 use Rattle.dw_leb.specs.Field.{are_bytes}
 use Rattle.dw_unit.specs.Header.{Fields, fields}
 use Rattle.dw_unit.specs.HeaderFields.{all_fields}
-use Rattle.dw_unit.specs.DecideTree.{fields_decides}
+use Rattle.dw_unit.specs.DecideHeader.{fields_decides}
 use Rattle.dw_unit.specs.Told.{told_fits}
 use Rattle.dw_unit.proofs.fields.header_fields.Goals as goal
 

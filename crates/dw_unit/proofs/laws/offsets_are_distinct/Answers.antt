@@ -1,4 +1,4 @@
-use Rattle.dw_unit.specs.Offsets.{one_path, tree_codes}
+use Rattle.dw_tree.specs.Offsets.{one_path, tree_codes}
 use Rattle.dw_unit.proofs.laws.offsets_are_distinct.Goals as goal
 
 pub returns : goal.returns

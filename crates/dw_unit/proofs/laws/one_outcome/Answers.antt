@@ -3,7 +3,7 @@ use Rattle.dw_leb.specs.declared.errors.Reason.{Reason}
 use Rattle.dw_leb.specs.declared.errors.Section.{Section}
 use Rattle.dw_leb.specs.declared.order.Order.{Order}
 use Rattle.dw_leb.specs.Laws.{one_answer}
-use Rattle.dw_unit.specs.DecideTree.{tree_decides}
+use Rattle.dw_tree.specs.DecideTree.{tree_decides}
 use Rattle.dw_unit.specs.DecideUnit.{unit_take, unit_fault, unit_says, AnswerSays}
 use Rattle.dw_unit.specs.ReadUnit.{Answer, Unit, Fault, read_unit}
 use Rattle.dw_unit.specs.Unit.{Contents, Fails, UnitIn}

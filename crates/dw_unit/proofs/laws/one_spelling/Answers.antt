@@ -1,7 +1,8 @@
 use Rattle.std.proofs.Common.{◌≡◌, ℕ, sym, ap, ◌∙◌}
 use Rattle.dw_leb.specs.declared.order.Order.{Order}
 use Rattle.dw_leb.specs.Stay.{one_front}
-use Rattle.dw_unit.specs.DecideTree.{fields_decides, tree_decides}
+use Rattle.dw_unit.specs.DecideHeader.{fields_decides}
+use Rattle.dw_tree.specs.DecideTree.{tree_decides}
 use Rattle.dw_unit.specs.DecideUnit.{unit_take}
 use Rattle.dw_unit.specs.ReadUnit.{read_unit}
 use Rattle.dw_unit.proofs.RoundTrip.{same_contents}

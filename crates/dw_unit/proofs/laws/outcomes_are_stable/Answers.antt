@@ -1,4 +1,5 @@
-use Rattle.dw_unit.specs.DecideTree.{fields_stays, tree_stays}
+use Rattle.dw_unit.specs.DecideHeader.{fields_stays}
+use Rattle.dw_tree.specs.DecideTree.{tree_stays}
 use Rattle.dw_unit.specs.DecideUnit.{unit_stays, fault_stays, front_cut, unit_says}
 use Rattle.dw_unit.specs.ReadUnit.{read_unit}
 use Rattle.dw_unit.proofs.laws.outcomes_are_stable.Goals as goal

@@ -4,7 +4,7 @@ use Rattle.dw_leb.specs.Number.{uleb}
 use Rattle.dw_leb.specs.Watch.{inner_of}
 use Rattle.dw_leb.specs.Towards.{Towards, towards_step, towards_fails}
 use Rattle.dw_abbrev.specs.Table.{zero_of}
-use Rattle.dw_unit.specs.Tree.{nulls, AreNulls}
+use Rattle.dw_tree.specs.Tree.{nulls, AreNulls}
 use Rattle.dw_unit.proofs.writer.write_nulls.Goals as goal
 
 pub returns-in_err-write_null-clause-written : goal.returns-in_err-write_null-clause-written

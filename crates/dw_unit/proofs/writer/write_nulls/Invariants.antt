@@ -1,7 +1,7 @@
 use Rattle.std.proofs.Common.{◌≡◌, None, length}
 use Rattle.dw_leb.specs.Watch.{inner_of, fault_of}
 use Rattle.dw_leb.specs.Towards.{Towards}
-use Rattle.dw_unit.specs.Tree.{nulls, AreNulls}
+use Rattle.dw_tree.specs.Tree.{nulls, AreNulls}
 use Rattle.dw_unit.proofs.writer.write_nulls.Given as goal
 
 -- the nulls before these are written

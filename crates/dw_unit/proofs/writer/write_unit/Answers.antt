@@ -1,24 +1,19 @@
-use Rattle.std.proofs.Common.{◌≡◌, ◌++◌, ◌-◌, ◌∙◌, ℕ, List, length, subst, ap}
+use Rattle.std.proofs.Common.{◌≡◌, ◌++◌, ◌-◌, ◌∙◌, ℕ, List, length, subst, ap, sym}
 use Rattle.std.specs.Io.KnownBytes.{Appends}
 use Rattle.dw_leb.specs.Watch.{inner_of, Wrote, AppendsFront}
 use Rattle.dw_leb.specs.Known.{wrote_then, wrote_err}
 use Rattle.dw_leb.specs.Number.{length_size}
-use Rattle.dw_leb.specs.View.{uleb_of}
-use Rattle.dw_form.specs.declared.shape.Ctx.{Ctx}
-use Rattle.dw_abbrev.specs.Table.{Table}
-use Rattle.dw_unit.specs.Header.{context_of}
-use Rattle.dw_unit.specs.Tree.{tree, nulls, nesting}
+use Rattle.dw_tree.specs.Tree.{tree, nulls, nesting}
+use Rattle.dw_tree.specs.Steps.{TreeAt}
 use Rattle.dw_unit.specs.Unit.{body_bytes}
-use Rattle.dw_unit.specs.Entries.{values_of}
-use Rattle.dw_unit.specs.WholeUnit.{WholeUnit, bytes_of, contents_of, root_of}
+use Rattle.dw_unit.specs.WholeUnit.{WholeUnit, bytes_of, contents_of}
 use Rattle.dw_unit.proofs.UnitWritten.{counted, parted, head_bytes, root_bytes}
 use Rattle.dw_unit.proofs.writer.write_unit.Goals as goal
 
 pub returns-in_err-write_head-clause-written : goal.returns-in_err-write_head-clause-written
 returns-in_err-write_head-clause-written g c =
     let i = c.unit.inside in
-    let u : WholeUnit = record { header = i.header; table = i.table.value; code = uleb_of i.code; values = values_of i.values; padding = i.padding.items } in
-    let h = i.header in
+    let u : WholeUnit = record { header = i.header; table = i.tree.table; root = i.tree.root; padding = i.padding.items } in
     let n = i.size - c.length_bytes.result in
     let n_is : n ≡ length (body_bytes u.table (contents_of u)) = ap (λ (m : ℕ). i.size - m) (c.length_bytes.ensures ∙ ap length_size c.format.ensures) ∙ counted u i.size c.unit.invariant.sized in
     let same : (head_bytes u n) ++ (root_bytes u ++ nulls u.padding) ≡ bytes_of c.args.unit.now = parted u n n_is ∙ ap bytes_of c.unit.view_is in
@@ -27,43 +22,37 @@ returns-in_err-write_head-clause-written g c =
     subst (λ (bytes : List ℕ). Wrote a b bytes c.from_residual.result) same
     (wrote_err a b (head_bytes u n) (root_bytes u ++ nulls u.padding) c.from_residual.result c.from_residual.ensures.0 c.in_err-write_head.ensures.written)
 
-pub returns-in_err-write_root-clause-written : goal.returns-in_err-write_root-clause-written
-returns-in_err-write_root-clause-written g c =
+pub returns-in_err-write-clause-written : goal.returns-in_err-write-clause-written
+returns-in_err-write-clause-written g c =
     let i = c.unit.inside in
-    let u : WholeUnit = record { header = i.header; table = i.table.value; code = uleb_of i.code; values = values_of i.values; padding = i.padding.items } in
-    let h = i.header in
+    let u : WholeUnit = record { header = i.header; table = i.tree.table; root = i.tree.root; padding = i.padding.items } in
     let n = i.size - c.length_bytes.result in
     let n_is : n ≡ length (body_bytes u.table (contents_of u)) = ap (λ (m : ℕ). i.size - m) (c.length_bytes.ensures ∙ ap length_size c.format.ensures) ∙ counted u i.size c.unit.invariant.sized in
     let same : (head_bytes u n) ++ (root_bytes u ++ nulls u.padding) ≡ bytes_of c.args.unit.now = parted u n n_is ∙ ap bytes_of c.unit.view_is in
     let a = g.W.Write.contents (inner_of c.args.writer.now) in
     let b = g.W.Write.contents (inner_of c.write_head.new.writer) in
-    let d = g.W.Write.contents (inner_of c.write_root.new.writer) in
-    let root_is : (tree c.context.result c.deref.result.now (nesting - 1)).spell (root_of u) ≡ root_bytes u =
-    ap (λ (k : Ctx). (tree k c.deref.result.now (nesting - 1)).spell (root_of u)) c.context.ensures.context
-    ∙ ap (λ (t : Table). (tree (context_of h) t (nesting - 1)).spell (root_of u)) c.deref.ensures in
-    let r = c.from_residual-in_err-write_root.result in
-    let front : AppendsFront b d (root_bytes u) = subst (λ (bytes : List ℕ). AppendsFront b d bytes) root_is c.in_err-write_root.ensures.written in
+    let d = g.W.Write.contents (inner_of c.write.new.writer) in
+    let root_is : (tree i.tree.context i.tree.table (nesting - 1)).spell i.tree.root ≡ root_bytes u = ap (λ (w : TreeAt). (tree w.context w.table (nesting - 1)).spell w.root) c.unit.invariant.tree_is in
+    let r = c.from_residual-in_err-write.result in
+    let front : AppendsFront b d (root_bytes u) = subst (λ (bytes : List ℕ). AppendsFront b d bytes) root_is c.in_err-write.ensures.written in
     subst (λ (bytes : List ℕ). Wrote a d bytes r) same
     (wrote_then a b d (head_bytes u n) (root_bytes u ++ nulls u.padding) r c.in_ok-write_head.ensures.written
-    (wrote_err b d (root_bytes u) (nulls u.padding) r c.from_residual-in_err-write_root.ensures.0 front))
+    (wrote_err b d (root_bytes u) (nulls u.padding) r c.from_residual-in_err-write.ensures.0 front))
 
 pub returns-clause-written : goal.returns-clause-written
 returns-clause-written g c =
     let i = c.unit.inside in
-    let u : WholeUnit = record { header = i.header; table = i.table.value; code = uleb_of i.code; values = values_of i.values; padding = i.padding.items } in
-    let h = i.header in
+    let u : WholeUnit = record { header = i.header; table = i.tree.table; root = i.tree.root; padding = i.padding.items } in
     let n = i.size - c.length_bytes.result in
     let n_is : n ≡ length (body_bytes u.table (contents_of u)) = ap (λ (m : ℕ). i.size - m) (c.length_bytes.ensures ∙ ap length_size c.format.ensures) ∙ counted u i.size c.unit.invariant.sized in
     let same : (head_bytes u n) ++ (root_bytes u ++ nulls u.padding) ≡ bytes_of c.args.unit.now = parted u n n_is ∙ ap bytes_of c.unit.view_is in
     let a = g.W.Write.contents (inner_of c.args.writer.now) in
     let b = g.W.Write.contents (inner_of c.write_head.new.writer) in
-    let d = g.W.Write.contents (inner_of c.write_root.new.writer) in
-    let root_is : (tree c.context.result c.deref.result.now (nesting - 1)).spell (root_of u) ≡ root_bytes u =
-    ap (λ (k : Ctx). (tree k c.deref.result.now (nesting - 1)).spell (root_of u)) c.context.ensures.context
-    ∙ ap (λ (t : Table). (tree (context_of h) t (nesting - 1)).spell (root_of u)) c.deref.ensures in
+    let d = g.W.Write.contents (inner_of c.write.new.writer) in
+    let root_is : (tree i.tree.context i.tree.table (nesting - 1)).spell i.tree.root ≡ root_bytes u = ap (λ (w : TreeAt). (tree w.context w.table (nesting - 1)).spell w.root) c.unit.invariant.tree_is in
     let e = g.W.Write.contents (inner_of c.write_nulls.new.writer) in
     let r = c.write_nulls.result in
-    let second : Appends b d (root_bytes u) = subst (λ (bytes : List ℕ). Appends b d bytes) root_is c.in_ok-write_root.ensures.written in
+    let second : Appends b d (root_bytes u) = subst (λ (bytes : List ℕ). Appends b d bytes) root_is c.in_ok-write.ensures.written in
     let third : Wrote d e (nulls u.padding) r = subst (λ (ws : List ℕ). Wrote d e (nulls ws) r) c.as_slice.ensures.value c.write_nulls.ensures.written in
     subst (λ (bytes : List ℕ). Wrote a e bytes r) same
     (wrote_then a b e (head_bytes u n) (root_bytes u ++ nulls u.padding) r c.in_ok-write_head.ensures.written

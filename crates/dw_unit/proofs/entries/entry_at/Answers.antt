@@ -1,0 +1,131 @@
+use Rattle.std.proofs.Common.{rules, ◌≡◌, ◌≤◌, ◌<◌, ◌+◌, ◌-◌, ◌^◌, ◌++◌, ◌∷◌, [], ℕ, suc, List, Option, Some, None, length, drop, take, map, refl, sym, ap, subst, ◌∙◌, arith, append-nil, length-append, add-one}
+use Rattle.std.proofs.lemmas.List.{length-map, drop-drop}
+use Rattle.std.specs.Prelude.{IsSome}
+use Rattle.dw_leb.specs.Number.{Unsigned}
+use Rattle.dw_leb.specs.Part.{Taken}
+use Rattle.dw_leb.specs.Reader.{Outcome, Found, Broken}
+use Rattle.dw_leb.specs.View.{uleb_of}
+use Rattle.dw_form.specs.declared.shape.Ctx.{Ctx}
+use Rattle.dw_form.specs.Form.{Attribute}
+use Rattle.dw_form.specs.Lent.{attribute_of}
+use Rattle.dw_abbrev.specs.PairView.{pair_of}
+use Rattle.dw_abbrev.specs.Table.{Pair, Declaration, Table, declared}
+use Rattle.dw_tree.specs.Tree.{pairs_of}
+use Rattle.dw_tree.specs.ReadTree.{read_values}
+use Rattle.dw_tree.specs.Flat.{value_part}
+use Rattle.dw_tree.specs.Place.{Place, Spot, Unread}
+use Rattle.dw_tree.specs.Steps.{Growing, settle, begun_at, with_value, value_at, end_of, NextFits, next_bytes, FirstsFit, FirstFits, first_bytes}
+use Rattle.dw_tree.specs.Ends.{begun_end, value_end}
+use Rattle.dw_unit.specs.Entries.{put_front, placed}
+use Rattle.dw_unit.proofs.EntryLemmas.{put_none, value_breaks, value_read, no_error, drop_past}
+use Rattle.dw_unit.proofs.GivenValue.{next_fits, next_size, with_is, with_end, prefix_then}
+use Rattle.dw_unit.proofs.entries.entry_at.Goals as goal
+
+pub loop-pair-init : goal.loop-pair-init
+loop-pair-init c =
+    let old : Growing = c.args.draft.now in
+    let code : Unsigned = uleb_of c.args.code in
+    let begun : c.begin.new.self ≡ begun_at code old = no_error c.begin.result _ (sym c.if-is_err.ensures.value) c.begin.ensures.ok in
+    let known : IsSome (declared old.table c.args.code.value) = rw c.requires.known.1 refl in
+    let ends = ap end_of begun ∙ begun_end old code known c.requires.free in
+    let none : c.args.at - c.args.at ≡ 0 = omega arith in
+    let o : Outcome (List Attribute) = read_values c.args.ctx (map pair_of c.args.pairs.now) (drop c.args.at c.args.b.now) (c.args.lim - c.args.at) in
+    record {
+      vs = [];
+      draft_is = begun;
+      counted = refl;
+      read = put_none o ∙ ap (λ (n : ℕ). put_front [] n o) (sym none);
+      prefix = tt;
+      end = omega (arith, ends);
+      forward = omega arith;
+      within = c.requires.within;
+      room = c.requires.left;
+    }
+
+pub value_at-requires-clause-within : goal.value_at-requires-clause-within
+value_at-requires-clause-within c = c.loop-pair.invariant.within
+
+pub value_at-requires-clause-left : goal.value_at-requires-clause-left
+value_at-requires-clause-left c = c.loop-pair.invariant.room
+
+pub returns-in-Err-clause-exact : goal.returns-in-Err-clause-exact
+returns-in-Err-clause-exact c =
+    let i = c.loop-pair.invariant in
+    let here = c.loop-pair.here in
+    let at = c.args.at in
+    let whole = read_values c.args.ctx (map pair_of c.args.pairs.now) (drop at c.args.b.now) (c.args.lim - at) in (
+      here - at,
+      value_breaks c.args.ctx whole c.args.pairs.now c.loop-pair.pair-index c.pair-item.result c.loop-pair-test.true c.pair-item.is i.vs (here - at) (drop here c.args.b.now) (c.args.lim - here) i.read c.in-Err.e.reason c.in-Err.ensures.broken.1,
+      omega (arith, c.in-Err.ensures.broken.0, i.forward),
+    )
+
+pub returns-in-Err-clause-near : goal.returns-in-Err-clause-near
+returns-in-Err-clause-near c = omega (arith, c.in-Err.ensures.broken.0, c.loop-pair.invariant.within)
+
+pub value-requires-clause-fits : goal.value-requires-clause-fits
+value-requires-clause-fits c =
+    let i = c.loop-pair.invariant in
+    let a : Attribute = attribute_of c.in-Ok.found.0 in
+    let t : Taken (value_part c.args.ctx c.pair-item.result) (drop c.loop-pair.here c.args.b.now) (c.args.lim - c.loop-pair.here) a c.in-Ok.found.1 = c.in-Ok.ensures.found in
+    next_fits c.args.draft.now c.loop-pair.draft c.args.ctx (uleb_of c.args.code) c.requires.known.0 c.args.pairs.now i.vs c.loop-pair.pair-index c.pair-item.result c.requires.same c.requires.known.1 c.requires.known.2 i.draft_is i.counted c.loop-pair-test.true c.pair-item.is i.prefix a t.fits
+
+pub value-requires-clause-size : goal.value-requires-clause-size
+value-requires-clause-size c =
+    let i = c.loop-pair.invariant in
+    let a : Attribute = attribute_of c.in-Ok.found.0 in
+    let t : Taken (value_part c.args.ctx c.pair-item.result) (drop c.loop-pair.here c.args.b.now) (c.args.lim - c.loop-pair.here) a c.in-Ok.found.1 = c.in-Ok.ensures.found in
+    sym t.is_size ∙ sym (next_size c.args.draft.now c.loop-pair.draft c.args.ctx (uleb_of c.args.code) c.requires.known.0 c.args.pairs.now i.vs c.loop-pair.pair-index c.pair-item.result c.requires.same c.requires.known.1 c.requires.known.2 i.draft_is i.counted c.loop-pair-test.true c.pair-item.is i.prefix a t.fits)
+
+pub value-requires-clause-near : goal.value-requires-clause-near
+value-requires-clause-near c =
+    let i = c.loop-pair.invariant in
+    omega (arith, i.end, i.forward, i.room, c.in-Ok.ensures.room, c.requires.bounded)
+
+pub loop-pair-preserved : goal.loop-pair-preserved
+loop-pair-preserved c =
+    let i = c.loop-pair.invariant in
+    let a : Attribute = attribute_of c.in-Ok.found.0 in
+    let t : Taken (value_part c.args.ctx c.pair-item.result) (drop c.loop-pair.here c.args.b.now) (c.args.lim - c.loop-pair.here) a c.in-Ok.found.1 = c.in-Ok.ensures.found in
+    let here = c.loop-pair.here in
+    let at = c.args.at in
+    let b = c.args.b.now in
+    let size = c.in-Ok.found.1 in
+    let ps = c.args.pairs.now in
+    let whole = read_values c.args.ctx (map pair_of ps) (drop at b) (c.args.lim - at) in
+    let given : c.value.new.self ≡ with_value a c.loop-pair.draft = no_error c.value.result _ (sym c.if-is_err-2.ensures.value) c.value.ensures.ok in
+    let ends = ap end_of given ∙ with_end c.args.draft.now c.loop-pair.draft c.args.ctx (uleb_of c.args.code) c.requires.known.0 c.args.pairs.now i.vs c.loop-pair.pair-index c.pair-item.result c.requires.same c.requires.known.1 c.requires.known.2 i.draft_is i.counted c.loop-pair-test.true c.pair-item.is i.prefix a t.fits in
+    let step = value_read c.args.ctx whole ps c.loop-pair.pair-index c.pair-item.result c.loop-pair-test.true c.pair-item.is i.vs (here - at) (drop here b) (c.args.lim - here) i.read a size t in
+    let n : here - at + size ≡ here + size - at = omega (arith, i.forward) in
+    let left : c.args.lim - here - size ≡ c.args.lim - (here + size) = omega arith in
+    record {
+      vs = i.vs ++ a ∷ [];
+      draft_is = given ∙ with_is c.args.draft.now c.loop-pair.draft c.args.ctx (uleb_of c.args.code) c.requires.known.0 c.args.pairs.now i.vs c.loop-pair.pair-index c.pair-item.result c.requires.same c.requires.known.1 c.requires.known.2 i.draft_is i.counted c.loop-pair-test.true c.pair-item.is i.prefix a t.fits;
+      counted = omega (arith, length-append i.vs (a ∷ []), i.counted);
+      read = step
+          ∙ ap (λ (m : ℕ). put_front (i.vs ++ a ∷ []) m (read_values c.args.ctx (drop (suc c.loop-pair.pair-index) (map pair_of ps)) (drop size (drop here b)) (c.args.lim - here - size))) n
+          ∙ ap (λ (bs : List ℕ). put_front (i.vs ++ a ∷ []) (here + size - at) (read_values c.args.ctx (drop (suc c.loop-pair.pair-index) (map pair_of ps)) bs (c.args.lim - here - size))) (drop-drop size here b)
+          ∙ ap (λ (m : ℕ). put_front (i.vs ++ a ∷ []) (here + size - at) (read_values c.args.ctx (drop (suc c.loop-pair.pair-index) (map pair_of ps)) (drop (here + size) b) m)) left
+          ∙ ap (λ (m : ℕ). put_front (i.vs ++ a ∷ []) (here + size - at) (read_values c.args.ctx (drop m (map pair_of ps)) (drop (here + size) b) (c.args.lim - (here + size)))) (sym (add-one c.loop-pair.pair-index));
+      prefix = prefix_then c.args.draft.now c.loop-pair.draft c.args.ctx (uleb_of c.args.code) c.requires.known.0 c.args.pairs.now i.vs c.loop-pair.pair-index c.pair-item.result c.requires.same c.requires.known.1 c.requires.known.2 i.draft_is i.counted c.loop-pair-test.true c.pair-item.is i.prefix a t.fits;
+      end = omega (arith, ends, i.end, t.is_size);
+      forward = omega (arith, i.forward);
+      within = c.in-Ok.ensures.room.0;
+      room = c.in-Ok.ensures.room.1;
+    }
+
+pub returns-clause-exact : goal.returns-clause-exact
+returns-clause-exact c =
+    let i = c.loop-pair.invariant in
+    let here = c.loop-pair.here in
+    let at = c.args.at in
+    let ps = c.args.pairs.now in
+    let end : drop c.loop-pair.pair-index (map pair_of ps) ≡ [] = drop_past (map pair_of ps) c.loop-pair.pair-index (omega (arith, c.loop-pair-test.false, length-map ps pair_of)) in
+    let read = i.read ∙ ap (λ (qs : List Pair). put_front i.vs (here - at) (read_values c.args.ctx qs (drop here c.args.b.now) (c.args.lim - here))) end
+    ∙ (ap (λ (vs : List Attribute). Found vs (here - at + 0)) (append-nil i.vs) ∙ ap (λ (n : ℕ). Found i.vs n) (omega arith)) in
+    (i.vs, here - at, read, omega (arith, i.forward), i.draft_is)
+
+pub returns-clause-end : goal.returns-clause-end
+returns-clause-end c = c.loop-pair.invariant.end
+
+pub returns-clause-room : goal.returns-clause-room
+returns-clause-room c = (c.loop-pair.invariant.forward, c.loop-pair.invariant.within, c.loop-pair.invariant.room)

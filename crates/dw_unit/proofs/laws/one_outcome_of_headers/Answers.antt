@@ -1,0 +1,14 @@
+use Rattle.dw_unit.specs.HeadLaws.{one_header_break, no_header_and_break, header_or_break, header_breaks_stay}
+use Rattle.dw_unit.proofs.laws.one_outcome_of_headers.Goals as goal
+
+pub returns-clause-one_break : goal.returns-clause-one_break
+returns-clause-one_break c = one_header_break
+
+pub returns-clause-not_both : goal.returns-clause-not_both
+returns-clause-not_both c = no_header_and_break
+
+pub returns-clause-some : goal.returns-clause-some
+returns-clause-some c = header_or_break
+
+pub returns-clause-stays : goal.returns-clause-stays
+returns-clause-stays c = header_breaks_stay

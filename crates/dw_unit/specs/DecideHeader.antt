@@ -1,0 +1,71 @@
+-- Headers: each reader decides its part.
+use Rattle.std.proofs.Common.{◌≡◌, ℕ, zero, suc, ◌+◌, ◌-◌, ◌<◌, ◌≤◌, Bool, true, false, cond, List, [], ◌∷◌, ◌++◌, length, drop, Option, Some, None, refl, sym, ap, subst, ◌∙◌, append_assoc, arith}
+use Rattle.std.specs.Prelude.{if◌then◌else◌, ◌==◌}
+use Rattle.std.proofs.lemmas.Bool.{eqb-true, eqb-false, ne_eqb}
+use Rattle.std.proofs.lemmas.List.{drop_at, length-append}
+use Rattle.dw_leb.specs.declared.errors.Reason.{Reason}
+use Rattle.dw_leb.specs.declared.errors.Reason.TheVariants.{SecondRoot, TooDeep}
+use Rattle.dw_leb.specs.Part.{Breaks, Part, After, ◌then◌, judged, nothing, optional, refused, Taken}
+use Rattle.dw_leb.specs.declared.order.Order.{Order}
+use Rattle.dw_leb.specs.declared.order.Format.{Format}
+use Rattle.dw_leb.specs.Number.{offset_size, Unsigned, uleb, fixed}
+use Rattle.dw_leb.specs.Repeat.{repeated, ItemsFit}
+use Rattle.dw_leb.specs.Reader.{Outcome, Found, Broken, Reader, ◌and_then◌, behind, paired, mapped, checked, returned}
+use Rattle.dw_leb.specs.ReadNumber.{read_uleb}
+use Rattle.dw_leb.specs.Decide.{Decides, Says, AreBytes, AreBytes-behind, found, broken, IsView, then_decides, judged_decides, seen_decides, nothing_decides, refused_decides, optional_decides}
+use Rattle.dw_leb.specs.Stay.{Stays, After_stays, then_stays, judged_stays, nothing_stays, refused_stays, optional_stays}
+use Rattle.dw_leb.specs.DecideRepeat.{behind_at, repeated_decides, repeated_stays, items_end}
+use Rattle.dw_leb.specs.Digits.{fixed_decides, Short_stays}
+use Rattle.dw_leb.specs.DecideNumber.{uleb_decides, uleb_stays, uleb_some}
+use Rattle.dw_form.specs.declared.shape.Ctx.{Ctx}
+use Rattle.dw_form.specs.Form.{Attribute, attribute}
+use Rattle.dw_form.specs.DecideForm.{attribute_decides, attribute_stays}
+use Rattle.dw_abbrev.specs.Table.{Pair, Table, is_null, zero_of, declared}
+use Rattle.dw_abbrev.specs.DecideTable.{null_is}
+use Rattle.dw_unit.specs.Header.{added_sizes, numbers, bad_version, bad_type, bad_address_size, no_more, first_and_rest, fields}
+use Rattle.dw_tree.specs.Tree.{Tree, leaf, branch, Forest, none, more, Body, node_of, nodes_of, as_node, as_nodes, first_value, no_value, values, pairs_of, children_of, bad_root, bad_child, body, children, tree, nulls, AreNulls, not_null, MoreBreaks, PaddingBreaks}
+use Rattle.dw_tree.specs.ReadTree.{node_from, nodes_from, read_values, read_body, read_children, read_tree, read_padding}
+use Rattle.dw_unit.specs.ReadUnit.{read_numbers, read_fields}
+
+first_and_rest_back : (xs : List ℕ) (a : ℕ × List ℕ) → first_and_rest xs ≡ Some a → (a.0 ∷ a.1) ≡ xs
+first_and_rest_back [] a e = absurd cc
+first_and_rest_back (x ∷ xs) a e = let c : (x, xs) ≡ a = cc in ap (λ (y : ℕ × List ℕ). y.0 ∷ y.1) (sym c)
+
+no_more_back : (xs : List ℕ) (a : Unit {0}) → no_more xs ≡ Some a → [] ≡ xs
+no_more_back [] a e = refl
+no_more_back (x ∷ xs) a e = absurd cc
+
+pub numbers_decides : (order : Order) (ns : List ℕ) → Decides (numbers order ns) (read_numbers order ns)
+numbers_decides order [] = seen_decides nothing (returned tt) no_more (λ _. []) (record { back = λ x a e fits. no_more_back x a e; there = λ a fits. refl }) nothing_decides
+numbers_decides order (n ∷ ns) = seen_decides (fixed order n then λ _. numbers order ns) _ first_and_rest _ (record { back = λ x a e fits. first_and_rest_back x a e; there = λ a fits. refl })
+    (then_decides _ _ _ _ (fixed_decides order n) (λ _. numbers_decides order ns))
+
+numbers_stays : (order : Order) (ns : List ℕ) → Stays (numbers order ns).Break
+numbers_stays order [] = nothing_stays
+numbers_stays order (n ∷ ns) = then_stays (fixed order n) (λ _. numbers order ns) (Short_stays n) (λ _. numbers_stays order ns)
+
+pub fields_decides : (order : Order) (format : Format) → Decides (fields order format) (read_fields order format)
+unfolding read_fields
+fields_decides order format =
+    then_decides _ _ _ _ (judged_decides _ _ bad_version (fixed_decides order 2)) λ _.
+    then_decides _ _ _ _ (judged_decides _ _ bad_type (fixed_decides order 1)) λ kind.
+    then_decides _ _ _ _ (judged_decides _ _ bad_address_size (fixed_decides order 1)) λ _.
+    then_decides _ _ _ _ (fixed_decides order (offset_size format)) λ _.
+    numbers_decides order (added_sizes format kind)
+
+abbrev fields4 : Order → Format → ℕ → Part (ℕ × List ℕ)
+fields4 order format kind = fixed order (offset_size format) then λ _. numbers order (added_sizes format kind)
+
+abbrev fields3 : Order → Format → ℕ → Part (ℕ × (ℕ × List ℕ))
+fields3 order format kind = judged (fixed order 1) bad_address_size then λ _. fields4 order format kind
+
+abbrev fields2 : Order → Format → Part (ℕ × (ℕ × (ℕ × List ℕ)))
+fields2 order format = judged (fixed order 1) bad_type then λ kind. fields3 order format kind
+
+pub fields_stays : (order : Order) (format : Format) → Stays (fields order format).Break
+fields_stays order format =
+    then_stays (judged (fixed order 2) bad_version) (λ _. fields2 order format) (judged_stays (fixed order 2) bad_version (Short_stays 2)) λ _.
+    then_stays (judged (fixed order 1) bad_type) (fields3 order format) (judged_stays (fixed order 1) bad_type (Short_stays 1)) λ kind.
+    then_stays (judged (fixed order 1) bad_address_size) (λ _. fields4 order format kind) (judged_stays (fixed order 1) bad_address_size (Short_stays 1)) λ _.
+    then_stays (fixed order (offset_size format)) (λ _. numbers order (added_sizes format kind)) (Short_stays (offset_size format)) λ _.
+    numbers_stays order (added_sizes format kind)

@@ -1,0 +1,70 @@
+//! Blocks of which the announced length is far more than their unit or the input holds: refused
+//! before anything grows. No allocator gives 2^62 bytes, so a reader that asked for them first would
+//! answer that there is no memory.
+use crate::read_unit;
+use dw_abbrev::Tables;
+use dw_leb::{Fault, Order, ReadError, Reason, Section};
+use std::alloc::Global;
+
+/// One declaration: code 1, DW_TAG_compile_unit, no children, DW_AT_const_value as DW_FORM_block4.
+const BLOCK4: [u8; 8] = [0x01, 0x11, 0, 0x1c, 0x04, 0, 0, 0];
+
+/// The same as DW_FORM_block.
+const BLOCK: [u8; 8] = [0x01, 0x11, 0, 0x1c, 0x09, 0, 0, 0];
+
+/// The same as DW_FORM_indirect.
+const INDIRECT: [u8; 8] = [0x01, 0x11, 0, 0x1c, 0x16, 0, 0, 0];
+
+/// A compile unit whose block4 has 2^32 - 1 bytes, of which one is there.
+const FOUR_GIGABYTES: [u8; 18] = [
+    0x0e, 0, 0, 0, 0x05, 0, 0x01, 0x08, 0, 0, 0, 0, 0x01, 0xff, 0xff, 0xff, 0xff, 0,
+];
+
+/// A compile unit whose block has 2^62 bytes, of which one is there.
+const ENDLESS: [u8; 23] = [
+    0x13, 0, 0, 0, 0x05, 0, 0x01, 0x08, 0, 0, 0, 0, 0x01, 0x80, 0x80, 0x80, 0x80, 0x80, 0x80, 0x80,
+    0x80, 0x40, 0,
+];
+
+/// The same block as an indirect value.
+const ENDLESS_INDIRECT: [u8; 24] = [
+    0x14, 0, 0, 0, 0x05, 0, 0x01, 0x08, 0, 0, 0, 0, 0x01, 0x09, 0x80, 0x80, 0x80, 0x80, 0x80, 0x80,
+    0x80, 0x80, 0x40, 0,
+];
+
+/// The same block in a unit of the 64-bit format that says it has 2^62 + 2^61 bytes behind its
+/// length.
+const ENDLESS_UNIT: [u8; 35] = [
+    0xff, 0xff, 0xff, 0xff, 0, 0, 0, 0, 0, 0, 0, 0x60, 0x05, 0, 0x01, 0x08, 0, 0, 0, 0, 0, 0, 0, 0,
+    0x01, 0x80, 0x80, 0x80, 0x80, 0x80, 0x80, 0x80, 0x80, 0x40, 0,
+];
+
+fn refusal(alloc: Global, section: &[u8], b: &[u8]) -> Option<Fault> {
+    let mut tables = Tables::new(alloc, section);
+    match read_unit(alloc, Order::Little, &mut tables, b) {
+        Err(ReadError::Fault(fault)) => Some(fault),
+        Err(_) => None,
+        Ok(_) => None,
+    }
+}
+
+fn in_info(offset: u64, reason: Reason) -> Option<Fault> {
+    Some(Fault {
+        section: Section::Info,
+        offset,
+        reason,
+    })
+}
+
+#[test]
+fn announced_blocks(rt: HostRuntime) {
+    let past_unit = in_info(13, Reason::PastUnit);
+    assert_eq!(rt; refusal(rt.alloc(), &BLOCK4, &FOUR_GIGABYTES), past_unit);
+    assert_eq!(rt; refusal(rt.alloc(), &BLOCK, &ENDLESS), past_unit);
+    assert_eq!(rt;
+        refusal(rt.alloc(), &INDIRECT, &ENDLESS_INDIRECT),
+        past_unit
+    );
+    let truncated = in_info(25, Reason::Truncated);
+    assert_eq!(rt; refusal(rt.alloc(), &BLOCK, &ENDLESS_UNIT), truncated);
+}
