@@ -1,0 +1,191 @@
+-- Bytes that are held of a unit have the same unit, or the same first fault, as all that the reader had left.
+use Rattle.std.proofs.Common.{◌≡◌, ◌≢◌, ℕ, ◌+◌, ◌-◌, ◌^◌, ◌<◌, ◌≤◌, Bool, true, false, List, [], ◌∷◌, ◌++◌, length, take, drop, Option, Some, None, refl, sym, ap, subst, ◌∙◌, append_assoc, append-nil, arith, inl, inr, ◌⊎◌}
+use Rattle.std.specs.Prelude.{nat_lt, nat_le, ◌==◌, ◌&&◌}
+use Rattle.std.proofs.lemmas.Bool.{eqb-true}
+use Rattle.std.proofs.lemmas.List.{length-append, take-append-drop}
+use Rattle.std.specs.Io.KnownBytes.{IsAtEnd}
+use Rattle.dw_leb.specs.declared.errors.Reason.{Reason}
+use Rattle.dw_leb.specs.declared.errors.Reason.TheVariants.{Truncated, ReservedLength, LengthTooBig}
+use Rattle.dw_leb.specs.declared.errors.Section.{Section}
+use Rattle.dw_leb.specs.declared.errors.Section.TheVariants.{Info}
+use Rattle.dw_leb.specs.declared.order.Order.{Order}
+use Rattle.dw_leb.specs.declared.order.Order.TheVariants.{Little, Big}
+use Rattle.dw_leb.specs.declared.order.Format.{Format}
+use Rattle.dw_leb.specs.declared.order.Format.TheVariants.{Dwarf32, Dwarf64}
+use Rattle.dw_leb.specs.Part.{Taken, optional}
+use Rattle.dw_leb.specs.Number.{initial_length, length_limit, length_size, fixed, fixed_bytes, reserved, too_far}
+use Rattle.dw_leb.specs.Stay.{one_front, no_break}
+use Rattle.dw_leb.specs.Digits.{fixed_decides, length-fixed}
+use Rattle.dw_leb.specs.DecideNumber.{initial_length_decides, initial-size, initial_within}
+use Rattle.dw_leb.specs.ReadNumber.{read_length, read_fixed}
+use Rattle.dw_unit.specs.Header.{fields}
+use Rattle.dw_unit.specs.Unit.{Fails, header_of, body_bytes}
+use Rattle.dw_unit.specs.DecideUnit.{unit_fault, fault_stays}
+use Rattle.dw_unit.specs.ReadUnit.{Fault}
+use Rattle.dw_unit.specs.WholeUnit.{WholeUnit, UnitAt, bytes_of, contents_of}
+use Rattle.dw_feed.specs.Feed.{escape, InField, IsField, FieldRefused, UnitHeld}
+use Rattle.dw_feed.specs.Laws.{HoldsUnit}
+use Rattle.dw_feed.specs.Uncut.{refuses_where, refuses_unless}
+use Rattle.dw_feed.specs.UncutUnit.{fields_uncut, entries_uncut}
+
+abbrev length_bytes : Order → Format × ℕ → List ℕ
+length_bytes order x = (initial_length order 0).spell x
+
+-- a field's front has one length
+pub same_length : (order : Order) (x y : Format × ℕ) (a b : List ℕ) → (initial_length order 0).Fits x → (initial_length order 0).Fits y → length_bytes order x ++ a ≡ length_bytes order y ++ b → (x ≡ y) × (a ≡ b)
+same_length order x y a b p q e = one_front (initial_length order 0) (read_length order 0) (initial_length_decides order 0) x y a b p q e
+
+module _ (order : Order) (bytes : List ℕ) (h : HoldsUnit order bytes) where
+  -- what stands behind a length field is at least as long as it tells
+  behind_length : (format : Format) (n : ℕ) (rest : List ℕ) → (initial_length order 0).Fits (format, n) → bytes ≡ length_bytes order (format, n) ++ rest → n ≤ length rest
+  behind_length format n rest fits split =
+      let x : Format × ℕ = h.0 in
+      let same = same_length order x (format, n) h.1.rest rest h.1.fits fits (sym h.1.split ∙ split) in
+      let count : x.1 ≡ n = ap (λ (y : Format × ℕ). y.1) same.0 in
+      let left : length h.1.rest ≡ length rest = ap length same.1 in
+      let sum : length bytes ≡ length (length_bytes order x) + length h.1.rest = ap length h.1.split ∙ length-append (length_bytes order x) h.1.rest in
+      omega (arith, h.2, h.1.is_size)
+
+  -- bytes that hold the whole unit are never cut
+  pub whole_uncut : (section : List ℕ) (offset : ℕ) (reason : Reason) → Fails order section bytes Info offset reason → reason ≢ Truncated
+  whole_uncut section offset reason (inl (inl one)) =
+      absurd (no_break (initial_length order 0) (read_length order 0) (initial_length_decides order 0) h.0 h.1.rest length_limit offset reason h.1.fits (initial_within order 0 h.0.0 h.0.1) (rw h.1.split at one))
+  whole_uncut section offset reason (inl (inr (format, n, rest, own, fits, split, sum, breaks))) =
+      fields_uncut order format rest n own reason (behind_length format n rest fits split) breaks
+  whole_uncut section offset reason (inr (format, n, x, rest, t, own, headed, is_table, sum, breaks)) =
+      let f : List ℕ = (fields order format).spell x in
+      let left : n ≤ length (f ++ rest) = behind_length format n (f ++ rest) headed.length_fits headed.split in
+      let len : length (f ++ rest) ≡ length f + length rest = length-append f rest in
+      entries_uncut (header_of order format x) t rest (n - length f) own reason (omega arith) breaks
+
+  pub whole_fault : (section tail : List ℕ) (s : Section) (offset : ℕ) (reason : Reason) → Fails order section bytes s offset reason → Fails order section (bytes ++ tail) s offset reason
+  whole_fault section tail s offset reason fails =
+      fault_stays order section bytes tail s offset reason (λ info. whole_uncut section offset reason (subst (λ (z : Section). Fails order section bytes z offset reason) info fails)) fails
+
+pub unit_longer : (order : Order) (section bytes tail : List ℕ) (u : WholeUnit) (size : ℕ) → UnitAt section order bytes u size → UnitAt section order (bytes ++ tail) u size
+unit_longer order section bytes tail u size h = record {
+  order_is = h.order_is;
+  table_at = h.table_at;
+  fits = h.fits;
+  rest = h.rest ++ tail;
+  split = ap (λ (b : List ℕ). b ++ tail) h.split ∙ append_assoc (bytes_of u) h.rest tail;
+  is_size = h.is_size;
+}
+
+same_reason : (s z : Section) (m n : ℕ) (r q : Reason) → Fault s m r ≡ Fault z n q → r ≡ q
+same_reason s z m n r q e = cc
+
+-- a fault of what is held is that of all
+pub held_fault : (order : Order) (section bytes rest : List ℕ) (new : Option (List ℕ)) (s : Section) (offset : ℕ) (reason : Reason)
+    → FieldRefused order bytes new ⊎ UnitHeld order bytes new → (IsAtEnd new → rest ≡ []) → Fails order section bytes s offset reason → Fails order section (bytes ++ rest) s offset reason
+held_fault order section bytes rest new s offset reason held done fails = by held
+  where
+    at_end : IsAtEnd new → Fails order section (bytes ++ rest) s offset reason
+    at_end e = subst (λ (b : List ℕ). Fails order section b s offset reason) (sym (ap (λ (x : List ℕ). bytes ++ x) (done e) ∙ append-nil bytes)) fails
+
+    refused : (reason' : Reason) → (initial_length order 0).Break bytes length_limit 0 reason' → reason' ≢ Truncated → s ≡ Info → reason ≢ Truncated
+    refused reason' breaks ne info = λ e. ne (same_reason Info s 0 offset reason' reason (sym (unit_fault order section bytes Info 0 reason' (inl (inl breaks))) ∙ unit_fault order section bytes s offset reason fails) ∙ e)
+
+    by : FieldRefused order bytes new ⊎ UnitHeld order bytes new → Fails order section (bytes ++ rest) s offset reason
+    by (inl h) = elim h.why [
+      | inl ne ↦ fault_stays order section bytes rest s offset reason (refused h.reason h.breaks ne) fails
+      | inr e ↦ at_end e
+    ]
+    by (inr h) = elim h.whole [
+      | inl w ↦ whole_fault order bytes ((h.format, h.count), h.field, omega (arith, w)) section rest s offset reason fails
+      | inr e ↦ at_end e
+    ]
+
+no_rest : (b s rest : List ℕ) → b ≡ s ++ rest → length b ≤ length s → b ≡ s
+no_rest b s [] e le = e ∙ append-nil s
+no_rest b s (x ∷ rest) e le = absurd (omega (arith, le, ap length e, length-append s (x ∷ rest)))
+
+-- a unit that stands in what is held is all of it
+pub held_unit : (order : Order) (section bytes : List ℕ) (new : Option (List ℕ)) (u : WholeUnit) (size : ℕ)
+    → FieldRefused order bytes new ⊎ UnitHeld order bytes new → UnitAt section order bytes u size → bytes ≡ bytes_of u
+held_unit order section bytes new u size held h = by held
+  where
+    own : List ℕ
+    own = body_bytes u.table (contents_of u)
+
+    split : bytes ≡ length_bytes order (u.header.format, length own) ++ (own ++ h.rest)
+    split = subst (λ (o : Order). bytes ≡ length_bytes o (u.header.format, length own) ++ (own ++ h.rest)) h.order_is
+        (h.split ∙ append_assoc (length_bytes u.header.order (u.header.format, length own)) own h.rest)
+
+    fits : (initial_length order 0).Fits (u.header.format, length own)
+    fits = subst (λ (o : Order). (initial_length o 0).Fits (u.header.format, length own)) h.order_is h.fits.length_fits
+
+    by : FieldRefused order bytes new ⊎ UnitHeld order bytes new → bytes ≡ bytes_of u
+    by (inl g) = absurd (no_break (initial_length order 0) (read_length order 0) (initial_length_decides order 0) (u.header.format, length own) (own ++ h.rest) length_limit 0 g.reason fits (initial_within order 0 u.header.format (length own)) (rw split at g.breaks))
+    by (inr g) =
+        let same = same_length order (g.format, g.count) (u.header.format, length own) g.field.rest (own ++ h.rest) g.field.fits fits (sym g.field.split ∙ split) in
+        let count : g.count ≡ length own = ap (λ (x : Format × ℕ). x.1) same.0 in
+        let format : length_size g.format ≡ length_size u.header.format = ap (λ (x : Format × ℕ). length_size x.0) same.0 in
+        let head : length (length_bytes u.header.order (u.header.format, length own)) ≡ length_size u.header.format = initial-size u.header.order 0 u.header.format (length own) in
+        let total : length (bytes_of u) ≡ length (length_bytes u.header.order (u.header.format, length own)) + length own = length-append (length_bytes u.header.order (u.header.format, length own)) own in
+        no_rest bytes (bytes_of u) h.rest h.split (omega (arith, g.inside))
+
+-- ---- length fields
+
+reserved_judges : (x : ℕ) → reserved x ≡ Some Truncated → ⊥
+reserved_judges x = refuses_where (nat_le 0xfffffff0 x && nat_lt x 0xffffffff) ReservedLength (λ e. cc)
+
+far_judges : (x : Format × ℕ) → too_far 0 x ≡ Some Truncated → ⊥
+far_judges x = refuses_unless (nat_lt (0 + length_size x.0 + x.1) (2 ^ 63)) LengthTooBig (λ e. cc)
+
+escape_is : (order : Order) → fixed_bytes order 4 0xffffffff ≡ escape
+escape_is Little = refl
+escape_is Big = refl
+
+second_uncut : (order : Order) (bytes rest : List ℕ) (own a : ℕ) (v : Bool) → (a == 0xffffffff) ≡ v → IsField bytes → bytes ≡ fixed_bytes order 4 a ++ rest → length (fixed_bytes order 4 a) ≡ 4
+    → (lim : ℕ) → 8 ≤ lim → (reason : Reason) → (optional v (fixed order 8)).Break rest lim own reason → reason ≢ Truncated
+second_uncut order bytes rest own a false e is split size lim enough reason h = absurd h
+second_uncut order bytes rest own a true e is split size lim enough reason h = elim h.1 [
+  | inl past ↦ absurd (omega (arith, past.0))
+  | inr cut ↦ elim is [
+    | inl four ↦
+        let len : length bytes ≡ length (fixed_bytes order 4 a) + length rest = ap length split ∙ length-append (fixed_bytes order 4 a) rest in
+        absurd (four.1 (no_rest bytes (fixed_bytes order 4 a) rest split (omega (arith, four.0)) ∙ ap (fixed_bytes order 4) (eqb-true a 0xffffffff e) ∙ escape_is order))
+    | inr twelve ↦
+        let len : length bytes ≡ length (fixed_bytes order 4 a) + length rest = ap length split ∙ length-append (fixed_bytes order 4 a) rest in
+        absurd (omega (arith, cut.1, twelve))
+  ]
+]
+
+-- a whole length field is not cut
+pub field_uncut : (order : Order) (bytes : List ℕ) (offset : ℕ) (reason : Reason) → IsField bytes → (initial_length order 0).Break bytes length_limit offset reason → reason ≢ Truncated
+field_uncut order bytes offset reason is (inr far) = λ e. far_judges far.value (far.refused ∙ ap (λ (r : Reason). Some r) e)
+field_uncut order bytes offset reason is (inl (here, own, inl (inl short))) = elim short.1 [
+  | inl past ↦ λ e. cc
+  | inr cut ↦ elim is [
+    | inl four ↦ absurd (omega (arith, cut.1, four.0))
+    | inr twelve ↦ absurd (omega (arith, cut.1, twelve))
+  ]
+]
+field_uncut order bytes offset reason is (inl (here, own, inl (inr bad))) = λ e. reserved_judges bad.value (bad.refused ∙ ap (λ (r : Reason). Some r) e)
+field_uncut order bytes offset reason is (inl (here, own, inr (a, fits, after))) =
+    let size : length (fixed_bytes order 4 a) ≡ 4 = length-fixed order 4 a in
+    second_uncut order bytes after.rest after.own a (a == 0xffffffff) refl is after.split size (length_limit - length (fixed_bytes order 4 a)) (omega arith) reason after.breaks
+
+-- a length of the 32-bit format doesn't begin with ff ff ff ff
+no_escape : (order : Order) (bytes : List ℕ) (n : ℕ) → Taken (initial_length order 0) bytes length_limit (Dwarf32, n) 4 → take 4 bytes ≡ escape → ⊥
+no_escape order bytes n h e =
+    let more : List ℕ = (optional (n == 0xffffffff) (fixed order 8)).spell None in
+    let fits : 0xffffffff < 256 ^ 4 = omega arith in
+    let front : fixed_bytes order 4 n ++ (more ++ h.rest) ≡ fixed_bytes order 4 0xffffffff ++ drop 4 bytes =
+    sym (append_assoc (fixed_bytes order 4 n) more h.rest) ∙ sym h.split ∙ sym (take-append-drop 4 bytes) ∙ ap (λ (t : List ℕ). t ++ drop 4 bytes) (e ∙ sym (escape_is order)) in
+    let same : n ≡ 0xffffffff = (one_front (fixed order 4) (read_fixed order 4) (fixed_decides order 4) n 0xffffffff (more ++ h.rest) (drop 4 bytes) h.fits.0.0.0 fits front).0 in
+    absurd (subst (λ (m : ℕ). (optional (m == 0xffffffff) (fixed order 8)).Fits None) same h.fits.0.1)
+
+-- a length field that is read is all of the field
+pub field_size : (order : Order) (bytes : List ℕ) (format : Format) (n : ℕ) → InField bytes (length bytes) → Taken (initial_length order 0) bytes length_limit (format, n) (length_size format) → length bytes ≡ length_size format
+field_size order bytes Dwarf64 n inside h = by inside (ap length h.split ∙ length-append (length_bytes order (Dwarf64, n)) h.rest)
+  where
+    by : InField bytes (length bytes) → length bytes ≡ length (length_bytes order (Dwarf64, n)) + length h.rest → length bytes ≡ 12
+    by (inl four) len = absurd (omega (arith, four, len, h.is_size))
+    by (inr twelve) len = omega (arith, twelve.0, len, h.is_size)
+field_size order bytes Dwarf32 n inside h = by inside (ap length h.split ∙ length-append (length_bytes order (Dwarf32, n)) h.rest)
+  where
+    by : InField bytes (length bytes) → length bytes ≡ length (length_bytes order (Dwarf32, n)) + length h.rest → length bytes ≡ 4
+    by (inl four) len = omega (arith, four, len, h.is_size)
+    by (inr twelve) len = absurd (no_escape order bytes n h twelve.1)

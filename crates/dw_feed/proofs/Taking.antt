@@ -1,0 +1,133 @@
+-- What is taken of a reader, step by step.
+use Rattle.std.proofs.Common.{◌≡◌, ℕ, ◌+◌, ◌≤◌, List, [], ◌++◌, length, take, Option, Some, None, refl, ap, subst, ◌∙◌, append_assoc, arith, inl, inr, ◌⊎◌}
+use Rattle.std.proofs.lemmas.List.{length-append, length-take, take-append-le, take_all}
+use Rattle.std.specs.Io.KnownBytes.{Consumes, IsAtEnd}
+use Rattle.dw_leb.specs.declared.errors.ReadError.{ReadError}
+use Rattle.dw_leb.specs.declared.errors.ReadError.TheVariants as reads
+use Rattle.dw_leb.specs.declared.order.Order.{Order}
+use Rattle.dw_leb.specs.declared.order.Format.{Format}
+use Rattle.dw_leb.specs.Part.{Taken}
+use Rattle.dw_leb.specs.Number.{initial_length, length_limit, length_size}
+use Rattle.dw_leb.specs.Watch.{ConsumesUpTo}
+use Rattle.dw_leb.specs.Known.{consumes_more}
+use Rattle.dw_unit.specs.WholeUnit.{WholeUnit, UnitAt, TellsFault, bytes_of}
+use Rattle.dw_feed.specs.Feed.{Had, escape, InField, InUnit, Takes, TakesInUnit, TakesUnit, TellsFirst, TakesNoUnit, FieldRefused, UnitHeld, FailsUpTo, FailsInField, FailsInUnit}
+use Rattle.dw_feed.proofs.Cut.{held_fault, held_unit}
+
+-- what a reader has left, where it tells
+abbrev pub left_of : Option (List ℕ) → List ℕ
+left_of None = []
+left_of (Some bytes) = bytes
+
+pub left_at_end : (new : Option (List ℕ)) → IsAtEnd new → left_of new ≡ []
+left_at_end None h = refl
+left_at_end (Some bytes) h = h
+
+pub had_before : (old new : Option (List ℕ)) (taken : List ℕ) → Consumes old new taken → Had old (taken ++ left_of new)
+had_before None new taken h = tt
+had_before (Some all) None taken h = absurd h
+had_before (Some all) (Some rest) taken h = h
+
+abbrev pub takes_of : (old new : Option (List ℕ)) (taken : List ℕ) → Consumes old new taken → Takes old new (taken ++ left_of new)
+takes_of old new taken h = record { taken = taken; rest = left_of new; had = had_before old new taken h; split = refl; consumed = h }
+
+-- ---- what holds of a front holds of all
+
+field_longer : (bytes rest : List ℕ) (n : ℕ) → InField bytes n → InField (bytes ++ rest) n
+field_longer bytes rest n (inl four) = inl four
+field_longer bytes rest n (inr twelve) =
+    let four : length (take 4 bytes) ≡ 4 = ap length twelve.1 in
+    let le : 4 ≤ length bytes = omega (arith, length-take 4 bytes, four) in
+    inr (twelve.0, take-append-le 4 bytes rest le ∙ twelve.1)
+
+taken_longer : (order : Order) (bytes rest : List ℕ) (x : Format × ℕ) (size : ℕ) → Taken (initial_length order 0) bytes length_limit x size → Taken (initial_length order 0) (bytes ++ rest) length_limit x size
+taken_longer order bytes rest x size h = record { rest = h.rest ++ rest; fits = h.fits; split = ap (λ (b : List ℕ). b ++ rest) h.split ∙ append_assoc ((initial_length order 0).spell x) h.rest rest; is_size = h.is_size; within = h.within }
+
+held_inside : (order : Order) (bytes rest : List ℕ) (new : Option (List ℕ)) → FieldRefused order bytes new ⊎ UnitHeld order bytes new → InUnit order (bytes ++ rest) (length bytes)
+held_inside order bytes rest new (inl h) = inl (field_longer bytes rest (length bytes) h.inside)
+held_inside order bytes rest new (inr h) = inr ((h.format, h.count), taken_longer order bytes rest (h.format, h.count) (length_size h.format) h.field, h.inside)
+
+-- ---- a unit, and its fault
+
+module _ (section : List ℕ) (order : Order) (old new : Option (List ℕ)) (bytes : List ℕ) (took : Consumes old new bytes) (held : FieldRefused order bytes new ⊎ UnitHeld order bytes new) where
+  tells_first : (e : ReadError) → TellsFault section order bytes e → TellsFirst section order (bytes ++ left_of new) e
+  tells_first (reads.Fault f) h = held_fault order section bytes (left_of new) new f.section f.offset f.reason held (left_at_end new) h
+  tells_first reads.NoMemory h = tt
+  tells_first (reads.Io kind) h = tt
+
+  pub takes_no_unit : (e : ReadError) → TellsFault section order bytes e → TakesNoUnit section order old new e
+  takes_no_unit e h = (bytes ++ left_of new, takes_of old new bytes took, tells_first e h, held_inside order bytes (left_of new) new held)
+
+  pub takes_unit : (u : WholeUnit) (size : ℕ) → UnitAt section order bytes u size → TakesUnit section order old new u
+  takes_unit u size h =
+      let same : bytes ≡ bytes_of u = held_unit order section bytes new u size held h in (
+        bytes ++ left_of new,
+        had_before old new bytes took,
+        record { order_is = h.order_is; table_at = h.table_at; fits = h.fits; rest = left_of new; split = ap (λ (b : List ℕ). b ++ left_of new) same; is_size = refl },
+        subst (λ (b : List ℕ). Consumes old new b) same took,
+      )
+
+-- ---- reads that fail
+
+-- up to so many bytes of a length field, behind some of it
+pub field_fails : (old mid new : Option (List ℕ)) (bytes : List ℕ) (most : ℕ) → Consumes old mid bytes → ConsumesUpTo mid new most → (length bytes + most ≤ 4) ⊎ ((bytes ≡ escape) × (most ≤ 8))
+    → (all : List ℕ) × (h : Takes old new all) × InField all (length h.taken)
+field_fails old mid new bytes most took next room =
+    let got : List ℕ = next.0 in
+    let both : Consumes old new (bytes ++ got) = consumes_more old mid new bytes got took next.2 in
+    let sum : length (bytes ++ got) ≡ length bytes + length got = length-append bytes got in
+    ((bytes ++ got) ++ left_of new, takes_of old new (bytes ++ got) both, by got sum next.1 room)
+  where
+    by : (got : List ℕ) → length (bytes ++ got) ≡ length bytes + length got → length got ≤ most → (length bytes + most ≤ 4) ⊎ ((bytes ≡ escape) × (most ≤ 8)) → InField ((bytes ++ got) ++ left_of new) (length (bytes ++ got))
+    by got sum le (inl four) = inl (omega (arith, four))
+    by got sum le (inr (e, eight)) =
+        let len : length bytes ≡ 4 = ap length e in
+        let front : take 4 bytes ≡ bytes = take_all 4 bytes (omega arith) in
+        field_longer (bytes ++ got) (left_of new) (length (bytes ++ got)) (inr (omega (arith, eight), take-append-le 4 bytes got (omega arith) ∙ front ∙ e))
+
+-- up to so many bytes behind a length field that tells them
+pub unit_fails : (order : Order) (old mid new : Option (List ℕ)) (bytes : List ℕ) (x : Format × ℕ) → Consumes old mid bytes → length bytes ≡ length_size x.0
+    → Taken (initial_length order 0) bytes length_limit x (length_size x.0) → ConsumesUpTo mid new x.1 → TakesInUnit order old new
+unit_fails order old mid new bytes x took size field next =
+    let got : List ℕ = next.0 in
+    let both : Consumes old new (bytes ++ got) = consumes_more old mid new bytes got took next.2 in
+    let sum : length (bytes ++ got) ≡ length bytes + length got = length-append bytes got in
+    let there = taken_longer order (bytes ++ got) (left_of new) x (length_size x.0) (taken_longer order bytes got x (length_size x.0) field) in
+    ((bytes ++ got) ++ left_of new, takes_of old new (bytes ++ got) both, inr (x, there, omega (arith, next.1)))
+
+-- what was read behind a length field
+pub unit_held : (order : Order) (new : Option (List ℕ)) (bytes got : List ℕ) (x : Format × ℕ) → length bytes ≡ length_size x.0 → Taken (initial_length order 0) bytes length_limit x (length_size x.0)
+    → length got ≤ x.1 → (length got ≡ x.1) ⊎ IsAtEnd new → UnitHeld order (bytes ++ got) new
+unit_held order new bytes got x size field le whole =
+    let sum : length (bytes ++ got) ≡ length bytes + length got = length-append bytes got in
+    record {
+      format = x.0;
+      count = x.1;
+      field = taken_longer order bytes got x (length_size x.0) field;
+      inside = omega arith;
+      whole = elim whole [ inl e ↦ inl (omega (arith, e)) | inr e ↦ inr e ];
+    }
+
+-- ---- errors that are handed on
+
+pub field_error : (old mid new : Option (List ℕ)) (bytes : List ℕ) (most : ℕ) (e : ReadError) → Consumes old mid bytes
+    → (length bytes + most ≤ 4) ⊎ ((bytes ≡ escape) × (most ≤ 8)) → FailsUpTo mid new most e → FailsInField old new e
+field_error old mid new bytes most (reads.Fault f) took room h = h
+field_error old mid new bytes most reads.NoMemory took room h = field_fails old mid new bytes most took h room
+field_error old mid new bytes most (reads.Io kind) took room h = field_fails old mid new bytes most took h room
+
+pub bytes_error : (order : Order) (old new : Option (List ℕ)) (e : ReadError) → FailsInField old new e → FailsInUnit order old new e
+bytes_error order old new (reads.Fault f) h = h
+bytes_error order old new reads.NoMemory h = (h.0, h.1, inl h.2)
+bytes_error order old new (reads.Io kind) h = (h.0, h.1, inl h.2)
+
+pub rest_error : (order : Order) (old mid new : Option (List ℕ)) (bytes : List ℕ) (x : Format × ℕ) (e : ReadError) → Consumes old mid bytes → length bytes ≡ length_size x.0
+    → Taken (initial_length order 0) bytes length_limit x (length_size x.0) → FailsUpTo mid new x.1 e → FailsInUnit order old new e
+rest_error order old mid new bytes x (reads.Fault f) took size field h = h
+rest_error order old mid new bytes x reads.NoMemory took size field h = unit_fails order old mid new bytes x took size field h
+rest_error order old mid new bytes x (reads.Io kind) took size field h = unit_fails order old mid new bytes x took size field h
+
+pub unit_error : (section : List ℕ) (order : Order) (old new : Option (List ℕ)) (e : ReadError) → FailsInUnit order old new e → TakesNoUnit section order old new e
+unit_error section order old new (reads.Fault f) h = absurd h
+unit_error section order old new reads.NoMemory h = (h.0, h.1, tt, h.2)
+unit_error section order old new (reads.Io kind) h = (h.0, h.1, tt, h.2)

@@ -1,0 +1,116 @@
+-- What a read of a unit answers and takes.
+use Rattle.std.specs.Prelude.{◌≡◌, ◌≢◌, ℕ, ◌+◌, ◌≤◌, List, [], ◌∷◌, ◌++◌, length, take, Option, Some, None, Bool, true, false, Result, Ok, Err, ◌⊎◌}
+use Rattle.std.specs.Io.KnownBytes.{Consumes, IsAtEnd}
+use Rattle.dw_leb.specs.declared.errors.Reason.{Reason}
+use Rattle.dw_leb.specs.declared.errors.Reason.TheVariants.{Truncated}
+use Rattle.dw_leb.specs.declared.errors.ReadError.{ReadError}
+use Rattle.dw_leb.specs.declared.errors.ReadError.TheVariants as reads
+use Rattle.dw_leb.specs.declared.order.Order.{Order}
+use Rattle.dw_leb.specs.declared.order.Format.{Format}
+use Rattle.dw_leb.specs.Part.{Taken}
+use Rattle.dw_leb.specs.Number.{initial_length, length_limit, length_size}
+use Rattle.dw_leb.specs.Watch.{ConsumesUpTo}
+use Rattle.dw_unit.specs.Unit.{Fails}
+use Rattle.dw_unit.specs.WholeUnit.{WholeUnit, UnitAt, bytes_of}
+
+-- All that a reader had left. A reader that doesn't tell its bytes had some.
+abbrev pub Had : Option (List ℕ) → List ℕ → Type 0
+Had None all = Unit {0}
+Had (Some bytes) all = bytes ≡ all
+
+-- the four bytes that begin a length of the 64-bit format
+abbrev pub escape : List ℕ
+escape = 255 ∷ 255 ∷ 255 ∷ 255 ∷ []
+
+-- so many bytes are at most the length field: four bytes, and eight more where those are ff ff ff ff
+abbrev pub InField : List ℕ → ℕ → Type 0
+InField all n = (n ≤ 4) ⊎ ((n ≤ 12) × (take 4 all ≡ escape))
+
+-- so many bytes are at most the length field, or at most the unit whose length it tells
+abbrev pub InUnit : Order → List ℕ → ℕ → Type 0
+InUnit order all n = InField all n ⊎ ((x : Format × ℕ) × Taken (initial_length order 0) all length_limit x (length_size x.0) × (n ≤ length_size x.0 + x.1))
+
+-- of all that a reader had left some bytes were taken
+pub record Takes (old new : Option (List ℕ)) (all : List ℕ) : Type 0 where
+  pub taken : List ℕ
+  pub rest : List ℕ
+  pub had : Had old all
+  pub split : all ≡ taken ++ rest
+  pub consumed : Consumes old new taken
+
+-- no byte was taken past the unit's end, and none past the length field where that is unread or refused
+abbrev pub TakesInUnit : Order → Option (List ℕ) → Option (List ℕ) → Type 0
+TakesInUnit order old new = (all : List ℕ) × (h : Takes old new all) × InUnit order all (length h.taken)
+
+-- the unit stands at the front of all that the reader had left, and exactly its bytes were taken
+abbrev pub TakesUnit : List ℕ → Order → Option (List ℕ) → Option (List ℕ) → WholeUnit → Type 0
+TakesUnit section order old new u = (all : List ℕ) × Had old all × UnitAt section order all u (length (bytes_of u)) × Consumes old new (bytes_of u)
+
+-- a fault is the first one of all that the reader had left
+abbrev pub TellsFirst : List ℕ → Order → List ℕ → ReadError → Type 0
+TellsFirst section order all (reads.Fault f) = Fails order section all f.section f.offset f.reason
+TellsFirst section order all reads.NoMemory = Unit {0}
+TellsFirst section order all (reads.Io kind) = Unit {0}
+
+-- no unit is read: what the error tells, and that no byte was taken past the unit's end
+abbrev pub TakesNoUnit : List ℕ → Order → Option (List ℕ) → Option (List ℕ) → ReadError → Type 0
+TakesNoUnit section order old new e = (all : List ℕ) × (h : Takes old new all) × TellsFirst section order all e × InUnit order all (length h.taken)
+
+-- ---- how it is read
+
+-- a read of up to so many bytes fails: at most those were taken
+abbrev pub FailsUpTo : Option (List ℕ) → Option (List ℕ) → ℕ → ReadError → Type 0
+FailsUpTo old new most (reads.Fault f) = ⊥
+FailsUpTo old new most reads.NoMemory = ConsumesUpTo old new most
+FailsUpTo old new most (reads.Io kind) = ConsumesUpTo old new most
+
+-- what a read of up to so many bytes puts behind those that are held: all of them, or all that the reader had left
+abbrev pub ReadsUpTo : {X : Type 0} → List ℕ → List ℕ → Option (List ℕ) → Option (List ℕ) → ℕ → Result X ReadError → Type 0
+ReadsUpTo held now old new most (Ok x) = (got : List ℕ) × (now ≡ held ++ got) × (length got ≤ most) × Consumes old new got × ((length got ≡ most) ⊎ IsAtEnd new)
+ReadsUpTo held now old new most (Err e) = FailsUpTo old new most e
+
+-- the whole of a length field: twelve bytes, or four that are not ff ff ff ff
+abbrev pub IsField : List ℕ → Type 0
+IsField bytes = ((length bytes ≡ 4) × (bytes ≢ escape)) ⊎ (length bytes ≡ 12)
+
+-- a read of a length field fails: at most the field was taken
+abbrev pub FailsInField : Option (List ℕ) → Option (List ℕ) → ReadError → Type 0
+FailsInField old new (reads.Fault f) = ⊥
+FailsInField old new reads.NoMemory = (all : List ℕ) × (h : Takes old new all) × InField all (length h.taken)
+FailsInField old new (reads.Io kind) = (all : List ℕ) × (h : Takes old new all) × InField all (length h.taken)
+
+-- what a read of a length field gives: the whole field, or all that the reader had left
+abbrev pub ReadsField : {X : Type 0} → (X → List ℕ) → Option (List ℕ) → Option (List ℕ) → Result X ReadError → Type 0
+ReadsField view old new (Ok x) = Consumes old new (view x) × InField (view x) (length (view x)) × (IsField (view x) ⊎ IsAtEnd new)
+ReadsField view old new (Err e) = FailsInField old new e
+
+-- a length field that is refused; as cut only where the reader has no more
+pub record FieldRefused (order : Order) (bytes : List ℕ) (new : Option (List ℕ)) : Type 0 where
+  pub reason : Reason
+  pub breaks : (initial_length order 0).Break bytes length_limit 0 reason
+  pub inside : InField bytes (length bytes)
+  pub why : (reason ≢ Truncated) ⊎ IsAtEnd new
+
+-- a length field, and behind it the bytes that it tells, or fewer where the reader has no more
+pub record UnitHeld (order : Order) (bytes : List ℕ) (new : Option (List ℕ)) : Type 0 where
+  pub format : Format
+  pub count : ℕ
+  pub field : Taken (initial_length order 0) bytes length_limit (format, count) (length_size format)
+  pub inside : length bytes ≤ length_size format + count
+  pub whole : (length bytes ≡ length_size format + count) ⊎ IsAtEnd new
+
+-- a read of a unit's bytes fails: at most the unit was taken
+abbrev pub FailsInUnit : Order → Option (List ℕ) → Option (List ℕ) → ReadError → Type 0
+FailsInUnit order old new (reads.Fault f) = ⊥
+FailsInUnit order old new reads.NoMemory = TakesInUnit order old new
+FailsInUnit order old new (reads.Io kind) = TakesInUnit order old new
+
+-- what a read of a unit's bytes gives
+abbrev pub ReadsBytes : {X : Type 0} → (X → List ℕ) → Order → Option (List ℕ) → Option (List ℕ) → Result X ReadError → Type 0
+ReadsBytes view order old new (Ok x) = Consumes old new (view x) × (FieldRefused order (view x) new ⊎ UnitHeld order (view x) new)
+ReadsBytes view order old new (Err e) = FailsInUnit order old new e
+
+-- whether these are the bytes that begin a length of the 64-bit format
+abbrev pub IsEscape : List ℕ → Bool → Type 0
+IsEscape bytes true = bytes ≡ escape
+IsEscape bytes false = bytes ≢ escape

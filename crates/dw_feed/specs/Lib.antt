@@ -1,0 +1,4 @@
+pub mod Uncut
+pub mod UncutUnit
+pub mod Feed
+pub mod Laws

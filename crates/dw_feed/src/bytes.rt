@@ -1,0 +1,92 @@
+//! The bytes of a unit, taken from a reader.
+ghost use Rattle.std.specs.Prelude.{◌≡◌, None, vec_items};
+ghost use Rattle.dw_leb.specs.Watch.{inner_of, fault_of, told_by_read};
+ghost use Rattle.dw_feed.specs.Feed.{ReadsBytes, ReadsField, ReadsUpTo, IsEscape};
+
+use dw_leb::{Order, ReadError, Watched, read_length};
+use std::alloc::Global;
+use std::io::Read;
+
+const CHUNK: usize = 4096;
+
+/// The bytes of the unit at the front of what the reader has left: as many as its initial length
+/// tells (sections 7.2.2 and 7.4), or fewer where the reader has no more. Where the initial length is
+/// cut or refused, the bytes of that field alone.
+pub fn unit_bytes<R: Read>(
+    alloc: Global,
+    order: Order,
+    reader: &mut Watched<R>,
+) -> Result<Vec<u8>, ReadError>
+    requires { fault_of reader.old ≡ None }
+    ensures bytes { ReadsBytes vec_items order
+        (R.remaining (inner_of reader.old))
+        (R.remaining (inner_of reader.new))
+        result }
+    ensures fault { fault_of reader.new ≡ told_by_read result }
+{
+    let mut bytes = field_bytes(alloc, reader)?;
+    match read_length(order, 0, bytes.as_slice()) {
+        Ok((_, length)) => {
+            read_up_to(reader, length, &mut bytes)?;
+            Ok(bytes)
+        }
+        Err(_) => Ok(bytes),
+    }
+}
+
+/// The bytes of an initial length: four, and eight more where those are ff ff ff ff.
+fn field_bytes<R: Read>(alloc: Global, reader: &mut Watched<R>) -> Result<Vec<u8>, ReadError>
+    requires { fault_of reader.old ≡ None }
+    ensures bytes { ReadsField vec_items
+        (R.remaining (inner_of reader.old))
+        (R.remaining (inner_of reader.new))
+        result }
+    ensures fault { fault_of reader.new ≡ told_by_read result }
+{
+    let mut bytes = Vec::new(alloc);
+    read_up_to(reader, 4, &mut bytes)?;
+    if is_escape(bytes.as_slice()) {
+        read_up_to(reader, 8, &mut bytes)?;
+    }
+    Ok(bytes)
+}
+
+/// Whether these are the four bytes that begin a length of the 64-bit format.
+fn is_escape(bytes: &[u8]) -> bool
+    ensures { IsEscape bytes.now result }
+{
+    bytes == [0xff, 0xff, 0xff, 0xff].as_slice()
+}
+
+/// Puts the next `most` bytes of the reader behind `bytes`, or fewer where it has no more. `bytes`
+/// grows by what comes.
+fn read_up_to<R: Read>(
+    reader: &mut Watched<R>,
+    most: u64,
+    bytes: &mut Vec<u8>,
+) -> Result<(), ReadError>
+    requires { fault_of reader.old ≡ None }
+    ensures bytes { ReadsUpTo bytes.old.items bytes.new.items
+        (R.remaining (inner_of reader.old))
+        (R.remaining (inner_of reader.new))
+        most result }
+    ensures fault { fault_of reader.new ≡ told_by_read result }
+{
+    let mut chunk = [0u8; CHUNK];
+    let mut left = most;
+    while left > 0 {
+        let want = left.min(CHUNK as u64) as usize;
+        let got = match reader.read(&mut chunk[..want]) {
+            Ok(got) => got,
+            Err(e) => return Err(ReadError::Io(e.kind())),
+        };
+        if got == 0 {
+            return Ok(());
+        }
+        if bytes.extend_from_slice(&chunk[..got]).is_err() {
+            return Err(ReadError::NoMemory);
+        }
+        left -= got as u64;
+    }
+    Ok(())
+}

@@ -1,0 +1,10 @@
+//! Units of DWARF 5 from any reader, in whatever pieces their bytes come (section 7.5).
+#![tactic(auto)]
+
+mod bytes;
+pub mod laws;
+mod reader;
+#[cfg(test)]
+mod tests;
+
+pub use reader::read_unit_from;
