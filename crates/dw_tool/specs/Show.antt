@@ -4,11 +4,12 @@ use Rattle.std.specs.Fmt.{signed_decimal}
 use Rattle.dw_leb.specs.declared.order.Format.{Format}
 use Rattle.dw_leb.specs.declared.order.Format.TheVariants.{Dwarf32, Dwarf64}
 use Rattle.dw_form.specs.Form.{Value, Num, Wide, Uleb, Sleb, Block, Text, Present, Implicit}
+use Rattle.dw_abbrev.specs.Table.{declared}
+use Rattle.dw_tree.specs.Lent.{LentAttribute, EntryAt, attributes_of, code_of, entries_of, tag_of}
 use Rattle.dw_unit.specs.declared.kind.Kind.{Kind}
 use Rattle.dw_unit.specs.declared.kind.Kind.TheVariants.{Compile, Partial, TypeUnit, Skeleton}
 use Rattle.dw_unit.specs.Header.{Header}
-use Rattle.dw_unit.specs.LentEntry.{LentAttribute, LentEntry, root_entry}
-use Rattle.dw_unit.specs.WholeUnit.{WholeUnit, bytes_of}
+use Rattle.dw_unit.specs.WholeUnit.{WholeUnit, bytes_of, tree_of}
 use Rattle.dw_tool.specs.Text.{attribute_text, block, hexadecimal, quoted, tag_text}
 
 abbrev pub value_text : Value → List ℕ
@@ -37,12 +38,20 @@ abbrev pub attribute_lines : List LentAttribute → List ℕ
 attribute_lines [] = []
 attribute_lines (a ∷ rest) = attribute_line a ++ attribute_lines rest
 
--- its depth, its offset and its tag
-abbrev pub entry_line : LentEntry → List ℕ
-entry_line e = labelled_decimal (codes "<") e.depth ++ (labelled (codes "> ") e.offset ++ (codes " " ++ (tag_text e.tag ++ codes "\n")))
+-- the tag that an entry's declaration gives it
+abbrev pub tag_at : EntryAt → ℕ
+tag_at e = tag_of (declared e.table (code_of e.node).value)
 
-abbrev pub entry_text : LentEntry → List ℕ
-entry_text e = entry_line e ++ attribute_lines e.attributes
+-- its depth, its offset and its tag
+abbrev pub entry_line : EntryAt → List ℕ
+entry_line e = labelled_decimal (codes "<") e.depth ++ (labelled (codes "> ") e.offset ++ (codes " " ++ (tag_text (tag_at e) ++ codes "\n")))
+
+abbrev pub entry_text : EntryAt → List ℕ
+entry_text e = entry_line e ++ attribute_lines (attributes_of e)
+
+abbrev pub entries_text : List EntryAt → List ℕ
+entries_text [] = []
+entries_text (e ∷ rest) = entry_text e ++ entries_text rest
 
 -- ---- units
 
@@ -71,6 +80,6 @@ header_sizes h size = labelled_decimal (codes " size ") size ++ (labelled (codes
 abbrev pub header_line : Header → ℕ → List ℕ
 header_line h size = codes "unit 0x0 " ++ (kind_text h.kind ++ (format_text h.format ++ (header_sizes h size ++ (added_text h.kind ++ codes "\n"))))
 
--- a unit that begins its section: its header, and its one entry
+-- a unit that begins its section: its header, and its entries, each before those below it
 abbrev pub unit_text : WholeUnit → List ℕ
-unit_text u = header_line u.header (length (bytes_of u)) ++ entry_text (root_entry u)
+unit_text u = header_line u.header (length (bytes_of u)) ++ entries_text (entries_of (tree_of u))

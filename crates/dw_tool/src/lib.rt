@@ -2,6 +2,10 @@
 #![tactic(auto)]
 
 pub mod command;
+#[cfg(test)]
+mod example_tests;
+#[cfg(test)]
+mod examples;
 pub mod line;
 pub mod names;
 pub mod run;

@@ -15,31 +15,45 @@ use dw_unit::{Unit, read_unit, write_unit};
 use std::alloc::Global;
 use std::io::{Read, Write};
 
-/// Reads all of `.debug_info` from `info`, and writes what the command makes of it: the text of its
-/// unit, or its bytes. An empty section gives nothing. Nothing is written before the whole section
-/// was read, and nothing at all where it is refused.
+/// The sections that a run reads, and their byte order.
+#[derive(Drop)]
+pub struct Inputs<'a, R> {
+    /// The byte order of the fixed numbers in both sections.
+    pub order: Order,
+    /// The reader of `.debug_info`.
+    pub info: &'a mut Watched<R>,
+    /// The bytes of `.debug_abbrev`.
+    pub abbrev: &'a [u8],
+}
+
+/// Reads all of `.debug_info` from `inputs.info`, and writes what the command makes of it: the text
+/// of its unit, or its bytes. An empty section gives nothing. Nothing is written before the whole
+/// section was read, and nothing at all where it is refused.
 ///
 /// Errors: `Fault` with the first fault, `Read` and `Write` where the reader or the writer failed,
 /// `Memory` where a growth was refused. After `Write` a beginning of the output was written.
 pub fn run<R: Read, W: Write>(
     alloc: Global,
     command: Command,
-    order: Order,
-    abbrev: &[u8],
-    info: &mut Watched<R>,
+    inputs: Inputs<'_, R>,
     writer: &mut Watched<W>,
 ) -> Result<Status, ToolError>
-    requires reader { fault_of info.old ≡ None }
+    requires reader { fault_of inputs.info.now ≡ None }
     requires writer { fault_of writer.old ≡ None }
-    ensures runs { Runs command order abbrev.now
-        (R.remaining (inner_of info.old))
-        (R.remaining (inner_of info.new))
+    ensures runs { Runs command inputs.entry.order inputs.entry.abbrev.now
+        (R.remaining (inner_of inputs.entry.info.now))
+        (R.remaining (inner_of inputs.exit.1.0.now))
         (W.contents (inner_of writer.old))
         (W.contents (inner_of writer.new))
         result }
-    ensures read { fault_of info.new ≡ told_by_reading result }
+    ensures read { fault_of inputs.exit.1.0.now ≡ told_by_reading result }
     ensures write { fault_of writer.new ≡ told_by_writing result }
 {
+    let Inputs {
+        order,
+        info,
+        abbrev,
+    } = inputs;
     let bytes = read_all(alloc, info)?;
     let section = read_section(alloc, order, abbrev, bytes.as_slice())?;
     write_section(alloc, command, &section, writer)?;
@@ -53,16 +67,16 @@ pub fn run<R: Read, W: Write>(
 pub fn read_section(
     alloc: Global,
     order: Order,
-    abbrev: &[u8],
+    abbreviations: &[u8],
     info: &[u8],
 ) -> Result<Option<Unit>, ToolError>
-    ensures found { IfOk result (IsSection abbrev.now order info.now) }
-    ensures broken { IfErr result (Tells abbrev.now order info.now) }
+    ensures found { IfOk result (IsSection abbreviations.now order info.now) }
+    ensures broken { IfErr result (Tells abbreviations.now order info.now) }
 {
     if info.is_empty() {
         return Ok(None);
     }
-    let mut tables = Tables::new(alloc, abbrev);
+    let mut tables = Tables::new(alloc, abbreviations);
     let (unit, size) = read_unit(alloc, order, &mut tables, info)?;
     if size < info.len() {
         return Err(ToolError::Fault(Fault {

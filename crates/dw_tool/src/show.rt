@@ -1,8 +1,8 @@
 //! The text of a unit: a line for its header, one for each entry, and one for each attribute.
 ghost use Rattle.std.specs.Prelude.{◌≡◌, ◌++◌, codes, decimal};
 ghost use Rattle.dw_form.specs.Lent.{attribute_of, value_of};
-ghost use Rattle.dw_unit.specs.LentView.{attr_of};
-ghost use Rattle.dw_tool.specs.Show.{added_text, attribute_line, attribute_lines, entry_line, entry_text, format_text, header_line, header_sizes, kind_text, labelled, labelled_decimal, unit_text, value_text};
+ghost use Rattle.dw_tree.specs.Lent.{attr_of};
+ghost use Rattle.dw_tool.specs.Show.{added_text, attribute_line, attribute_lines, entries_text, entry_line, entry_text, format_text, header_line, header_sizes, kind_text, labelled, labelled_decimal, unit_text, value_text};
 ghost use Rattle.dw_tool.specs.Text.{Appends};
 
 use crate::text::{
@@ -11,7 +11,7 @@ use crate::text::{
 };
 use dw_form::Value;
 use dw_leb::Format;
-use dw_unit::{AttrRef, Attrs, EntryRef, Header, Kind, Unit};
+use dw_unit::{AttrRef, Attrs, Entries, EntryRef, Header, Kind, Unit};
 use std::alloc::AllocError;
 
 /// Appends the text of a unit that begins its section: the line of its header, and its entries.
@@ -19,7 +19,17 @@ pub fn push_unit(out: &mut Vec<u8>, unit: &Unit) -> Result<(), AllocError>
     ensures { Appends result out.old.items (unit_text unit.now) out.new.items }
 {
     push_header(out, unit.header(), unit.size())?;
-    push_entry(out, &unit.root())
+    push_entries(out, unit.entries())
+}
+
+/// Appends the texts of entries, one behind the other.
+pub fn push_entries(out: &mut Vec<u8>, entries: Entries<'_>) -> Result<(), AllocError>
+    ensures { Appends result out.old.items (entries_text entries.entry) out.new.items }
+{
+    for entry in entries {
+        push_entry(out, &entry)?;
+    }
+    Ok(())
 }
 
 /// Appends the line of an entry, and one for each of its attributes, in their order.

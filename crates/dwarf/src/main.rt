@@ -6,7 +6,7 @@
 use dw_leb::{Fault, Section, Watched};
 use dw_tool::command::{Line, LineError};
 use dw_tool::line::line;
-use dw_tool::run::run;
+use dw_tool::run::{Inputs, run};
 use dw_tool::status::ToolError;
 use std::io::ErrorKind;
 use std::process::ExitCode;
@@ -59,12 +59,15 @@ fn act_on(rt: &(impl AllocGlobal + Files + Print + Eprint), line: &Line<'_>) -> 
         Ok(info) => info,
         Err(error) => return file_failed(rt, line.info, error.kind()),
     };
+    let inputs = Inputs {
+        order: line.order,
+        info: &mut Watched::new(info),
+        abbrev: abbrev.as_slice(),
+    };
     let ran = run(
         rt.alloc(),
         line.command,
-        line.order,
-        abbrev.as_slice(),
-        &mut Watched::new(info),
+        inputs,
         &mut Watched::new(io::writer(rt)),
     );
     match ran {

@@ -1,6 +1,5 @@
 use Rattle.std.proofs.Common.{rules, List, subst}
-use Rattle.dw_unit.specs.LentEntry.{LentAttribute}
-use Rattle.dw_unit.specs.LentView.{attr_of}
+use Rattle.dw_tree.specs.Lent.{LentAttribute, attr_of}
 use Rattle.dw_tool.specs.Show.{attribute_line, attribute_lines}
 use Rattle.dw_tool.proofs.Appending.{Reaches, reaches_stopped}
 use Rattle.dw_tool.proofs.show.push_attributes.Goals as goal
