@@ -1,5 +1,5 @@
 -- What a stored value stands for.
-use Rattle.std.specs.Prelude.{◌≡◌, ◌≤◌, ◌<◌, ◌+◌, ◌*◌, ◌^◌, ℕ, List, [], ◌++◌, length, take, drop, Option, option_map, IfSome}
+use Rattle.std.specs.Prelude.{◌≡◌, ◌≤◌, ◌<◌, ◌+◌, ◌*◌, ◌^◌, ℕ, List, [], ◌++◌, length, take, drop, Option, Some, None, option_map, IfSome}
 use Rattle.std.proofs.Common.{refl, ap, ◌∙◌, ◌-◌, arith}
 use Rattle.std.proofs.lemmas.List.{length-drop, drop-append-le, take-append-le}
 use Rattle.dw_leb.specs.Number.{Unsigned}
@@ -46,6 +46,11 @@ kept_value pool (kept.Implicit via s) = Implicit (sleb_of s)
 -- the value that is stored, its bytes being a part of the pool
 abbrev pub content : List ℕ → Stored → Attribute
 content pool s = record { via = option_map via_form (kept_via s.kept); value = kept_value pool s.kept }
+
+-- a text, or a block whose length field has a width
+abbrev pub text_or_block : Option ℕ → List ℕ → Value
+text_or_block None bytes = Text bytes
+text_or_block (Some width) bytes = Block width bytes
 
 -- the content of a text or block
 abbrev pub value_bytes : Value → List ℕ

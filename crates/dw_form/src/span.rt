@@ -1,5 +1,5 @@
 //! A part of a pool of bytes.
-ghost use Rattle.std.specs.Prelude.{◌≡◌, ◌<◌, ◌+◌, ◌++◌, length, vec_len, vec_capacity, IfOk, OnErr};
+ghost use Rattle.std.specs.Prelude.{◌≡◌, ◌≤◌, ◌<◌, ◌+◌, ◌++◌, length, drop, vec_len, vec_capacity, IfOk, OnErr};
 ghost use Rattle.dw_form.specs.Kept.{part, SpanFits};
 
 use std::alloc::AllocError;
@@ -26,6 +26,16 @@ impl Span {
         pool.extend_from_slice(bytes)?;
         let len = bytes.len();
         Ok(Span { start, len })
+    }
+
+    /// The bytes from `start` to the end of the pool.
+    pub(crate) fn end_of(pool: &[u8], start: usize) -> Span
+        requires { start ≤ length pool.now }
+        ensures part { part pool.now result ≡ drop start pool.now }
+        ensures fits { SpanFits (length pool.now) result }
+    {
+        let len = pool.len() - start;
+        Span { start, len }
     }
 
     /// The bytes, lent from the pool.

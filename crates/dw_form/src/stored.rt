@@ -1,7 +1,8 @@
 //! Values of attributes, stored over a pool of bytes.
-ghost use Rattle.std.specs.Prelude.{◌≡◌, ◌<◌, ◌+◌, ◌*◌, ◌^◌, ◌++◌, length, vec_len, vec_capacity, IfOk, OnErr};
+ghost use Rattle.std.specs.Prelude.{◌≡◌, ◌≤◌, ◌<◌, ◌+◌, ◌*◌, ◌^◌, ◌++◌, length, drop, vec_len, vec_capacity, option_map, IfOk, IfSome, OnErr};
+ghost use Rattle.dw_leb.specs.View.{uleb_of};
 ghost use Rattle.dw_form.specs.Lent.{attribute_of};
-ghost use Rattle.dw_form.specs.Kept.{content, bytes_in, StoredFits, NamesForm};
+ghost use Rattle.dw_form.specs.Kept.{content, bytes_in, text_or_block, via_form, StoredFits, NamesForm};
 
 use crate::span::Span;
 use crate::value::{AttrValue, Value};
@@ -49,10 +50,7 @@ impl Stored {
             (vec_capacity pool.old
             < vec_len pool.old + length (bytes_in (attribute_of value.now))) }
     {
-        let via = match value.via {
-            Some(form) => Some(Via::new(form)),
-            None => None,
-        };
+        let via = named(value.via);
         let kept = match value.value {
             Value::Num(x) => Kept::Num(via, x),
             Value::Wide(x) => {
@@ -67,6 +65,25 @@ impl Stored {
             Value::Implicit(x) => Kept::Implicit(via, x),
         };
         Ok(Stored { kept })
+    }
+
+    /// Stores a text, or a block whose length field has `width` bytes, that stands in the pool
+    /// already: its bytes are those from `start` to the pool's end.
+    ///
+    /// An indirect value names a form by a number of 16 bits.
+    pub fn of_end(via: Option<Uleb>, width: Option<u8>, start: usize, pool: &[u8]) -> Stored
+        requires names { IfSome via (λ u. u.value < 2 ^ 16) }
+        requires within { start ≤ length pool.now }
+        ensures content { content pool.now result ≡ record { via = option_map uleb_of via; value = text_or_block width (drop start pool.now) } }
+        ensures fits { StoredFits (length pool.now) result }
+    {
+        let via = named(via);
+        let span = Span::end_of(pool, start);
+        let kept = match width {
+            Some(width) => Kept::Block(width, via, span),
+            None => Kept::Text(via, span),
+        };
+        Stored { kept }
     }
 
     /// The value, its bytes being lent from the pool in which it was stored, or from one that
@@ -93,6 +110,17 @@ impl Stored {
             None => None,
         };
         AttrValue { via, value }
+    }
+}
+
+/// The form that an indirect value names, as it is kept.
+fn named(form: Option<Uleb>) -> Option<Via>
+    requires { IfSome form (λ u. u.value < 2 ^ 16) }
+    ensures { option_map via_form result ≡ option_map uleb_of form }
+{
+    match form {
+        Some(form) => Some(Via::new(form)),
+        None => None,
     }
 }
 

@@ -5,6 +5,7 @@ pub mod Grown
 pub mod Stands
 pub mod Closes
 pub mod Drafts
+pub mod Begins
 pub mod Limits
 pub mod Fits
 pub mod Whole

@@ -1,5 +1,5 @@
 -- What the flat lists of a tree stand for.
-use Rattle.std.specs.Prelude.{◌≢◌, ℕ, ◌+◌, ◌<◌, ◌≤◌, get_or, List, length, take, drop, map, Option, option_map}
+use Rattle.std.specs.Prelude.{◌≢◌, ℕ, ◌+◌, ◌<◌, ◌≤◌, get_or, List, length, take, drop, map, Option, option_map, None}
 use Rattle.dw_leb.specs.Number.{Unsigned}
 use Rattle.dw_leb.specs.View.{uleb_of}
 use Rattle.dw_leb.specs.Part.{Part}
@@ -47,7 +47,7 @@ tokens t rows values pool = map (token_of t values pool) rows
 
 -- the entry that is being read
 abbrev pub unread_of : List Stored → List ℕ → Reading → Unread
-unread_of values pool r = record { code = uleb_of r.code; values = contents (drop r.first values) pool }
+unread_of values pool r = record { code = uleb_of r.code; values = contents (drop r.first values) pool; begun = None }
 
 abbrev pub place_of : Table → List Row → List Stored → List ℕ → Option Reading → Place
 place_of t rows values pool reading = record {

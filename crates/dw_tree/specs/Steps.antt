@@ -5,10 +5,11 @@ use Rattle.std.specs.Coded.{Coded, code_by, coded×, coded_ℕ}
 use Rattle.dw_leb.specs.Number.{Unsigned, uleb}
 use Rattle.dw_form.specs.declared.shape.Ctx.{Ctx}
 use Rattle.dw_form.specs.Form.{Attribute, attribute}
+use Rattle.dw_form.specs.Kept.{text_or_block}
 use Rattle.dw_abbrev.specs.Table.{Pair, Declaration, Table, declared}
 use Rattle.dw_tree.specs.Tree.{Tree, leaf, Forest, none, more, values, pairs_of}
 use Rattle.dw_tree.specs.Row.{rows_bytes}
-use Rattle.dw_tree.specs.Place.{Frame, Spot, add, enter, leave, rows_before, Unread, Place, place_code}
+use Rattle.dw_tree.specs.Place.{Frame, Spot, add, enter, leave, rows_before, Begun, Unread, Place, place_code}
 use Rattle.dw_tree.specs.Codes.{context_code, table_code, tree_code}
 
 -- a tree under construction, whose root begins at this offset of its unit
@@ -26,7 +27,7 @@ growing_code = code_by (Ctx × (Table × (ℕ × Place))) (coded× context_code 
 abbrev pub settled : Bool → Bool → Spot → Unsigned → List Attribute → Place
 settled true true s code vs = record { spot = enter code vs s; reading = None }
 settled true false s code vs = record { spot = add (leaf code vs) s; reading = None }
-settled false children s code vs = record { spot = s; reading = Some (record { code = code; values = vs }) }
+settled false children s code vs = record { spot = s; reading = Some (record { code = code; values = vs; begun = None }) }
 
 -- an entry is given these values so far
 abbrev pub settle_by : Option Declaration → Spot → Unsigned → List Attribute → Place
@@ -48,6 +49,39 @@ value_at v g (Some r) = record g { place = settle g.table g.place.spot r.code (r
 abbrev pub with_value : Attribute → Growing → Growing
 with_value v g = value_at v g g.place.reading
 
+-- what has begun of the entry that is read
+abbrev pub begun_in : Option Unread → Option Begun
+begun_in None = None
+begun_in (Some r) = r.begun
+
+abbrev pub begins : Option Begun → Unread → Unread
+begins o r = record { code = r.code; values = r.values; begun = o }
+
+abbrev pub with_begun : Option Begun → Growing → Growing
+with_begun o g = record g { place = record { spot = g.place.spot; reading = option_map (begins o) g.place.reading } }
+
+-- a text or block begins, of which no bytes are there yet
+abbrev pub started : Option Unsigned → Option ℕ → Growing → Growing
+started via width g = with_begun (Some (record { via = via; width = width; bytes = [] })) g
+
+-- more of its bytes are there
+abbrev pub longer : List ℕ → Begun → Begun
+longer bytes b = record { via = b.via; width = b.width; bytes = b.bytes ++ bytes }
+
+abbrev pub extended : List ℕ → Growing → Growing
+extended bytes g = with_begun (option_map (longer bytes) (begun_in g.place.reading)) g
+
+-- it is a value with the bytes that it has
+abbrev pub begun_value : Begun → Attribute
+begun_value b = record { via = b.via; value = text_or_block b.width b.bytes }
+
+abbrev pub ended_by : Option Begun → Growing → Growing
+ended_by None g = g
+ended_by (Some b) g = with_value (begun_value b) g
+
+abbrev pub ended : Growing → Growing
+ended g = ended_by (begun_in g.place.reading) g
+
 -- the innermost open entry is closed
 abbrev pub closed_at : ℕ → Growing → Growing
 closed_at w g = record g { place = record { spot = leave w g.place.spot; reading = None } }
@@ -56,7 +90,7 @@ closed_at w g = record g { place = record { spot = leave w g.place.spot; reading
 abbrev pub undone : Growing → Growing
 undone g = record g { place = record { spot = g.place.spot; reading = None } }
 
--- ---- the bytes so far, and where the next one stands
+-- ---- the bytes so far, and where the next one stands; those of a value that has begun aside
 
 -- the values of the first pairs, as many as there are values
 abbrev pub first_values : Ctx → List Pair → List Attribute → List ℕ

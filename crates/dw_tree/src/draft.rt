@@ -1,5 +1,5 @@
 //! A tree under construction.
-ghost use Rattle.std.specs.Prelude.{◌≡◌, ◌≢◌, ◌+◌, ◌<◌, ◌≤◌, ◌^◌, ◌-◌, [], length, IfOk, None, Some, IsSome, OnOk, OnErr, vec_len, vec_capacity};
+ghost use Rattle.std.specs.Prelude.{◌≡◌, ◌≢◌, ◌+◌, ◌<◌, ◌≤◌, ◌^◌, ◌-◌, [], length, option_map, IfOk, IfSome, None, Some, IsSome, OnOk, OnErr, vec_len, vec_capacity};
 ghost use Rattle.dw_leb.specs.Number.{uleb};
 ghost use Rattle.dw_leb.specs.View.{uleb_of};
 ghost use Rattle.dw_form.specs.Form.{IsContext};
@@ -9,9 +9,9 @@ ghost use Rattle.dw_tree.specs.Tree.{nesting, tree as part};
 ghost use Rattle.dw_tree.specs.Place.{nowhere};
 ghost use Rattle.dw_tree.specs.Standing.{is_bare};
 ghost use Rattle.dw_tree.specs.Settled.{settled_rows, settled_open, settled_reading};
-ghost use Rattle.dw_tree.specs.Steps.{begun_at, with_value, closed_at, undone, end_of, NextFits, next_bytes, finished};
+ghost use Rattle.dw_tree.specs.Steps.{begun_at, with_value, begun_in, begun_value, started, extended, ended, closed_at, undone, end_of, NextFits, next_bytes, finished};
 
-use crate::row::{Kind, Reading, Row};
+use crate::row::{Begun, Kind, Reading, Row};
 use crate::tree::EntryTree;
 use dw_abbrev::Table;
 use dw_form::{AttrValue, Ctx, Stored};
@@ -38,6 +38,7 @@ pub struct TreeDraft {
     /// The rows of the open entries, the outermost first.
     nested: Vec<usize>,
     reading: Option<Reading>,
+    begun: Option<Begun>,
 }
 
 impl Model for TreeDraft {
@@ -72,6 +73,7 @@ impl TreeDraft {
             pool: Vec::new(alloc),
             nested: Vec::new(alloc),
             reading: None,
+            begun: None,
         }
     }
 
@@ -105,6 +107,7 @@ impl TreeDraft {
     /// The entry that is read is given its next value, which has `size` bytes. With its last value it
     /// is complete: closed where its declaration has no children, else open.
     pub fn value(&mut self, value: &AttrValue<'_>, size: u64) -> Result<(), AllocError>
+        requires between { begun_in self.old.place.reading ≡ None }
         requires fits { NextFits self.old.context self.old.table self.old.place.reading (attribute_of value.now) }
         requires size { size ≡ length (next_bytes self.old.context self.old.table self.old.place.reading (attribute_of value.now)) }
         requires near { end_of self.old + size < 2 ^ 63 }
@@ -121,6 +124,46 @@ impl TreeDraft {
         Ok(())
     }
 
+    /// A text, or a block whose length field has `width` bytes, begins as the next value of the
+    /// entry that is read. Its bytes come with `bytes`.
+    pub fn start(&mut self, via: Option<Uleb>, width: Option<u8>) -> Result<(), AllocError>
+        requires reading { IsSome self.old.place.reading }
+        requires between { begun_in self.old.place.reading ≡ None }
+        ensures ok { OnOk result (self.new ≡ started (option_map uleb_of via) width self.old) }
+        ensures err { OnErr result (self.new ≡ self.old) }
+    {
+        self.values.reserve(1)?;
+        let pool = self.pool.len();
+        self.begun = Some(Begun { via, width, pool });
+        Ok(())
+    }
+
+    /// The text or block that has begun is given its next bytes.
+    pub fn bytes(&mut self, piece: &[u8]) -> Result<(), AllocError>
+        requires begun { IsSome (begun_in self.old.place.reading) }
+        ensures ok { OnOk result (self.new ≡ extended piece.now self.old) }
+        ensures err { OnErr result (self.new ≡ self.old) }
+    {
+        self.pool.extend_from_slice(piece)
+    }
+
+    /// The text or block that has begun has all its bytes. As the next value of the entry that is
+    /// read it has `size` bytes, those of its form, its length and its end included.
+    pub fn end_value(&mut self, size: u64)
+        requires fits { IfSome (begun_in self.old.place.reading) (λ b. NextFits self.old.context self.old.table self.old.place.reading (begun_value b)) }
+        requires size { IfSome (begun_in self.old.place.reading) (λ b. size ≡ length (next_bytes self.old.context self.old.table self.old.place.reading (begun_value b))) }
+        requires near { end_of self.old + size < 2 ^ 63 }
+        ensures { self.new ≡ ended self.old }
+    {
+        if let (Some(reading), Some(begun)) = (self.reading, self.begun) {
+            let stored = Stored::of_end(begun.via, begun.width, begun.pool, &self.pool);
+            self.values.push_reserved(stored);
+            self.here += size;
+            self.begun = None;
+            self.reading = settle(&mut self.rows, &mut self.nested, self.values.len(), reading);
+        }
+    }
+
     /// The entry that is read is taken back, with the values that it was given.
     pub fn undo(&mut self)
         ensures { self.new ≡ undone self.old }
@@ -130,6 +173,7 @@ impl TreeDraft {
             self.pool.truncate(reading.pool);
             self.here = reading.offset;
             self.reading = None;
+            self.begun = None;
         }
     }
 
@@ -161,7 +205,8 @@ impl TreeDraft {
         Ok(())
     }
 
-    /// Where the next byte stands, counted from the unit's first byte.
+    /// Where the next byte stands, counted from the unit's first byte, the bytes of a value that has
+    /// begun not counted.
     pub fn end(&self) -> u64
         ensures { result ≡ end_of self.now }
     {
@@ -206,6 +251,7 @@ impl TreeDraft {
             pool,
             nested: _,
             reading: _,
+            begun: _,
         } = self;
         EntryTree {
             context,

@@ -29,6 +29,17 @@ pub(crate) struct Row {
     pub(crate) kind: Kind,
 }
 
+/// A text or block that comes in pieces. Its bytes so far are the last of the pool.
+#[derive(Clone, Copy, Debug)]
+pub(crate) struct Begun {
+    /// The form that an indirect value names.
+    pub(crate) via: Option<Uleb>,
+    /// The width of a block's length field; None of a text.
+    pub(crate) width: Option<u8>,
+    /// Where its bytes begin in the pool.
+    pub(crate) pool: usize,
+}
+
 /// An entry whose values aren't complete. Its row is no row yet.
 #[derive(Clone, Copy, Debug)]
 pub(crate) struct Reading {

@@ -1,17 +1,21 @@
-use Rattle.std.proofs.Common.{◌≡◌, ℕ, length, ap, ◌∙◌, List}
+use Rattle.std.proofs.Common.{◌≡◌, ℕ, length, ap, sym, ◌∙◌, List}
 use Rattle.std.specs.Prelude.{◌==◌}
 use Rattle.dw_tree.specs.Row.{Token}
 use Rattle.dw_tree.specs.Flat.{tokens}
 use Rattle.dw_tree.specs.Steps.{Growing}
+use Rattle.dw_tree.specs.Place.{Spot}
+use Rattle.dw_tree.specs.DraftView.{front}
 use Rattle.dw_tree.specs.Standing.{is_bare}
 use Rattle.dw_tree.proofs.Bare.{bare_when}
+use Rattle.dw_tree.proofs.Begins.{idle_is, begun_none, free_is, given_is, view_given, draft_of, whole_free, spot_is, end_given, take_front}
 use Rattle.dw_tree.proofs.draft.TreeDraft.is_empty.Goals as goal
 
 pub returns : goal.returns
 returns c =
     let a = c.self.inside in
-    let s = c.self.invariant.sound.is_spelled in
-    let xs : List Token = tokens a.table.value a.rows.items a.values.items a.pool.items in
+    let s = c.self.invariant.given.sound.is_spelled in
+    let xs : List Token = tokens a.table.value a.rows.items a.values.items (front a.begun a.pool.items) in
     ap (λ (n : ℕ). n == 0) (c.len.ensures ∙ (a.rows.ok.0 ∙ s.long))
     ∙ (bare_when xs s.spelled
-    ∙ ap (λ (g : Growing). is_bare g.place.spot) c.self.view_is)
+    ∙ (ap is_bare (sym (spot_is a.begun a.pool.items _))
+    ∙ ap (λ (g : Growing). is_bare g.place.spot) c.self.view_is))

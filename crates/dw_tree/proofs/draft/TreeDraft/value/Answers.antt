@@ -5,10 +5,10 @@ use Rattle.dw_form.specs.Lent.{attribute_of}
 use Rattle.dw_form.specs.Kept.{bytes_in, StoredFits}
 use Rattle.dw_tree.specs.declared.row.Reading.{Reading}
 use Rattle.dw_tree.specs.Row.{rows_bytes}
-use Rattle.dw_tree.specs.Steps.{Growing, end_of, unread_bytes, NextFits, next_bytes, next_pairs, first_bytes, FirstFits, with_value, value_at}
+use Rattle.dw_tree.specs.Steps.{Growing, end_of, unread_bytes, NextFits, next_bytes, next_pairs, first_bytes, FirstFits, with_value, value_at, begun_in}
 use Rattle.dw_tree.specs.Place.{Place}
 use Rattle.dw_tree.specs.Flat.{unread_of, contents, tokens}
-use Rattle.dw_tree.specs.DraftView.{growing}
+use Rattle.dw_tree.specs.DraftView.{given}
 use Rattle.dw_tree.specs.Sound.{IsSound, IsBegun}
 use Rattle.dw_tree.proofs.Settles.{Given, settled_room}
 use Rattle.dw_tree.proofs.Grown.{sound_grown, given_grown, place_grown}
@@ -16,14 +16,18 @@ use Rattle.dw_tree.proofs.Stands.{end_is}
 use Rattle.dw_tree.proofs.Limits.{few_open}
 use Rattle.dw_tree.proofs.LentLemmas.{next_names}
 use Rattle.dw_tree.proofs.Drafts.{sound_then, stand_then, begun_then, deep_then, end_then, begun_grown, size_grown, stand_grown, same_tokens}
+use Rattle.dw_tree.proofs.Begins.{idle_is, begun_none, free_is, given_is, view_given, place_given, draft_of, whole_free, spot_is, end_given, take_front}
 use Rattle.dw_tree.proofs.draft.TreeDraft.value.Goals as goal
 
 pub settle-self-inside-requires-clause-level : goal.settle-self-inside-requires-clause-level
-settle-self-inside-requires-clause-level c = omega (arith, few_open c.self.inside.nested.items c.self.invariant.deep, c.self.inside.nested.ok.0)
+settle-self-inside-requires-clause-level c = omega (arith, few_open c.self.inside.nested.items c.self.invariant.given.deep, c.self.inside.nested.ok.0)
 
 pub invariant_of-self-in-Some : goal.invariant_of-self-in-Some
 invariant_of-self-in-Some c =
     let a = c.self.inside in
+    let nothing_begun = free_is a c.self.invariant (ap (λ (v : Growing). begun_in v.place.reading) c.self.view_is ∙ c.requires.between) in
+    let inv = given_is a nothing_begun c.self.invariant in
+    let view = view_given a nothing_begun ∙ c.self.view_is in
     let q = c.settle-self-inside in
     let k = a.context in
     let t = a.table.value in
@@ -34,11 +38,11 @@ invariant_of-self-in-Some c =
     let pool = c.keep.new.pool.items in
     let more : List Stored = c.in_ok-stored.stored ∷ [] in
     let v : Attribute = attribute_of c.args.value.now in
-    let s : IsSound t rows old a.pool.items a.nested.items (Some r) = subst (IsSound t rows old a.pool.items a.nested.items) c.in-Some.is c.self.invariant.sound in
-    let b0 : IsBegun k t a.start (tokens t rows old a.pool.items) old a.pool.items r = subst (λ (o : Option Reading). Rattle.std.specs.Prelude.IfSome o (IsBegun k t a.start (tokens t rows old a.pool.items) old a.pool.items)) c.in-Some.is c.self.invariant.begun in
-    let fits : FirstFits k (next_pairs t (unread_of old a.pool.items r)) v = subst (λ (o : Option Reading). NextFits k t (option_map (unread_of old a.pool.items) o) v) c.in-Some.is (subst (λ (g : Growing). NextFits g.context g.table g.place.reading v) (sym c.self.view_is) c.requires.fits) in
+    let s : IsSound t rows old a.pool.items a.nested.items (Some r) = subst (IsSound t rows old a.pool.items a.nested.items) c.in-Some.is inv.sound in
+    let b0 : IsBegun k t a.start (tokens t rows old a.pool.items) old a.pool.items r = subst (λ (o : Option Reading). Rattle.std.specs.Prelude.IfSome o (IsBegun k t a.start (tokens t rows old a.pool.items) old a.pool.items)) c.in-Some.is inv.begun in
+    let fits : FirstFits k (next_pairs t (unread_of old a.pool.items r)) v = subst (λ (o : Option Reading). NextFits k t (option_map (unread_of old a.pool.items) o) v) c.in-Some.is (subst (λ (g : Growing). NextFits g.context g.table g.place.reading v) (sym view) c.requires.fits) in
     let size : c.args.size ≡ length (first_bytes k (next_pairs t (unread_of old a.pool.items r)) v) =
-    subst (λ (g : Growing). c.args.size ≡ length (next_bytes g.context g.table g.place.reading v)) (sym c.self.view_is) c.requires.size
+    subst (λ (g : Growing). c.args.size ≡ length (next_bytes g.context g.table g.place.reading v)) (sym view) c.requires.size
     ∙ ap (λ (o : Option Reading). length (next_bytes k t (option_map (unread_of old a.pool.items) o) v)) c.in-Some.is in
     let ev : vs.items ≡ old ++ more = c.push_reserved.ensures.items ∙ ap (λ (xs : List Stored). xs ++ more) c.reserve.ensures.items in
     let ep = c.in_ok-stored.ensures.pool in
@@ -47,29 +51,32 @@ invariant_of-self-in-Some c =
     let sound : IsSound t rows vs.items pool a.nested.items None = sound_grown t old vs.items more a.pool.items pool (bytes_in v) ev ep rows a.nested.items (Some r) (subst (λ (n : ℕ). StoredFits n c.in_ok-stored.stored) c.keep.new.pool.ok.0 c.in_ok-stored.ensures.fits, tt) s in
     let b : IsBegun k t a.start (tokens t rows vs.items pool) vs.items pool r = begun_grown k t a.start rows old vs.items more a.pool.items pool (bytes_in v) r v ev ep s.values_fit s.rows_fit s.is_read.first one b0 fits in
     let grown = size_grown k t a.start rows old vs.items more a.pool.items pool (bytes_in v) r v ev ep s.values_fit s.rows_fit s.is_read.first one b0 fits in
-    let stand = stand_grown k t a.start rows old vs.items more a.pool.items pool (bytes_in v) r v ev ep s.values_fit s.rows_fit s.is_read.first one b0 fits c.self.invariant.stand in
+    let stand = stand_grown k t a.start rows old vs.items more a.pool.items pool (bytes_in v) r v ev ep s.values_fit s.rows_fit s.is_read.first one b0 fits inv.stand in
     let same = ap (λ (xs : List _). length (rows_bytes k t xs)) (same_tokens k t a.start rows old vs.items more a.pool.items pool (bytes_in v) r v ev ep s.values_fit s.rows_fit s.is_read.first one b0 fits) in
     let here : a.here ≡ a.start + (length (rows_bytes k t (tokens t rows old a.pool.items)) + length (unread_bytes k t (Some (unread_of old a.pool.items r)))) =
-    c.self.invariant.here_is ∙ end_is k t a.start rows old a.pool.items a.nested.items a.reading c.self.invariant.sound.is_spelled
+    inv.here_is ∙ end_is k t a.start rows old a.pool.items a.nested.items a.reading inv.sound.is_spelled
     ∙ ap (λ (o : Option Reading). a.start + (length (rows_bytes k t (tokens t rows old a.pool.items)) + length (unread_bytes k t (option_map (unread_of old a.pool.items) o)))) c.in-Some.is in
     let en = c.len.ensures ∙ vs.ok.0 in
     let em = a.rows.ok.0 in
     let ed : vec_len a.nested + 1 ≡ length a.nested.items + 1 = ap (λ (n : ℕ). n + 1) a.nested.ok.0 in
     let whole = end_then k t a.start rows q.new.rows.items vs.items pool a.nested.items q.new.nested.items r q.result c.len.result (vec_len a.rows) (vec_len a.nested + 1) en em ed q.ensures.rows q.ensures.nested q.ensures.reading g b sound stand in
-    record {
-      context_fits = c.self.invariant.context_fits;
+    draft_of _ nothing_begun (record {
+      context_fits = inv.context_fits;
       sound = sound_then k t a.start rows q.new.rows.items vs.items pool a.nested.items q.new.nested.items r q.result c.len.result (vec_len a.rows) (vec_len a.nested + 1) en em ed q.ensures.rows q.ensures.nested q.ensures.reading g b sound stand;
       room = settled_room q.result _ _ _ _ q.ensures.room q.ensures.open_room;
       stand = stand_then k t a.start rows q.new.rows.items vs.items pool a.nested.items q.new.nested.items r q.result c.len.result (vec_len a.rows) (vec_len a.nested + 1) en em ed q.ensures.rows q.ensures.nested q.ensures.reading g b sound stand;
       begun = begun_then k t a.start rows q.new.rows.items vs.items pool a.nested.items q.new.nested.items r q.result c.len.result (vec_len a.rows) (vec_len a.nested + 1) en em ed q.ensures.rows q.ensures.nested q.ensures.reading g b sound stand;
       deep = deep_then k t a.start rows q.new.rows.items vs.items pool a.nested.items q.new.nested.items r q.result c.len.result (vec_len a.rows) (vec_len a.nested + 1) en em ed q.ensures.rows q.ensures.nested q.ensures.reading g b sound stand;
       here_is = omega (arith, whole, grown, size, same, here);
-      near = omega (arith, subst (λ (g : Growing). end_of g + c.args.size < 2 ^ 63) (sym c.self.view_is) c.requires.near, c.self.invariant.here_is);
-    }
+      near = omega (arith, subst (λ (g : Growing). end_of g + c.args.size < 2 ^ 63) (sym view) c.requires.near, inv.here_is);
+    })
 
 pub returns-in_ok-stored-clause-ok : goal.returns-in_ok-stored-clause-ok
 returns-in_ok-stored-clause-ok c =
     let a = c.self.inside in
+    let nothing_begun = free_is a c.self.invariant (ap (λ (v : Growing). begun_in v.place.reading) c.self.view_is ∙ c.requires.between) in
+    let inv = given_is a nothing_begun c.self.invariant in
+    let view = view_given a nothing_begun ∙ c.self.view_is in
     let q = c.settle-self-inside in
     let t = a.table.value in
     let rows = a.rows.items in
@@ -79,14 +86,15 @@ returns-in_ok-stored-clause-ok c =
     let pool = c.keep.new.pool.items in
     let more : List Stored = c.in_ok-stored.stored ∷ [] in
     let v : Attribute = attribute_of c.args.value.now in
-    let s : IsSound t rows old a.pool.items a.nested.items (Some r) = subst (IsSound t rows old a.pool.items a.nested.items) c.in-Some.is c.self.invariant.sound in
+    let s : IsSound t rows old a.pool.items a.nested.items (Some r) = subst (IsSound t rows old a.pool.items a.nested.items) c.in-Some.is inv.sound in
     let ev : vs.items ≡ old ++ more = c.push_reserved.ensures.items ∙ ap (λ (xs : List Stored). xs ++ more) c.reserve.ensures.items in
     let g : Given t rows vs.items (length pool) r = given_grown t old vs.items more a.pool.items pool (bytes_in v) ev c.in_ok-stored.ensures.pool rows r refl s.is_read s.can_undo in
     let build : Place → Growing = λ p. record { context = a.context; table = t; start = a.start; place = p } in
-    ap build (place_grown t old vs.items more a.pool.items pool (bytes_in v) ev c.in_ok-stored.ensures.pool rows q.new.rows.items a.nested.items r q.result c.len.result (vec_len a.nested + 1) v
+    ap build (sym (place_given a.begun t q.new.rows.items vs.items pool q.result nothing_begun))
+    ∙ (ap build (place_grown t old vs.items more a.pool.items pool (bytes_in v) ev c.in_ok-stored.ensures.pool rows q.new.rows.items a.nested.items r q.result c.len.result (vec_len a.nested + 1) v
     (c.len.ensures ∙ vs.ok.0) q.ensures.rows q.ensures.reading g s.is_read.first s.values_fit s.rows_fit (ap (λ (x : Attribute). x ∷ []) c.in_ok-stored.ensures.content))
-    ∙ (ap (λ (o : Option Reading). value_at v (growing a) (option_map (unread_of old a.pool.items) o)) (sym c.in-Some.is)
-    ∙ ap (with_value v) c.self.view_is)
+    ∙ (ap (λ (o : Option Reading). value_at v (given a a.pool.items) (option_map (unread_of old a.pool.items) o)) (sym c.in-Some.is)
+    ∙ ap (with_value v) view))
 
 pub keep-requires : goal.keep-requires
 keep-requires c = next_names c.args.self.now.context c.args.self.now.table c.args.self.now.place.reading (attribute_of c.args.value.now) c.requires.fits
