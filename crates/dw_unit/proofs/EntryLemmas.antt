@@ -1,5 +1,5 @@
 -- The steps of reading values and padding.
-use Rattle.std.proofs.Common.{◌≡◌, ◌≤◌, ◌<◌, ◌+◌, ◌-◌, ℕ, zero, suc, List, [], ◌∷◌, ◌++◌, length, drop, get_or, Err, refl, sym, ap, ◌∙◌, append_assoc, append-nil, arith}
+use Rattle.std.proofs.Common.{None, ◌≡◌, ◌≤◌, ◌<◌, ◌+◌, ◌-◌, ℕ, zero, suc, List, [], ◌∷◌, ◌++◌, length, drop, get_or, Err, refl, sym, ap, ◌∙◌, append_assoc, append-nil, arith}
 use Rattle.std.specs.List.{AllByRecursion}
 use Rattle.std.proofs.lemmas.List.{drop-drop, map-append}
 use Rattle.dw_leb.specs.declared.errors.Reason.{Reason}
@@ -95,7 +95,7 @@ module _ (k : Ctx) (whole : Outcome (List Attribute)) (ps : List RustPair) (i : 
 
 module _ (t : Table) (s : Spot) (code : Unsigned) (vs : List Attribute) (d : Declaration) (known : declared t code.value ≡ Some d) where
   -- some are still to come
-  pub settle_open : length vs < length d.pairs → settle t s code vs ≡ record { spot = s; reading = Some (record { code = code; values = vs }) }
+  pub settle_open : length vs < length d.pairs → settle t s code vs ≡ record { spot = s; reading = Some (record { code = code; values = vs; begun = None }) }
   settle_open lt =
       ap (λ (o : Option Declaration). settle_by o s code vs) known
       ∙ ap (λ (b : Bool). settled b d.children s code vs) (ne_eqb (length vs) (length d.pairs) (λ e. omega (arith, lt, e)))

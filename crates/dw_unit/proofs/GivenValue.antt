@@ -1,5 +1,5 @@
 -- An entry that is read is given one more value.
-use Rattle.std.proofs.Common.{◌≡◌, ◌+◌, ◌<◌, ◌++◌, ◌∷◌, [], ℕ, suc, List, Option, Some, length, drop, get_or, map, refl, sym, ap, ap₂, subst, ◌∙◌, arith}
+use Rattle.std.proofs.Common.{None, ◌≡◌, ◌+◌, ◌<◌, ◌++◌, ◌∷◌, [], ℕ, suc, List, Option, Some, length, drop, get_or, map, refl, sym, ap, ap₂, subst, ◌∙◌, arith}
 use Rattle.std.proofs.lemmas.List.{length-map}
 use Rattle.std.specs.Prelude.{IsSome}
 use Rattle.dw_leb.specs.Number.{Unsigned}
@@ -11,7 +11,7 @@ use Rattle.dw_abbrev.specs.Table.{Pair, Declaration, declared}
 use Rattle.dw_tree.specs.Tree.{pairs_of}
 use Rattle.dw_tree.specs.Flat.{value_part}
 use Rattle.dw_tree.specs.Place.{Place, Unread}
-use Rattle.dw_tree.specs.Steps.{Growing, settle, with_value, end_of, NextFits, next_bytes, FirstsFit, FirstFits, first_bytes}
+use Rattle.dw_tree.specs.Steps.{begun_in, Growing, settle, with_value, end_of, NextFits, next_bytes, FirstsFit, FirstFits, first_bytes}
 use Rattle.dw_tree.specs.Ends.{value_end}
 use Rattle.dw_unit.specs.Entries.{placed}
 use Rattle.dw_unit.proofs.EntryLemmas.{next_pair, settle_open, pairs_are, prefix_more}
@@ -21,7 +21,7 @@ module _ (old draft : Growing) (ctx : Ctx) (code : Unsigned) (d : Declaration) (
     (draft_is : draft ≡ placed old (settle old.table old.place.spot code vs)) (counted : length vs ≡ i) (lt : i < length ps) (item : p ≡ get_or ps i p) (prefix : FirstsFit ctx (map pair_of ps) vs)
     (a : Attribute) (fits : (value_part ctx p).Fits a) where
   abbrev reading : Unread
-  reading = record { code = code; values = vs }
+  reading = record { code = code; values = vs; begun = None }
 
   abbrev open_draft : Growing
   open_draft = placed old (record { spot = old.place.spot; reading = Some reading })
@@ -37,6 +37,9 @@ module _ (old draft : Growing) (ctx : Ctx) (code : Unsigned) (d : Declaration) (
 
   fits_here : FirstFits old.context (drop (length vs) (pairs_of (declared old.table code.value))) a
   fits_here = subst (λ (k : Ctx). FirstFits k (drop (length vs) (pairs_of (declared old.table code.value))) a) (sym same) (subst (λ (qs : List Pair). FirstFits ctx qs a) (sym next_is) fits)
+
+  pub none_begun : begun_in draft.place.reading ≡ None
+  none_begun = ap (λ (g : Growing). begun_in g.place.reading) open_is
 
   pub next_fits : NextFits draft.context draft.table draft.place.reading a
   next_fits = subst (λ (g : Growing). NextFits g.context g.table g.place.reading a) (sym open_is) fits_here

@@ -12,7 +12,7 @@ use Rattle.dw_abbrev.specs.Table.{Pair, Declaration, declared}
 use Rattle.dw_tree.specs.Tree.{values, pairs_of}
 use Rattle.dw_tree.specs.Flat.{value_part}
 use Rattle.dw_tree.specs.Place.{Place, Unread}
-use Rattle.dw_tree.specs.Steps.{Growing, settle, with_value, undone, end_of, NextFits, next_bytes, FirstsFit, FirstFits, first_bytes}
+use Rattle.dw_tree.specs.Steps.{begun_in, Growing, settle, with_value, undone, end_of, NextFits, next_bytes, FirstsFit, FirstFits, first_bytes}
 use Rattle.dw_tree.specs.Ends.{value_end}
 use Rattle.dw_unit.specs.Entries.{placed}
 use Rattle.dw_unit.proofs.EntryLemmas.{settle_open, pairs_are, prefix_more}
@@ -58,7 +58,7 @@ module _ (old draft : Growing) (ctx : Ctx) (code : Unsigned) (given : List Attri
   asked = pairs_of (declared old.table code.value)
 
   abbrev reading : Unread
-  reading = record { code = code; values = given }
+  reading = record { code = code; values = given; begun = None }
 
   abbrev open_draft : Growing
   open_draft = placed old (record { spot = old.place.spot; reading = Some reading })
@@ -70,6 +70,9 @@ module _ (old draft : Growing) (ctx : Ctx) (code : Unsigned) (given : List Attri
 
   fits_here : FirstFits old.context (drop (length given) asked) v
   fits_here = subst (λ (k : Ctx). FirstFits k (drop (length given) asked) v) (sym same) first
+
+  pub none_begun : begun_in draft.place.reading ≡ None
+  none_begun = ap (λ (g : Growing). begun_in g.place.reading) open_is
 
   pub next_fits : NextFits draft.context draft.table draft.place.reading v
   next_fits = subst (λ (g : Growing). NextFits g.context g.table g.place.reading v) (sym open_is) fits_here

@@ -18,7 +18,7 @@ use Rattle.dw_tree.specs.Steps.{Growing, settle, begun_at, with_value, value_at,
 use Rattle.dw_tree.specs.Ends.{begun_end, value_end}
 use Rattle.dw_unit.specs.Entries.{put_front, placed}
 use Rattle.dw_unit.proofs.EntryLemmas.{put_none, value_breaks, value_read, no_error, drop_past}
-use Rattle.dw_unit.proofs.GivenValue.{next_fits, next_size, with_is, with_end, prefix_then}
+use Rattle.dw_unit.proofs.GivenValue.{none_begun, next_fits, next_size, with_is, with_end, prefix_then}
 use Rattle.dw_unit.proofs.entries.entry_at.Goals as goal
 
 pub loop-pair-init : goal.loop-pair-init
@@ -68,6 +68,13 @@ value-requires-clause-fits c =
     let a : Attribute = attribute_of c.in-Ok.found.0 in
     let t : Taken (value_part c.args.ctx c.pair-item.result) (drop c.loop-pair.here c.args.b.now) (c.args.lim - c.loop-pair.here) a c.in-Ok.found.1 = c.in-Ok.ensures.found in
     next_fits c.args.draft.now c.loop-pair.draft c.args.ctx (uleb_of c.args.code) c.requires.known.0 c.args.pairs.now i.vs c.loop-pair.pair-index c.pair-item.result c.requires.same c.requires.known.1 c.requires.known.2 i.draft_is i.counted c.loop-pair-test.true c.pair-item.is i.prefix a t.fits
+
+pub value-requires-clause-between : goal.value-requires-clause-between
+value-requires-clause-between c =
+    let i = c.loop-pair.invariant in
+    let a : Attribute = attribute_of c.in-Ok.found.0 in
+    let t : Taken (value_part c.args.ctx c.pair-item.result) (drop c.loop-pair.here c.args.b.now) (c.args.lim - c.loop-pair.here) a c.in-Ok.found.1 = c.in-Ok.ensures.found in
+    none_begun c.args.draft.now c.loop-pair.draft c.args.ctx (uleb_of c.args.code) c.requires.known.0 c.args.pairs.now i.vs c.loop-pair.pair-index c.pair-item.result c.requires.same c.requires.known.1 c.requires.known.2 i.draft_is i.counted c.loop-pair-test.true c.pair-item.is i.prefix a t.fits
 
 pub value-requires-clause-size : goal.value-requires-clause-size
 value-requires-clause-size c =

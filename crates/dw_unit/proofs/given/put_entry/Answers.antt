@@ -11,7 +11,7 @@ use Rattle.dw_tree.specs.Steps.{Growing, settle, begun_at, with_value, undone, e
 use Rattle.dw_tree.specs.Ends.{begun_end}
 use Rattle.dw_unit.specs.Entries.{placed}
 use Rattle.dw_unit.proofs.EntryLemmas.{no_error, drop_past}
-use Rattle.dw_unit.proofs.PutValues.{Parted, parted, next_of, no_size, next_fits, next_size, with_is, with_end, prefix_then, undone_is}
+use Rattle.dw_unit.proofs.PutValues.{none_begun, Parted, parted, next_of, no_size, next_fits, next_size, with_is, with_end, prefix_then, undone_is}
 use Rattle.dw_unit.proofs.given.put_entry.Goals as goal
 
 pub loop-value-init : goal.loop-value-init
@@ -58,6 +58,19 @@ value-requires-clause-fits c =
     let w : Parted c.args.ctx ps (length i.given) (attribute_of c.value-item.result) (drop (suc c.loop-value.at) (map attribute_of vs)) = parted c.args.ctx ps (length i.given) (attribute_of c.value-item.result) (drop (suc c.loop-value.at) (map attribute_of vs))
     (subst (λ (xs : List Attribute). (values c.args.ctx (drop (length i.given) ps)).Fits xs) here i.fits) in
     next_fits old c.loop-value.draft c.args.ctx (uleb_of c.args.code) i.given (attribute_of c.value-item.result) c.requires.same c.requires.known i.draft_is w.short i.prefix w.first
+
+pub value-requires-clause-between : goal.value-requires-clause-between
+value-requires-clause-between c =
+    let i = c.loop-value.invariant in
+    let vs = c.args.values.now in
+    let old : Growing = c.args.draft.now in
+    let ps = pairs_of (declared old.table c.args.code.value) in
+    let value_in : c.loop-value.at < length vs = omega (arith, i.index, c.loop-value-test.true) in
+    let value_is = c.value-item.is ∙ ap (λ (m : ℕ). slice_index_or vs m c.value-item.result) (sym i.index) in
+    let here = next_of attribute_of vs c.loop-value.at c.value-item.result value_in ∙ ap (λ x. attribute_of x ∷ drop (suc c.loop-value.at) (map attribute_of vs)) (sym value_is) in
+    let w : Parted c.args.ctx ps (length i.given) (attribute_of c.value-item.result) (drop (suc c.loop-value.at) (map attribute_of vs)) = parted c.args.ctx ps (length i.given) (attribute_of c.value-item.result) (drop (suc c.loop-value.at) (map attribute_of vs))
+    (subst (λ (xs : List Attribute). (values c.args.ctx (drop (length i.given) ps)).Fits xs) here i.fits) in
+    none_begun old c.loop-value.draft c.args.ctx (uleb_of c.args.code) i.given (attribute_of c.value-item.result) c.requires.same c.requires.known i.draft_is w.short i.prefix w.first
 
 pub value-requires-clause-size : goal.value-requires-clause-size
 value-requires-clause-size c =
