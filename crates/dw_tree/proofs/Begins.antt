@@ -1,7 +1,7 @@
 -- A draft of which nothing has begun, or a text or block has.
-use Rattle.std.proofs.Common.{◌≡◌, ℕ, ◌+◌, ◌≤◌, ◌<◌, ◌^◌, List, [], ◌∷◌, length, take, drop, refl, sym, ◌∙◌, ap, ap₂, subst, arith, length-take-le, Option, Some, None, option_map}
-use Rattle.std.specs.Prelude.{IfSome, IsSome}
-use Rattle.std.proofs.lemmas.List.{take-take}
+use Rattle.std.proofs.Common.{Bool, true, false, append-nil, append_assoc, take-append-drop, ◌≡◌, ℕ, ◌+◌, ◌≤◌, ◌<◌, ◌^◌, List, [], ◌∷◌, ◌++◌, length, take, drop, refl, sym, ◌∙◌, ap, ap₂, subst, arith, length-take-le, Option, Some, None, option_map}
+use Rattle.std.specs.Prelude.{IfSome, IsSome, if◌then◌else◌}
+use Rattle.std.proofs.lemmas.List.{take-take, take-append-le}
 use Rattle.dw_tree.specs.declared.draft.TreeDraft.TheInside.{Inside}
 use Rattle.dw_tree.specs.declared.row.Begun.{Begun as Started}
 use Rattle.dw_tree.specs.declared.row.Reading.{Reading}
@@ -14,7 +14,8 @@ use Rattle.dw_leb.specs.View.{uleb_of}
 use Rattle.dw_tree.specs.Place.{Frame, Spot, rows_before, spot_after, Unread, Place}
 use Rattle.dw_tree.specs.Flat.{contents, tokens, place_of, unread_of}
 use Rattle.dw_tree.specs.Steps.{Growing, begins, begun_in, end_of, unread_bytes, whole_tree}
-use Rattle.dw_tree.specs.Row.{rows_bytes}
+use Rattle.dw_tree.specs.Row.{Token, rows_bytes}
+use Rattle.dw_tree.specs.Held.{held, held_in, given_bytes, Holds}
 use Rattle.dw_tree.specs.DraftView.{front, begun_of, place_with, given, growing, IsGiven, HasBegun, IsDraft}
 use Rattle.dw_tree.proofs.Settles.{none_of_map}
 
@@ -118,3 +119,45 @@ ends_open a r b er eb = ap (λ (q : Option Reading). a.start + (length (rows_byt
 pub unmapped : (o : Option Uleb) → IfSome (option_map uleb_of o) (λ u. u.value < 2 ^ 16) → IfSome o (λ u. u.value < 2 ^ 16)
 unmapped None h = h
 unmapped (Some u) h = h
+
+pub begun_is : (a : Inside) → IsSome (begun_in (growing a).place.reading) → (b : Started) × (a.begun ≡ Some b)
+begun_is a h = by a.begun a.reading h
+  where
+    by : (o : Option Started) (q : Option Reading) → IsSome (begun_in (place_with o a.pool.items (place_of a.table.value a.rows.items a.values.items (front o a.pool.items) q)).reading) → (b : Started) × (o ≡ Some b)
+    by (Some b) q h = (b, refl)
+    by None None h = absurd cc
+    by None (Some r) h = absurd cc
+
+-- the pool has more bytes behind
+pub front_stays : (o : Option Started) (b : Started) (pool more : List ℕ) → o ≡ Some b → b.pool ≤ length pool → front o (pool ++ more) ≡ front o pool
+front_stays o b pool more e h = ap (λ (q : Option Started). front q (pool ++ more)) e ∙ (take-append-le b.pool pool more h ∙ ap (λ (q : Option Started). front q pool) (sym e))
+
+-- a list that is as it was, or has more behind
+pub more_or_none : (b : Bool) (xs ys : List ℕ) → (zs : List ℕ) × ((if b then xs ++ ys else xs) ≡ xs ++ zs)
+more_or_none true xs ys = (ys, refl)
+more_or_none false xs ys = ([], sym (append-nil xs))
+
+-- the pool has what is held
+pub held_is : (a : Inside) → IsDraft a → a.pool.items ≡ held_in (growing a).place
+held_is a d = by a.begun a.reading refl refl d.given.holds
+  where
+    at : Option Started → List Token
+    at o = tokens a.table.value a.rows.items a.values.items (front o a.pool.items)
+
+    place : Option Started → Option Reading → Place
+    place o q = place_with o a.pool.items (place_of a.table.value a.rows.items a.values.items (front o a.pool.items) q)
+
+    spelled : held (at a.begun) ≡ held (rows_before (spot_after (at a.begun)).above (spot_after (at a.begun)).left)
+    spelled = ap held d.given.sound.is_spelled.spelled
+
+    spelled_at : (o : Option Started) → a.begun ≡ o → held (at o) ≡ held (rows_before (spot_after (at o)).above (spot_after (at o)).left)
+    spelled_at o e = subst (λ (q : Option Started). held (at q) ≡ held (rows_before (spot_after (at q)).above (spot_after (at q)).left)) e spelled
+
+    by : (o : Option Started) (q : Option Reading) → a.begun ≡ o → a.reading ≡ q → Holds a.table.value a.rows.items a.values.items (front o a.pool.items) q → a.pool.items ≡ held_in (place o q)
+    by None None eo eq h = h.exact ∙ ap (λ (b : List ℕ). b ++ []) (spelled_at None eo)
+    by None (Some r) eo eq h = h.exact ∙ ap₂ (λ (b c : List ℕ). b ++ c) (spelled_at None eo) (sym (append-nil (given_bytes a.values.items a.pool.items (Some r))))
+    by (Some b) None eo eq h = absurd (none_read a.reading eq (begun_open a b eo d).reading)
+    by (Some b) (Some r) eo eq h =
+        sym (take-append-drop b.pool a.pool.items)
+        ∙ (ap (λ (bytes : List ℕ). bytes ++ drop b.pool a.pool.items) (h.exact ∙ ap (λ (bytes : List ℕ). bytes ++ given_bytes a.values.items (take b.pool a.pool.items) (Some r)) (spelled_at (Some b) eo))
+        ∙ append_assoc (held (rows_before (spot_after (at (Some b))).above (spot_after (at (Some b))).left)) (given_bytes a.values.items (take b.pool a.pool.items) (Some r)) (drop b.pool a.pool.items))

@@ -65,6 +65,12 @@ module _ (k : Ctx) (t : Table) (start : ℕ) (rows rows' : List Row) (values : L
       (ap₂ (λ (rs : List Row) (q : Option Reading). length (rows_bytes k t (tokens t rs values pool)) + length (unread_bytes k t (option_map (unread_of values pool) q))) rows_are reading_is
       ∙ size_settled k t start rows values pool open_at r g b depth level st)
 
+pub grown_values : (t : Table) (values values' more : List Stored) (pool pool' bytes : List ℕ) → values' ≡ values ++ more → pool' ≡ pool ++ bytes → (first : ℕ) (v : Attribute)
+    → AllByRecursion (StoredFits (length pool)) values → first ≤ length values → contents more pool' ≡ v ∷ [] → contents (drop first values') pool' ≡ contents (drop first values) pool ++ v ∷ []
+grown_values t values values' more pool pool' bytes ev ep first v f h e =
+    contents_grown t values values' more pool pool' bytes ev ep first f h
+    ∙ ap (λ (vs : List Attribute). contents (drop first values) pool ++ vs) e
+
 -- one more value
 module _ (k : Ctx) (t : Table) (start : ℕ) (rows : List Row) (values values' more : List Stored) (pool pool' bytes : List ℕ) (r : Reading) (v : Attribute) (ev : values' ≡ values ++ more) (ep : pool' ≡ pool ++ bytes)
     (f : AllByRecursion (StoredFits (length pool)) values) (h : AllByRecursion (RowFits t (length values)) rows) (first : r.first ≤ length values) (e : contents more pool' ≡ v ∷ [])
@@ -79,7 +85,7 @@ module _ (k : Ctx) (t : Table) (start : ℕ) (rows : List Row) (values values' m
   same_tokens = tokens_grown t values values' more pool pool' bytes ev ep rows f h
 
   grown : contents (drop r.first values') pool' ≡ so_far ++ v ∷ []
-  grown = contents_grown t values values' more pool pool' bytes ev ep r.first f first ∙ ap (λ (vs : List Attribute). so_far ++ vs) e
+  grown = grown_values t values values' more pool pool' bytes ev ep r.first v f first e
 
   pub begun_grown : IsBegun k t start (tokens t rows values' pool') values' pool' r
   begun_grown = record {

@@ -6,6 +6,7 @@ pub mod Stands
 pub mod Closes
 pub mod Drafts
 pub mod Begins
+pub mod Holds
 pub mod Limits
 pub mod Fits
 pub mod Whole

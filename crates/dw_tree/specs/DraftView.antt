@@ -8,6 +8,7 @@ use Rattle.dw_tree.specs.Tree.{nesting}
 use Rattle.dw_tree.specs.Place.{Begun, Place}
 use Rattle.dw_tree.specs.Steps.{Growing, begins, end_of}
 use Rattle.dw_tree.specs.Flat.{place_of, tokens}
+use Rattle.dw_tree.specs.Held.{Holds}
 use Rattle.dw_tree.specs.Sound.{IsSound, HasRoom, Stand, IsBegun}
 
 -- the bytes in the pool of the values that were given: those before the bytes of one that has begun
@@ -39,6 +40,7 @@ growing a = record {
 pub record IsGiven (a : Inside) (pool : List ℕ) : Type 0 where
   pub context_fits : IsContext a.context
   pub sound : IsSound a.table.value a.rows.items a.values.items pool a.nested.items a.reading
+  pub holds : Holds a.table.value a.rows.items a.values.items pool a.reading
   pub room : HasRoom a.reading (vec_len a.rows) (vec_capacity a.rows) (vec_len a.nested) (vec_capacity a.nested)
   pub stand : Stand a.context a.table.value a.start 1 a.rows.items (tokens a.table.value a.rows.items a.values.items pool)
   pub begun : IfSome a.reading (IsBegun a.context a.table.value a.start (tokens a.table.value a.rows.items a.values.items pool) a.values.items pool)

@@ -17,3 +17,4 @@ pub mod Lent
 pub mod Ends
 pub mod Samples
 pub mod Standing
+pub mod Held

@@ -7,6 +7,7 @@ use Rattle.dw_tree.specs.declared.tree.EntryTree.TheInside.{Inside}
 use Rattle.dw_tree.specs.Row.{Token, rows_of, rest_of, head_of, rows_bytes}
 use Rattle.dw_tree.specs.Steps.{TreeAt}
 use Rattle.dw_tree.specs.Flat.{tokens, RowFits}
+use Rattle.dw_tree.specs.Held.{held}
 use Rattle.dw_tree.specs.Sound.{HaveEnds, Stand}
 
 abbrev pub tokens_in : Inside → List Token
@@ -22,5 +23,6 @@ pub record IsTree (a : Inside) : Type 0 where
   pub one_tree : tokens_in a ≡ rows_of (head_of (rest_of (tokens_in a)).here)
   pub ends : HaveEnds a.rows.items (tokens_in a) []
   pub stand : Stand a.context a.table.value a.start 1 a.rows.items (tokens_in a)
+  pub exact : a.pool.items ≡ held (tokens_in a)
   pub end_is : a.end ≡ a.start + length (rows_bytes a.context a.table.value (tokens_in a))
   pub near : a.end < 2 ^ 63

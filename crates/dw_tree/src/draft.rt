@@ -7,6 +7,7 @@ ghost use Rattle.dw_form.specs.Lent.{attribute_of};
 ghost use Rattle.dw_abbrev.specs.Table.{declared, zero_of};
 ghost use Rattle.dw_tree.specs.Tree.{nesting, tree as part};
 ghost use Rattle.dw_tree.specs.Place.{nowhere};
+ghost use Rattle.dw_tree.specs.Held.{held_in};
 ghost use Rattle.dw_tree.specs.Standing.{is_bare};
 ghost use Rattle.dw_tree.specs.Settled.{settled_rows, settled_open, settled_reading};
 ghost use Rattle.dw_tree.specs.Steps.{begun_at, with_value, begun_in, begun_value, started, extended, ended, closed_at, undone, end_of, NextFits, next_bytes, finished};
@@ -211,6 +212,14 @@ impl TreeDraft {
         ensures { result ≡ end_of self.now }
     {
         self.here
+    }
+
+    /// The bytes of its texts and blocks, those of one that has begun included, in the order in which
+    /// they were given. It keeps no others.
+    pub fn content(&self) -> &[u8]
+        ensures { result.now ≡ held_in self.now.place }
+    {
+        &self.pool
     }
 
     /// The table of its entries' declarations.

@@ -1,8 +1,9 @@
-use Rattle.std.proofs.Common.{◌≡◌, ℕ, ◌+◌, ◌<◌, ◌^◌, None, Some, Option, List, [], drop, length, sym, ap, subst, ◌∙◌, arith, le_of_eq, vec_len, option_map}
+use Rattle.std.proofs.Common.{append-nil, ◌++◌, ◌≡◌, ℕ, ◌+◌, ◌<◌, ◌^◌, None, Some, Option, List, [], drop, length, sym, ap, subst, ◌∙◌, arith, le_of_eq, vec_len, option_map}
 use Rattle.std.proofs.lemmas.List.{length-map}
 use Rattle.std.proofs.lemmas.Bool.{ne_eqb}
 use Rattle.dw_leb.specs.DecideNumber.{uleb_fits}
 use Rattle.dw_leb.specs.View.{uleb_of}
+use Rattle.dw_form.specs.Form.{Attribute}
 use Rattle.dw_form.specs.declared.stored.Stored.{Stored}
 use Rattle.dw_abbrev.specs.PairView.{pair_of}
 use Rattle.dw_abbrev.specs.Table.{declared}
@@ -20,6 +21,8 @@ use Rattle.dw_tree.specs.Steps.{unread_bytes}
 use Rattle.dw_tree.proofs.Drafts.{first_size, sound_then, stand_then, begun_then, deep_then, end_then}
 use Rattle.dw_tree.proofs.Limits.{few_open}
 use Rattle.dw_tree.proofs.Begins.{idle_is, begun_none, free_is, given_is, view_given, place_given, draft_of, whole_free, spot_is, end_given, take_front}
+use Rattle.dw_tree.specs.Held.{joined, held, given_bytes, Holds}
+use Rattle.dw_tree.proofs.Holds.{holds_settled, exact_grown, holds_kept, holds_closed}
 use Rattle.dw_tree.proofs.draft.TreeDraft.begin.Goals as goal
 
 pub settle-self-inside-requires-clause-level : goal.settle-self-inside-requires-clause-level
@@ -56,6 +59,7 @@ invariant_of-self-in-Some c =
       };
     } in
     let sound : IsSound t rows vs pool a.nested.items None = sound_idle _ _ _ _ _ _ inv.sound in
+    let held0 : Holds t rows vs pool None = subst (Holds t rows vs pool) idle inv.holds in
     let nothing : contents (drop c.len.result vs) pool ≡ [] = ap (λ (n : ℕ). contents (drop n vs) pool) first ∙ ap (λ (xs : List Stored). contents xs pool) (drop_length vs) in
     let o = option_map (unread_of vs pool) a.reading in
     let here : a.here ≡ a.start + (length (rows_bytes a.context t (tokens t rows vs pool)) + length (unread_bytes a.context t o)) = inv.here_is ∙ end_is a.context t a.start rows vs pool a.nested.items a.reading inv.sound.is_spelled in
@@ -77,6 +81,9 @@ invariant_of-self-in-Some c =
     draft_of _ nothing_begun (record {
       context_fits = inv.context_fits;
       sound = sound_then a.context t a.start rows s.new.rows.items vs pool a.nested.items s.new.nested.items r s.result c.len-in-Some-2.result (vec_len c.reserve.new.self) (vec_len c.reserve-2.new.self + 1) en em ed er eo s.ensures.reading g b sound inv.stand;
+      holds = holds_settled t rows vs pool r (vec_len c.reserve-2.new.self + 1) g s.new.rows.items s.result c.len-in-Some-2.result en er s.ensures.reading
+          (held0.exact ∙ ap (λ (vs : List Attribute). held (tokens t rows c.self.inside.values.items pool) ++ joined vs) (sym nothing))
+          (c.len-in-Some.ensures ∙ (a.pool.ok.0 ∙ ap length (held0.exact ∙ append-nil (held (tokens t rows vs pool)))));
       room = settled_room s.result _ _ _ _ s.ensures.room s.ensures.open_room;
       stand = stand_then a.context t a.start rows s.new.rows.items vs pool a.nested.items s.new.nested.items r s.result c.len-in-Some-2.result (vec_len c.reserve.new.self) (vec_len c.reserve-2.new.self + 1) en em ed er eo s.ensures.reading g b sound inv.stand;
       begun = begun_then a.context t a.start rows s.new.rows.items vs pool a.nested.items s.new.nested.items r s.result c.len-in-Some-2.result (vec_len c.reserve.new.self) (vec_len c.reserve-2.new.self + 1) en em ed er eo s.ensures.reading g b sound inv.stand;

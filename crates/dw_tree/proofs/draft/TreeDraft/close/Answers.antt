@@ -17,6 +17,8 @@ use Rattle.dw_tree.specs.Ends.{bytes_push}
 use Rattle.dw_tree.proofs.Closes.{with_end, closes_inside, closes_sound, closes_spot, one_more}
 use Rattle.dw_tree.proofs.Limits.{few_open}
 use Rattle.dw_tree.proofs.Begins.{idle_is, begun_none, free_is, given_is, view_given, place_given, draft_of, whole_free, spot_is, end_given, take_front}
+use Rattle.dw_tree.specs.Held.{joined, held, given_bytes, Holds}
+use Rattle.dw_tree.proofs.Holds.{holds_settled, exact_grown, holds_kept, holds_closed}
 use Rattle.dw_tree.proofs.draft.TreeDraft.close.Goals as goal
 
 pub overflow_cast-depth : goal.overflow_cast-depth
@@ -84,6 +86,7 @@ invariant_of-self-in-Some c =
     draft_of _ nothing_begun (rw idle (record {
       context_fits = inv.context_fits;
       sound = sound;
+      holds = holds_closed t rows rows' vs pool c.args.null.width more (subst (Holds t rows vs pool) idle inv.holds);
       room = record { row = tt; place = tt };
       stand = subst (λ (rs : List Row). Stand k t a.start 1 rs (tokens t rows' vs pool)) (sym er) (subst (Stand k t a.start 1 (set rows at q ++ r ∷ [])) (sym more) stands);
       begun = tt;

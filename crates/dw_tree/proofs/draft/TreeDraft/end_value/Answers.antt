@@ -5,7 +5,7 @@ use Rattle.dw_form.specs.declared.stored.Stored.{Stored}
 use Rattle.dw_form.specs.Form.{Attribute}
 use Rattle.dw_form.specs.Kept.{StoredFits, content, text_or_block}
 use Rattle.dw_tree.specs.declared.row.Reading.{Reading}
-use Rattle.dw_tree.specs.Row.{rows_bytes}
+use Rattle.dw_tree.specs.Row.{Token, rows_bytes}
 use Rattle.dw_tree.specs.Steps.{Growing, end_of, unread_bytes, NextFits, next_bytes, next_pairs, first_bytes, FirstFits, with_value, value_at, begun_in, begun_value, ended}
 use Rattle.dw_tree.specs.Place.{Place}
 use Rattle.dw_tree.specs.Flat.{unread_of, contents, tokens}
@@ -16,8 +16,10 @@ use Rattle.dw_tree.proofs.Grown.{sound_grown, given_grown, place_grown}
 use Rattle.dw_tree.proofs.Stands.{end_is}
 use Rattle.dw_tree.proofs.Limits.{few_open}
 use Rattle.dw_tree.proofs.LentLemmas.{next_names}
-use Rattle.dw_tree.proofs.Drafts.{sound_then, stand_then, begun_then, deep_then, end_then, begun_grown, size_grown, stand_grown, same_tokens}
+use Rattle.dw_tree.proofs.Drafts.{grown_values, sound_then, stand_then, begun_then, deep_then, end_then, begun_grown, size_grown, stand_grown, same_tokens}
 use Rattle.dw_tree.proofs.Begins.{view_open, given_open, unmapped, ends_open}
+use Rattle.dw_tree.specs.Held.{joined, held, given_bytes, Holds}
+use Rattle.dw_tree.proofs.Holds.{begun_content, holds_settled, exact_grown, holds_kept, holds_closed}
 use Rattle.dw_tree.proofs.draft.TreeDraft.end_value.Goals as goal
 
 pub settle-self-inside-requires-clause-level : goal.settle-self-inside-requires-clause-level
@@ -66,6 +68,8 @@ invariant_of-self c =
     let here : a.here ≡ a.start + (length (rows_bytes k t (tokens t rows old first)) + length (unread_bytes k t (Some (unread_of old first r)))) =
     inv.here_is ∙ end_is k t a.start rows old first a.nested.items a.reading inv.sound.is_spelled
     ∙ ap (λ (o : Option Reading). a.start + (length (rows_bytes k t (tokens t rows old first)) + length (unread_bytes k t (option_map (unread_of old first) o)))) c.in-Some-Some.is-0 in
+    let held0 : Holds t rows old first (Some r) = subst (Holds t rows old first) c.in-Some-Some.is-0 inv.holds in
+    let same_rows = same_tokens k t a.start rows old vs.items more first pool (drop b.pool pool) r v ev ep s.values_fit s.rows_fit s.is_read.first one b0 fits in
     let en = c.len.ensures ∙ vs.ok.0 in
     let em = a.rows.ok.0 in
     let ed : vec_len a.nested + 1 ≡ length a.nested.items + 1 = ap (λ (n : ℕ). n + 1) a.nested.ok.0 in
@@ -73,6 +77,9 @@ invariant_of-self c =
     record { given = record {
       context_fits = inv.context_fits;
       sound = sound_then k t a.start rows q.new.rows.items vs.items pool a.nested.items q.new.nested.items r q.result c.len.result (vec_len a.rows) (vec_len a.nested + 1) en em ed q.ensures.rows q.ensures.nested q.ensures.reading g b1 sound stand;
+      holds = holds_settled t rows vs.items pool r (vec_len a.nested + 1) g q.new.rows.items q.result c.len.result en q.ensures.rows q.ensures.reading
+          (exact_grown _ _ (contents (drop r.first old) first) _ v first pool same_rows (grown_values t old vs.items more first pool (drop b.pool pool) ev ep r.first v s.values_fit s.is_read.first one) (ep ∙ ap (λ (bytes : List ℕ). first ++ bytes) (sym (begun_content b.width (drop b.pool pool)))) held0.exact)
+          (held0.from ∙ ap (λ (xs : List Token). length (held xs)) (sym same_rows));
       room = settled_room q.result _ _ _ _ q.ensures.room q.ensures.open_room;
       stand = stand_then k t a.start rows q.new.rows.items vs.items pool a.nested.items q.new.nested.items r q.result c.len.result (vec_len a.rows) (vec_len a.nested + 1) en em ed q.ensures.rows q.ensures.nested q.ensures.reading g b1 sound stand;
       begun = begun_then k t a.start rows q.new.rows.items vs.items pool a.nested.items q.new.nested.items r q.result c.len.result (vec_len a.rows) (vec_len a.nested + 1) en em ed q.ensures.rows q.ensures.nested q.ensures.reading g b1 sound stand;

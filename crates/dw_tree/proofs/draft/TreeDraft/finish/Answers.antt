@@ -1,8 +1,9 @@
-use Rattle.std.proofs.Common.{◌≡◌, ℕ, ◌+◌, ◌-◌, ◌<◌, ◌^◌, List, [], length, refl, sym, ap, subst, ◌∙◌, arith, Option, Some, None, option_map}
+use Rattle.std.proofs.Common.{append-nil, ◌≡◌, ℕ, ◌+◌, ◌-◌, ◌<◌, ◌^◌, List, [], length, refl, sym, ap, subst, ◌∙◌, arith, Option, Some, None, option_map}
 use Rattle.std.specs.Prelude.{IsSome}
 use Rattle.dw_tree.specs.Tree.{Tree, tree, nesting}
 use Rattle.dw_tree.specs.Row.{Token, rows_of, rows_bytes, rest_of, head_of, tree_of_rows}
 use Rattle.dw_tree.specs.Place.{spot_after, open_rows}
+use Rattle.dw_tree.specs.Held.{held, Holds}
 use Rattle.dw_tree.specs.DraftView.{growing}
 use Rattle.dw_tree.specs.Flat.{tokens, unread_of}
 use Rattle.dw_tree.specs.Sound.{HaveEnds, Stand}
@@ -36,6 +37,7 @@ invariant_of-result c =
       one_tree = w.1 ∙ (ap rows_of (sym (tree_of_rows w.0)) ∙ ap (λ (ys : List Token). rows_of (head_of (rest_of ys).here)) (sym w.1));
       ends = subst (HaveEnds a.rows.items xs) (s.is_spelled.opened ∙ ap open_rows w.3) s.is_spelled.ends;
       stand = inv.stand;
+      exact = (subst (Holds a.table.value a.rows.items a.values.items a.pool.items) idle inv.holds).exact ∙ append-nil (held xs);
       end_is = omega (arith, end, inv.here_is, free);
       near = inv.near;
     }

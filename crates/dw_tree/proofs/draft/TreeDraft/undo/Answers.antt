@@ -1,4 +1,4 @@
-use Rattle.std.proofs.Common.{◌≡◌, ℕ, List, take, length, sym, ap, ap₂, subst, ◌∙◌, arith, Option, Some, None}
+use Rattle.std.proofs.Common.{refl, ◌≡◌, ℕ, List, take, length, sym, ap, ap₂, subst, ◌∙◌, arith, Option, Some, None}
 use Rattle.std.specs.Prelude.{IfSome}
 use Rattle.dw_form.specs.declared.stored.Stored.{Stored}
 use Rattle.dw_tree.specs.declared.row.Reading.{Reading}
@@ -11,6 +11,8 @@ use Rattle.dw_tree.proofs.Grown.{sound_kept, tokens_kept}
 use Rattle.dw_tree.specs.DraftView.{front}
 use Rattle.dw_tree.proofs.Begins.{begun_within, take_front, spot_is}
 use Rattle.dw_tree.proofs.Stands.{end_is}
+use Rattle.dw_tree.specs.Held.{joined, held, given_bytes, Holds}
+use Rattle.dw_tree.proofs.Holds.{holds_settled, exact_grown, holds_kept, holds_closed}
 use Rattle.dw_tree.proofs.draft.TreeDraft.undo.Goals as goal
 
 pub invariant_of-self : goal.invariant_of-self
@@ -34,6 +36,7 @@ invariant_of-self c =
     record { given = record {
       context_fits = inv.context_fits;
       sound = rw (c.truncate.ensures.items, ep) sound;
+      holds = rw (c.truncate.ensures.items, ep) (holds_kept t rows a.values.items first r (take r.first a.values.items) (take r.pool first) kept refl (subst (Holds t rows a.values.items first) c.in-Some.is inv.holds));
       room = record { row = tt; place = tt };
       stand = rw (c.truncate.ensures.items, ep) (subst (Stand k t a.start 1 rows) (sym kept) inv.stand);
       begun = tt;

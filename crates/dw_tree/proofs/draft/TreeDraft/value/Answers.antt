@@ -1,10 +1,10 @@
-use Rattle.std.proofs.Common.{◌≡◌, ℕ, ◌+◌, ◌<◌, ◌^◌, None, Some, Option, List, [], ◌∷◌, ◌++◌, length, sym, ap, subst, refl, ◌∙◌, arith, vec_len, option_map}
+use Rattle.std.proofs.Common.{drop, ◌≡◌, ℕ, ◌+◌, ◌<◌, ◌^◌, None, Some, Option, List, [], ◌∷◌, ◌++◌, length, sym, ap, subst, refl, ◌∙◌, arith, vec_len, option_map}
 use Rattle.dw_form.specs.declared.stored.Stored.{Stored}
 use Rattle.dw_form.specs.Form.{Attribute}
 use Rattle.dw_form.specs.Lent.{attribute_of}
 use Rattle.dw_form.specs.Kept.{bytes_in, StoredFits}
 use Rattle.dw_tree.specs.declared.row.Reading.{Reading}
-use Rattle.dw_tree.specs.Row.{rows_bytes}
+use Rattle.dw_tree.specs.Row.{Token, rows_bytes}
 use Rattle.dw_tree.specs.Steps.{Growing, end_of, unread_bytes, NextFits, next_bytes, next_pairs, first_bytes, FirstFits, with_value, value_at, begun_in}
 use Rattle.dw_tree.specs.Place.{Place}
 use Rattle.dw_tree.specs.Flat.{unread_of, contents, tokens}
@@ -15,8 +15,10 @@ use Rattle.dw_tree.proofs.Grown.{sound_grown, given_grown, place_grown}
 use Rattle.dw_tree.proofs.Stands.{end_is}
 use Rattle.dw_tree.proofs.Limits.{few_open}
 use Rattle.dw_tree.proofs.LentLemmas.{next_names}
-use Rattle.dw_tree.proofs.Drafts.{sound_then, stand_then, begun_then, deep_then, end_then, begun_grown, size_grown, stand_grown, same_tokens}
+use Rattle.dw_tree.proofs.Drafts.{grown_values, sound_then, stand_then, begun_then, deep_then, end_then, begun_grown, size_grown, stand_grown, same_tokens}
 use Rattle.dw_tree.proofs.Begins.{idle_is, begun_none, free_is, given_is, view_given, place_given, draft_of, whole_free, spot_is, end_given, take_front}
+use Rattle.dw_tree.specs.Held.{joined, held, given_bytes, Holds}
+use Rattle.dw_tree.proofs.Holds.{holds_settled, exact_grown, holds_kept, holds_closed}
 use Rattle.dw_tree.proofs.draft.TreeDraft.value.Goals as goal
 
 pub settle-self-inside-requires-clause-level : goal.settle-self-inside-requires-clause-level
@@ -56,6 +58,8 @@ invariant_of-self-in-Some c =
     let here : a.here ≡ a.start + (length (rows_bytes k t (tokens t rows old a.pool.items)) + length (unread_bytes k t (Some (unread_of old a.pool.items r)))) =
     inv.here_is ∙ end_is k t a.start rows old a.pool.items a.nested.items a.reading inv.sound.is_spelled
     ∙ ap (λ (o : Option Reading). a.start + (length (rows_bytes k t (tokens t rows old a.pool.items)) + length (unread_bytes k t (option_map (unread_of old a.pool.items) o)))) c.in-Some.is in
+    let held0 : Holds t rows old a.pool.items (Some r) = subst (Holds t rows old a.pool.items) c.in-Some.is inv.holds in
+    let same_rows = same_tokens k t a.start rows old vs.items more a.pool.items pool (bytes_in v) r v ev ep s.values_fit s.rows_fit s.is_read.first one b0 fits in
     let en = c.len.ensures ∙ vs.ok.0 in
     let em = a.rows.ok.0 in
     let ed : vec_len a.nested + 1 ≡ length a.nested.items + 1 = ap (λ (n : ℕ). n + 1) a.nested.ok.0 in
@@ -63,6 +67,9 @@ invariant_of-self-in-Some c =
     draft_of _ nothing_begun (record {
       context_fits = inv.context_fits;
       sound = sound_then k t a.start rows q.new.rows.items vs.items pool a.nested.items q.new.nested.items r q.result c.len.result (vec_len a.rows) (vec_len a.nested + 1) en em ed q.ensures.rows q.ensures.nested q.ensures.reading g b sound stand;
+      holds = holds_settled t rows vs.items pool r (vec_len a.nested + 1) g q.new.rows.items q.result c.len.result en q.ensures.rows q.ensures.reading
+          (exact_grown _ _ (contents (drop r.first old) a.pool.items) _ v a.pool.items pool same_rows (grown_values t old vs.items more a.pool.items pool (bytes_in v) ev ep r.first v s.values_fit s.is_read.first one) ep held0.exact)
+          (held0.from ∙ ap (λ (xs : List Token). length (held xs)) (sym same_rows));
       room = settled_room q.result _ _ _ _ q.ensures.room q.ensures.open_room;
       stand = stand_then k t a.start rows q.new.rows.items vs.items pool a.nested.items q.new.nested.items r q.result c.len.result (vec_len a.rows) (vec_len a.nested + 1) en em ed q.ensures.rows q.ensures.nested q.ensures.reading g b sound stand;
       begun = begun_then k t a.start rows q.new.rows.items vs.items pool a.nested.items q.new.nested.items r q.result c.len.result (vec_len a.rows) (vec_len a.nested + 1) en em ed q.ensures.rows q.ensures.nested q.ensures.reading g b sound stand;
