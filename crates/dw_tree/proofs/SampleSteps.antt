@@ -1,11 +1,11 @@
 -- The steps of the tests, over their tables.
 use Rattle.std.proofs.Common.{◌≡◌, ◌≢◌, ℕ, zero, suc, ◌+◌, ◌<◌, ◌≤◌, List, [], ◌∷◌, length, refl, sym, ap, arith, None, add-one}
-use Rattle.std.specs.Prelude.{IsSome}
+use Rattle.std.specs.Prelude.{IsSome, IfSome}
 use Rattle.dw_form.specs.Form.{attribute, shaped, shape}
 use Rattle.dw_tree.specs.Tree.{Forest, nesting}
 use Rattle.dw_tree.specs.Place.{Frame, Spot, nowhere, enter, leave_from}
-use Rattle.dw_tree.specs.Steps.{Growing, begun_at, closed_at, NextFits, next_bytes, finished}
-use Rattle.dw_tree.specs.Samples.{two_codes, bare_code, little, wide, a_name, a_size}
+use Rattle.dw_tree.specs.Steps.{Growing, begun_at, begun_in, begun_value, started, extended, ended, closed_at, NextFits, next_bytes, finished}
+use Rattle.dw_tree.specs.Samples.{two_codes, bare_code, little, wide, a_name, a_size, with_name}
 
 -- ---- the value of an entry that was just begun
 
@@ -18,6 +18,12 @@ module _ (g : Growing) (w : ℕ) (context : g.context ≡ little) (table : g.tab
   unfolding attribute shaped shape
   name_size = rw (context, table) refl
 
+  pub name_alone : begun_in (begun_at (wide 1 w) g).place.reading ≡ None
+  name_alone = rw table refl
+
+  pub size_alone : begun_in (begun_at (wide 2 w) g).place.reading ≡ None
+  size_alone = rw table refl
+
   pub size_fits : NextFits g.context g.table (begun_at (wide 2 w) g).place.reading a_size
   unfolding attribute shaped shape
   size_fits = rw (context, table) (omega arith)
@@ -25,6 +31,35 @@ module _ (g : Growing) (w : ℕ) (context : g.context ≡ little) (table : g.tab
   pub size_size : 1 ≡ length (next_bytes g.context g.table (begun_at (wide 2 w) g).place.reading a_size)
   unfolding attribute shaped shape
   size_size = rw (context, table) refl
+
+-- ---- a name that comes in two pieces, of which the first is empty
+
+module _ (g : Growing) (context : g.context ≡ little) (table : g.table ≡ two_codes) where
+  abbrev pub started_name : Growing
+  started_name = started None None (begun_at (wide 1 1) g)
+
+  abbrev pub whole_name : Growing
+  whole_name = extended (0x61 ∷ []) (extended [] started_name)
+
+  pub name_is_read : IsSome (begun_at (wide 1 1) g).place.reading
+  name_is_read = rw table refl
+
+  pub name_begins : IsSome (begun_in started_name.place.reading)
+  name_begins = rw table refl
+
+  pub name_goes_on : IsSome (begun_in (extended [] started_name).place.reading)
+  name_goes_on = rw table refl
+
+  pub pieces_fit : IfSome (begun_in whole_name.place.reading) (λ b. NextFits g.context g.table whole_name.place.reading (begun_value b))
+  unfolding attribute shaped shape
+  pieces_fit = rw (context, table) (omega arith, tt)
+
+  pub pieces_size : IfSome (begun_in whole_name.place.reading) (λ b. 2 ≡ length (next_bytes g.context g.table whole_name.place.reading (begun_value b)))
+  unfolding attribute shaped shape
+  pieces_size = rw (context, table) refl
+
+  pub pieces_end : ended whole_name ≡ with_name 1 g
+  pieces_end = rw table refl
 
 -- ---- entries that are each the only child of the one before
 

@@ -83,6 +83,24 @@ fn named(draft: &mut TreeDraft, width: u8) -> Result<(), Fail>
     Ok(())
 }
 
+/// The same, its name in two pieces, of which the first is empty.
+fn named_in_pieces(draft: &mut TreeDraft) -> Result<(), Fail>
+    requires context { draft.old.context ≡ little }
+    requires table { draft.old.table ≡ two_codes_table }
+    requires free { draft.old.place.reading ≡ None }
+    requires level { length draft.old.place.spot.above < 10 }
+    ensures { OnOk result (draft.new ≡ with_name 1 draft.old) }
+{
+    near(draft)?;
+    draft.begin(in_width(1, 1)?)?;
+    draft.start(None, None)?;
+    draft.bytes(&[])?;
+    draft.bytes(&[0x61])?;
+    near(draft)?;
+    draft.end_value(2);
+    Ok(())
+}
+
 /// An entry of the size 4 and the code 2, which is written in this width.
 fn sized(draft: &mut TreeDraft, width: u8) -> Result<(), Fail>
     requires context { draft.old.context ≡ little }
@@ -130,6 +148,15 @@ fn child_begun_twice(alloc: Global) -> Result<EntryTree, Fail> {
     near(&draft)?;
     draft.begin(in_width(1, 2)?)?;
     draft.undo();
+    sized(&mut draft, 1)?;
+    closed(&mut draft, 1)?;
+    Ok(draft.finish())
+}
+
+/// The same, the root's name in pieces.
+fn root_in_pieces(alloc: Global) -> Result<EntryTree, Fail> {
+    let mut draft = TreeDraft::new(alloc, context(), two_codes(alloc)?, 12);
+    named_in_pieces(&mut draft)?;
     sized(&mut draft, 1)?;
     closed(&mut draft, 1)?;
     Ok(draft.finish())
@@ -198,6 +225,34 @@ fn number_of(attr: &AttrRef<'_>) -> Option<u64> {
         Value::Num(number) => Some(number),
         _ => None,
     }
+}
+
+#[test]
+fn a_name_in_pieces(rt: HostRuntime) -> Result<(), Fail> {
+    let alloc = rt.alloc();
+    let tree = root_in_pieces(alloc)?;
+    let bytes = written(alloc, &tree)?;
+    assert_eq!(rt; bytes.as_slice(), [0x01, 0x61, 0, 0x02, 0x04, 0].as_slice());
+    assert_eq!(rt; place(&tree.root()), (12, 18, 1, 0x11));
+    Ok(())
+}
+
+#[test]
+#[tactic(auto, unfolding(crate::specs::Tree::nesting))]
+fn keeps_the_bytes_of_texts_alone(rt: HostRuntime) -> Result<(), Fail> {
+    let alloc = rt.alloc();
+    let mut draft = TreeDraft::new(alloc, context(), two_codes(alloc)?, 12);
+    named(&mut draft, 1)?;
+    sized(&mut draft, 1)?;
+    assert_eq!(rt; draft.content(), [0x61].as_slice());
+    near(&draft)?;
+    draft.begin(in_width(1, 1)?)?;
+    draft.start(None, None)?;
+    draft.bytes(&[0x62, 0x63])?;
+    assert_eq!(rt; draft.content(), [0x61, 0x62, 0x63].as_slice());
+    draft.undo();
+    assert_eq!(rt; draft.content(), [0x61].as_slice());
+    Ok(())
 }
 
 #[test]

@@ -74,19 +74,22 @@ invariant_of-self c =
     let em = a.rows.ok.0 in
     let ed : vec_len a.nested + 1 ≡ length a.nested.items + 1 = ap (λ (n : ℕ). n + 1) a.nested.ok.0 in
     let whole = end_then k t a.start rows q.new.rows.items vs.items pool a.nested.items q.new.nested.items r q.result c.len.result (vec_len a.rows) (vec_len a.nested + 1) en em ed q.ensures.rows q.ensures.nested q.ensures.reading g b1 sound stand in
-    record { given = record {
-      context_fits = inv.context_fits;
-      sound = sound_then k t a.start rows q.new.rows.items vs.items pool a.nested.items q.new.nested.items r q.result c.len.result (vec_len a.rows) (vec_len a.nested + 1) en em ed q.ensures.rows q.ensures.nested q.ensures.reading g b1 sound stand;
-      holds = holds_settled t rows vs.items pool r (vec_len a.nested + 1) g q.new.rows.items q.result c.len.result en q.ensures.rows q.ensures.reading
-          (exact_grown _ _ (contents (drop r.first old) first) _ v first pool same_rows (grown_values t old vs.items more first pool (drop b.pool pool) ev ep r.first v s.values_fit s.is_read.first one) (ep ∙ ap (λ (bytes : List ℕ). first ++ bytes) (sym (begun_content b.width (drop b.pool pool)))) held0.exact)
-          (held0.from ∙ ap (λ (xs : List Token). length (held xs)) (sym same_rows));
-      room = settled_room q.result _ _ _ _ q.ensures.room q.ensures.open_room;
-      stand = stand_then k t a.start rows q.new.rows.items vs.items pool a.nested.items q.new.nested.items r q.result c.len.result (vec_len a.rows) (vec_len a.nested + 1) en em ed q.ensures.rows q.ensures.nested q.ensures.reading g b1 sound stand;
-      begun = begun_then k t a.start rows q.new.rows.items vs.items pool a.nested.items q.new.nested.items r q.result c.len.result (vec_len a.rows) (vec_len a.nested + 1) en em ed q.ensures.rows q.ensures.nested q.ensures.reading g b1 sound stand;
-      deep = deep_then k t a.start rows q.new.rows.items vs.items pool a.nested.items q.new.nested.items r q.result c.len.result (vec_len a.rows) (vec_len a.nested + 1) en em ed q.ensures.rows q.ensures.nested q.ensures.reading g b1 sound stand;
-      here_is = omega (arith, whole, grown, size, same, here);
-      near = omega (arith, subst (λ (g : Growing). end_of g + c.args.size < 2 ^ 63) (sym open_is) c.requires.near, ends_open a r b c.in-Some-Some.is-0 c.in-Some-Some.is-1, here, inv.here_is);
-    }; begun = tt }
+    record {
+      given = record {
+        context_fits = inv.context_fits;
+        sound = sound_then k t a.start rows q.new.rows.items vs.items pool a.nested.items q.new.nested.items r q.result c.len.result (vec_len a.rows) (vec_len a.nested + 1) en em ed q.ensures.rows q.ensures.nested q.ensures.reading g b1 sound stand;
+        holds = holds_settled t rows vs.items pool r (vec_len a.nested + 1) g q.new.rows.items q.result c.len.result en q.ensures.rows q.ensures.reading
+            (exact_grown _ _ (contents (drop r.first old) first) _ v first pool same_rows (grown_values t old vs.items more first pool (drop b.pool pool) ev ep r.first v s.values_fit s.is_read.first one) (ep ∙ ap (λ (bytes : List ℕ). first ++ bytes) (sym (begun_content b.width (drop b.pool pool)))) held0.exact)
+            (held0.from ∙ ap (λ (xs : List Token). length (held xs)) (sym same_rows));
+        room = settled_room q.result _ _ _ _ q.ensures.room q.ensures.open_room;
+        stand = stand_then k t a.start rows q.new.rows.items vs.items pool a.nested.items q.new.nested.items r q.result c.len.result (vec_len a.rows) (vec_len a.nested + 1) en em ed q.ensures.rows q.ensures.nested q.ensures.reading g b1 sound stand;
+        begun = begun_then k t a.start rows q.new.rows.items vs.items pool a.nested.items q.new.nested.items r q.result c.len.result (vec_len a.rows) (vec_len a.nested + 1) en em ed q.ensures.rows q.ensures.nested q.ensures.reading g b1 sound stand;
+        deep = deep_then k t a.start rows q.new.rows.items vs.items pool a.nested.items q.new.nested.items r q.result c.len.result (vec_len a.rows) (vec_len a.nested + 1) en em ed q.ensures.rows q.ensures.nested q.ensures.reading g b1 sound stand;
+        here_is = omega (arith, whole, grown, size, same, here);
+        near = omega (arith, subst (λ (g : Growing). end_of g + c.args.size < 2 ^ 63) (sym open_is) c.requires.near, ends_open a r b c.in-Some-Some.is-0 c.in-Some-Some.is-1, here, inv.here_is);
+      };
+      begun = tt;
+    }
 
 pub returns-in-Some-Some : goal.returns-in-Some-Some
 returns-in-Some-Some c =

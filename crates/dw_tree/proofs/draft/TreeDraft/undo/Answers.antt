@@ -33,17 +33,20 @@ invariant_of-self c =
     let end = end_is k t a.start rows (take r.first a.values.items) (take r.pool first) a.nested.items None sound.is_spelled in
     let size = ap (λ (xs : List Token). length (rows_bytes k t xs)) kept in
     let here = inv.here_is ∙ end_is k t a.start rows a.values.items first a.nested.items a.reading inv.sound.is_spelled in
-    record { given = record {
-      context_fits = inv.context_fits;
-      sound = rw (c.truncate.ensures.items, ep) sound;
-      holds = rw (c.truncate.ensures.items, ep) (holds_kept t rows a.values.items first r (take r.first a.values.items) (take r.pool first) kept refl (subst (Holds t rows a.values.items first) c.in-Some.is inv.holds));
-      room = record { row = tt; place = tt };
-      stand = rw (c.truncate.ensures.items, ep) (subst (Stand k t a.start 1 rows) (sym kept) inv.stand);
+    record {
+      given = record {
+        context_fits = inv.context_fits;
+        sound = rw (c.truncate.ensures.items, ep) sound;
+        holds = rw (c.truncate.ensures.items, ep) (holds_kept t rows a.values.items first r (take r.first a.values.items) (take r.pool first) kept refl (subst (Holds t rows a.values.items first) c.in-Some.is inv.holds));
+        room = record { row = tt; place = tt };
+        stand = rw (c.truncate.ensures.items, ep) (subst (Stand k t a.start 1 rows) (sym kept) inv.stand);
+        begun = tt;
+        deep = inv.deep;
+        here_is = rw (c.truncate.ensures.items, ep) (omega (arith, b.offset, end, size));
+        near = omega (arith, b.offset, here, inv.near);
+      };
       begun = tt;
-      deep = inv.deep;
-      here_is = rw (c.truncate.ensures.items, ep) (omega (arith, b.offset, end, size));
-      near = omega (arith, b.offset, here, inv.near);
-    }; begun = tt }
+    }
 
 pub returns-in-Some : goal.returns-in-Some
 returns-in-Some c =
