@@ -5,7 +5,7 @@ use crate::{
     AttrValue, Ctx, Shape, Stored, Value, ValueError, lend_value, read_value, write_value,
 };
 use dw_leb::devices::Stepped;
-use dw_leb::{Format, Order, Reason, Sleb, Watched, WriteError};
+use dw_leb::{Format, Order, Reason, Sleb, Uleb, Watched, WriteError};
 use std::io::ErrorKind;
 use std::mem;
 use std::process::Abort;
@@ -166,6 +166,28 @@ fn one_pool(rt: HostRuntime) -> Result<(), Fail> {
             == Value::Block {
                 width: 4,
                 bytes: &bytes
+            }
+    );
+    Ok(())
+}
+
+/// A text and a block are stored whose bytes are in the pool already.
+#[test]
+fn stored_at_the_pools_end(rt: HostRuntime) -> Result<(), Fail> {
+    let mut pool = Vec::new(rt.alloc());
+    pool.extend_from_slice(b"abc")?;
+    let text = Stored::of_end(None, None, 1, &pool);
+    let block = Stored::of_end(Some(Uleb::least(0x0a)), Some(1), 3, &pool);
+    pool.extend_from_slice(b"de")?;
+    let text = text.lend(&pool);
+    assert!(rt; text.via.is_none() && text.value == Value::Text(b"bc"));
+    let block = block.lend(&pool);
+    assert_eq!(rt; block.via, Some(Uleb::least(0x0a)));
+    assert!(rt;
+        block.value
+            == Value::Block {
+                width: 1,
+                bytes: &[]
             }
     );
     Ok(())
