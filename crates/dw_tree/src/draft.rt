@@ -1,19 +1,20 @@
 //! A tree under construction.
-ghost use Rattle.std.specs.Prelude.{◌≡◌, ◌≢◌, ◌+◌, ◌<◌, ◌≤◌, ◌^◌, ◌-◌, [], length, IfOk, None, Some, IsSome, OnOk, OnErr, vec_len, vec_capacity};
+ghost use Rattle.std.specs.Prelude.{◌≡◌, ◌≢◌, ◌+◌, ◌<◌, ◌≤◌, ◌^◌, ◌-◌, [], length, IfOk, None, Some, IsSome, option_map, OnOk, OnErr, vec_len, vec_capacity};
 ghost use Rattle.dw_leb.specs.Number.{uleb};
 ghost use Rattle.dw_leb.specs.View.{uleb_of};
 ghost use Rattle.dw_form.specs.Form.{IsContext};
 ghost use Rattle.dw_form.specs.Lent.{attribute_of};
+ghost use Rattle.dw_abbrev.specs.PairView.{pair_of};
 ghost use Rattle.dw_abbrev.specs.Table.{declared, zero_of};
 ghost use Rattle.dw_tree.specs.Tree.{nesting, tree as part};
 ghost use Rattle.dw_tree.specs.Place.{nowhere};
 ghost use Rattle.dw_tree.specs.Standing.{is_bare};
 ghost use Rattle.dw_tree.specs.Settled.{settled_rows, settled_open, settled_reading};
-ghost use Rattle.dw_tree.specs.Steps.{begun_at, with_value, closed_at, undone, end_of, NextFits, next_bytes, finished};
+ghost use Rattle.dw_tree.specs.Steps.{begun_at, with_value, closed_at, undone, end_of, NextFits, next_bytes, next_pair, finished};
 
 use crate::row::{Kind, Reading, Row};
 use crate::tree::EntryTree;
-use dw_abbrev::Table;
+use dw_abbrev::{Pair, Table};
 use dw_form::{AttrValue, Ctx, Stored};
 use dw_leb::Uleb;
 use std::alloc::{AllocError, Global};
@@ -173,6 +174,17 @@ impl TreeDraft {
         ensures { result.now ≡ self.now.table }
     {
         &self.table
+    }
+
+    /// The pair whose value the entry that is read is given next (section 7.5.3). None where no entry
+    /// is read.
+    pub fn next_pair(&self) -> Option<Pair>
+        ensures { option_map pair_of result ≡ next_pair self.now.table self.now.place.reading }
+    {
+        let reading = self.reading?;
+        let decl = self.table.get(reading.code.value)?;
+        let given = self.values.len() - reading.first;
+        Some(decl.pairs()[given])
     }
 
     /// How many entries are open.
