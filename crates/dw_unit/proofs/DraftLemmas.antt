@@ -1,9 +1,8 @@
 -- Units under construction, step by step: what each call keeps.
-use Rattle.std.proofs.Common.{◌≡◌, ◌≢◌, ◌≤◌, ◌<◌, ◌+◌, ◌-◌, ◌^◌, ◌++◌, ◌∷◌, [], ℕ, zero, suc, List, Bool, true, false, Option, Some, None, length, refl, sym, ap, subst, ◌∙◌, arith, length-append, append_assoc, append-nil}
+use Rattle.std.proofs.Common.{◌≡◌, ◌≢◌, ◌≤◌, ◌<◌, ◌+◌, ◌-◌, ◌^◌, ◌++◌, ◌∷◌, [], ℕ, List, Bool, true, false, Option, Some, None, length, refl, sym, ap, subst, ◌∙◌, arith, length-append, append-nil}
 use Rattle.std.proofs.Math.Nat.{one-le-pow}
-use Rattle.std.specs.Prelude.{nat_le, nat_lt, ◌==◌, ◌&&◌, if◌then◌else◌, not, is_some, IsSome, IfSome, Result, Ok, Err, OnOk, OnErr, ◌↔◌, option_map}
-use Rattle.std.specs.List.{AllByRecursion}
-use Rattle.std.proofs.lemmas.Bool.{leb-true, leb-false, le-leb, ltb-true, ltb-false, lt-ltb, eqb-true, eqb-false, eq-eqb, ne_eqb, and_parts}
+use Rattle.std.specs.Prelude.{nat_le, nat_lt, ◌==◌, is_some, IsSome, IfSome, Result, Ok, Err, OnOk, OnErr, ◌↔◌, option_map}
+use Rattle.std.proofs.lemmas.Bool.{leb-true, leb-false, le-leb, lt-ltb, ne_eqb, and_parts}
 use Rattle.dw_leb.specs.Part.{Part}
 use Rattle.dw_leb.specs.Number.{Unsigned, UlebFits, uleb, length_size, initial_length}
 use Rattle.dw_leb.specs.DecideNumber.{uleb_fits, length-uleb, initial-size}
@@ -16,8 +15,7 @@ use Rattle.dw_abbrev.specs.Table.{Declaration, Table, declared, zero_of}
 use Rattle.dw_form.specs.declared.shape.Ctx.{Ctx}
 use Rattle.dw_tree.specs.Tree.{Tree, Forest, none, more, leaf, branch, pairs_of, nulls, AreNulls, nesting, tree as part}
 use Rattle.dw_tree.specs.Row.{push}
-use Rattle.dw_tree.specs.Place.{Frame, Spot, nowhere, leave_from, leave, Unread, Place}
-use Rattle.dw_tree.specs.Standing.{is_bare, is_bare_in}
+use Rattle.dw_tree.specs.Place.{Frame, Spot, leave_from, Unread, Place}
 use Rattle.dw_tree.specs.Steps.{Growing, TreeAt, settled, settle_by, settle, begun_at, value_at, with_value, closed_at, undone as undone_at, end_of, finished as finished_at, whole_tree, FirstsFit, NextFits}
 use Rattle.dw_tree.specs.Ends.{begun_end, value_end, closed_end}
 use Rattle.dw_unit.specs.Header.{fields, fields_of, context_of}

@@ -1,5 +1,5 @@
 -- Units under construction: one more entry.
-use Rattle.std.proofs.Common.{◌≡◌, ◌≢◌, ◌≤◌, ◌<◌, ◌+◌, ◌^◌, ◌++◌, ◌∷◌, [], ℕ, suc, List, Bool, true, false, Option, Some, None, length, refl, sym, ap, ap₂, subst, ◌∙◌, arith, length-append}
+use Rattle.std.proofs.Common.{◌≡◌, ◌≢◌, ◌≤◌, ◌<◌, ◌+◌, ◌∷◌, [], ℕ, suc, List, Bool, true, false, Option, Some, None, length, refl, sym, ap, ap₂, ◌∙◌, arith, length-append}
 use Rattle.std.specs.Prelude.{nat_le, nat_lt, ◌==◌, if◌then◌else◌, not, IsSome, IsTrue, ◌↔◌}
 use Rattle.std.proofs.lemmas.Bool.{leb-false, le-leb, ltb-true, ltb-false, ne_eqb}
 use Rattle.dw_leb.specs.Number.{Unsigned, uleb}
@@ -7,14 +7,13 @@ use Rattle.dw_leb.specs.DecideNumber.{length-uleb}
 use Rattle.dw_form.specs.declared.shape.Ctx.{Ctx}
 use Rattle.dw_form.specs.Form.{Attribute}
 use Rattle.dw_abbrev.specs.Table.{Pair, Declaration, Table, declared}
-use Rattle.dw_tree.specs.Tree.{Forest, none, more, leaf, values, pairs_of, children_of, nesting}
+use Rattle.dw_tree.specs.Tree.{Forest, none, more, values, pairs_of, children_of, nesting}
 use Rattle.dw_tree.specs.Place.{Frame, Spot, Unread, Place}
 use Rattle.dw_tree.specs.Standing.{is_bare_in}
 use Rattle.dw_tree.specs.Steps.{settled, settle}
 use Rattle.dw_unit.specs.declared.refusal.Refusal.{Refusal}
 use Rattle.dw_unit.specs.declared.refusal.Refusal.TheVariants.{TooDeep, SecondRoot}
 use Rattle.dw_unit.specs.Header.{context_of}
-use Rattle.dw_unit.specs.Entries.{placed}
 use Rattle.dw_unit.specs.Draft.{Drafted, with_place, IsOnlyRoot}
 use Rattle.dw_unit.specs.Build.{Building, draft_of, building_of, with_entry, opened, is_known, place_refusal, entry_size, values_refusal, ValuesFit, EntryRefused}
 use Rattle.dw_unit.proofs.EntryLemmas.{settle_whole}

@@ -1,11 +1,10 @@
-use Rattle.std.proofs.Common.{◌≡◌, ◌<◌, ◌+◌, ℕ, List, length, drop, map, slice_index_or, refl, sym, ap, ◌∙◌, arith, add-one}
-use Rattle.std.proofs.lemmas.List.{length-map, length-drop}
+use Rattle.std.proofs.Common.{◌<◌, ℕ, length, map, slice_index_or, refl, sym, ap, ◌∙◌, arith, add-one}
+use Rattle.std.proofs.lemmas.List.{length-map}
 use Rattle.std.specs.Prelude.{option_map}
 use Rattle.dw_leb.specs.View.{sleb_of}
 use Rattle.dw_form.specs.Lent.{attribute_of}
 use Rattle.dw_form.specs.Pieces.{has_spelling}
 use Rattle.dw_abbrev.specs.PairView.{pair_of}
-use Rattle.dw_tree.specs.Tree.{values}
 use Rattle.dw_unit.proofs.PutValues.{as_many, apart, sizes}
 use Rattle.dw_unit.proofs.given.is_longer.Goals as goal
 

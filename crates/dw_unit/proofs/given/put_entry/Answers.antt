@@ -1,17 +1,16 @@
-use Rattle.std.proofs.Common.{◌≡◌, ◌<◌, ◌≤◌, ◌+◌, ◌++◌, ◌∷◌, [], ℕ, suc, false, List, Option, None, length, drop, map, slice_index_or, refl, sym, ap, subst, ◌∙◌, arith, add-one, length-append, append_assoc, append-nil}
+use Rattle.std.proofs.Common.{◌≡◌, ◌<◌, ◌+◌, ◌++◌, ◌∷◌, [], ℕ, suc, List, length, drop, map, refl, sym, ap, subst, ◌∙◌, arith, add-one, length-append, append_assoc, append-nil}
 use Rattle.std.proofs.lemmas.List.{length-map}
-use Rattle.std.specs.Prelude.{IsSome}
 use Rattle.dw_leb.specs.Number.{Unsigned}
 use Rattle.dw_leb.specs.View.{uleb_of}
 use Rattle.dw_form.specs.Form.{Attribute}
 use Rattle.dw_form.specs.Lent.{attribute_of}
-use Rattle.dw_abbrev.specs.Table.{Pair, declared}
+use Rattle.dw_abbrev.specs.Table.{declared}
 use Rattle.dw_tree.specs.Tree.{values, pairs_of}
 use Rattle.dw_tree.specs.Steps.{settle}
 use Rattle.dw_unit.specs.Header.{context_of}
-use Rattle.dw_unit.specs.Draft.{Drafted, drafted_size, size_limit, value_bytes, given, undone, with_place}
-use Rattle.dw_unit.proofs.EntryLemmas.{no_error, drop_past}
-use Rattle.dw_unit.proofs.PutValues.{Parted, parted, next_of, no_size, next_fits, next_size, with_is, undone_is}
+use Rattle.dw_unit.specs.Draft.{Drafted, drafted_size, size_limit, value_bytes, undone, with_place}
+use Rattle.dw_unit.proofs.EntryLemmas.{drop_past}
+use Rattle.dw_unit.proofs.PutValues.{Parted, parted, next_of, next_fits, next_size, with_is, undone_is}
 use Rattle.dw_unit.proofs.DraftLemmas.{within, not_long}
 use Rattle.dw_unit.proofs.given.put_entry.Goals as goal
 

@@ -1,11 +1,9 @@
-use Rattle.std.proofs.Common.{◌≡◌, ◌≢◌, ◌<◌, ◌+◌, ℕ, List, true, false, None, Some, length, map, refl, sym, ap, subst, ◌∙◌, arith}
-use Rattle.std.specs.Prelude.{IsTrue, ◌↔◌}
+use Rattle.std.proofs.Common.{◌≡◌, ℕ, true, false, None, map, refl, sym, ap, subst, ◌∙◌}
 use Rattle.dw_leb.specs.Number.{Unsigned}
 use Rattle.dw_leb.specs.View.{uleb_of}
-use Rattle.dw_form.specs.declared.shape.Ctx.{Ctx}
 use Rattle.dw_form.specs.Lent.{attribute_of}
 use Rattle.dw_abbrev.specs.Table.{declared}
-use Rattle.dw_tree.specs.Tree.{values, pairs_of}
+use Rattle.dw_tree.specs.Tree.{pairs_of}
 use Rattle.dw_unit.specs.Header.{context_of}
 use Rattle.dw_unit.specs.Draft.{Drafted, passes_limit}
 use Rattle.dw_unit.specs.Build.{Building, draft_of, building_of, is_known, is_too_long, entry_size, opened, place_refusal, ValuesFit}
