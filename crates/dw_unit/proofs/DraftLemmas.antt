@@ -77,27 +77,12 @@ nulls_fit (x ∷ ws) w h f = (h.0, nulls_fit ws w h.1 f)
 
 -- ---- lengths
 
-pub limit_near : (format : Format) → size_limit format ≤ 2 ^ 63
-limit_near Dwarf32 = omega arith
-limit_near Dwarf64 = omega arith
-
-pub limit_some : (format : Format) → 44 < size_limit format
-limit_some Dwarf32 = omega arith
-limit_some Dwarf64 = omega arith
-
 pub not_le : (m n : ℕ) → n < m → nat_le m n ≡ false
 not_le m n l = by (nat_le m n) refl
   where
     by : (v : Bool) → nat_le m n ≡ v → nat_le m n ≡ false
     by true t = let h = leb-true m n t in absurd (omega (arith, l, h))
     by false t = t
-
-pub room_is : (limit size n : ℕ) → size < limit → nat_le (limit - size) n ≡ nat_le limit (size + n)
-room_is limit size n lt = by (nat_le limit (size + n)) refl
-  where
-    by : (v : Bool) → nat_le limit (size + n) ≡ v → nat_le (limit - size) n ≡ v
-    by true e = let h = leb-true limit (size + n) e in le-leb (limit - size) n (omega (arith, h))
-    by false e = let h = leb-false limit (size + n) e in not_le (limit - size) n (omega (arith, h, lt))
 
 -- it is not too long
 pub within : (d : Drafted) (n : ℕ) → passes_limit d n ≡ false → drafted_size d + n < size_limit d.header.format
@@ -161,9 +146,6 @@ value_place d v = by d.place.reading
 -- ---- what is kept
 
 module _ (d : Drafted) (tree : Growing) (padded_by : ℕ) (i : IsDrafted d tree padded_by) where
-  pub ends_within : end_of tree + padded_by ≡ drafted_size d
-  ends_within = let e = ap end_of i.tree_is in omega (arith, e, i.counted)
-
   -- the tree goes on at another place
   module _ (p : Place) (new : Growing) (e : new ≡ tree_in (with_place p d)) (one : HasOneRoot p.spot.above p.spot.left) (unread : IfSome p.reading (IsUnread (context_of d.header) d.table p.spot)) (short : drafted_size (with_place p d) < size_limit d.header.format) where
     pub place_kept : IsDrafted (record { header = d.header; table = new.table; place = new.place; padding = d.padding }) new padded_by
