@@ -13,7 +13,7 @@ use Rattle.dw_leb.specs.declared.unsigned.Uleb.{Uleb}
 use Rattle.dw_leb.specs.View.{uleb_of}
 use Rattle.dw_tree.specs.Place.{Frame, Spot, rows_before, spot_after, Unread, Place}
 use Rattle.dw_tree.specs.Flat.{contents, tokens, place_of, unread_of}
-use Rattle.dw_tree.specs.Steps.{Growing, begins, begun_in, end_of, unread_bytes, whole_tree}
+use Rattle.dw_tree.specs.Steps.{Growing, begins, begun_in, next_pair, end_of, unread_bytes, whole_tree}
 use Rattle.dw_tree.specs.Row.{Token, rows_bytes}
 use Rattle.dw_tree.specs.Held.{held, held_in, given_bytes, Holds}
 use Rattle.dw_tree.specs.DraftView.{front, begun_of, place_with, given, growing, IsGiven, HasBegun, IsDraft}
@@ -161,3 +161,10 @@ held_is a d = by a.begun a.reading refl refl d.given.holds
         sym (take-append-drop b.pool a.pool.items)
         ∙ (ap (λ (bytes : List ℕ). bytes ++ drop b.pool a.pool.items) (h.exact ∙ ap (λ (bytes : List ℕ). bytes ++ given_bytes a.values.items (take b.pool a.pool.items) (Some r)) (spelled_at (Some b) eo))
         ∙ append_assoc (held (rows_before (spot_after (at (Some b))).above (spot_after (at (Some b))).left)) (given_bytes a.values.items (take b.pool a.pool.items) (Some r)) (drop b.pool a.pool.items))
+
+-- what has begun changes nothing of what the next value is asked for
+pub next_given : (t : Table) (o : Option Started) (pool : List ℕ) (values : List Stored) (q : Option Reading) (s : Spot)
+    → next_pair t (option_map (unread_of values (front o pool)) q) ≡ next_pair t (place_with o pool (record { spot = s; reading = option_map (unread_of values (front o pool)) q })).reading
+next_given t None pool values q s = refl
+next_given t (Some b) pool values None s = refl
+next_given t (Some b) pool values (Some r) s = refl

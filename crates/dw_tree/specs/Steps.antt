@@ -1,5 +1,5 @@
 -- A tree that grows, as contracts see it, and what each call does to it.
-use Rattle.std.specs.Prelude.{ℕ, ◌+◌, ◌==◌, List, [], ◌∷◌, ◌++◌, length, take, drop, Option, Some, None, Bool, true, false, option_map}
+use Rattle.std.specs.Prelude.{ℕ, ◌+◌, ◌==◌, List, [], ◌∷◌, ◌++◌, length, take, drop, slice_get, Option, Some, None, Bool, true, false, option_map}
 use Rattle.std.proofs.Common.{refl}
 use Rattle.std.specs.Coded.{Coded, code_by, coded×, coded_ℕ}
 use Rattle.dw_leb.specs.Number.{Unsigned, uleb}
@@ -111,6 +111,11 @@ end_of g = g.start + (length (rows_bytes g.context g.table (rows_before g.place.
 -- the pairs whose values are still to come
 abbrev pub next_pairs : Table → Unread → List Pair
 next_pairs t r = drop (length r.values) (pairs_of (declared t r.code.value))
+
+-- the first of them
+abbrev pub next_pair : Table → Option Unread → Option Pair
+next_pair t None = None
+next_pair t (Some r) = slice_get (pairs_of (declared t r.code.value)) (length r.values)
 
 abbrev pub FirstFits : Ctx → List Pair → Attribute → Type 0
 FirstFits k [] v = ⊥

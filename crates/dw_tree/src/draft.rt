@@ -4,18 +4,19 @@ ghost use Rattle.dw_leb.specs.Number.{uleb};
 ghost use Rattle.dw_leb.specs.View.{uleb_of};
 ghost use Rattle.dw_form.specs.Form.{IsContext};
 ghost use Rattle.dw_form.specs.Lent.{attribute_of};
+ghost use Rattle.dw_abbrev.specs.PairView.{pair_of};
 ghost use Rattle.dw_abbrev.specs.Table.{declared, zero_of};
 ghost use Rattle.dw_tree.specs.Tree.{nesting, tree as part};
 ghost use Rattle.dw_tree.specs.Place.{nowhere};
 ghost use Rattle.dw_tree.specs.Held.{held_in};
 ghost use Rattle.dw_tree.specs.Standing.{is_bare};
 ghost use Rattle.dw_tree.specs.Settled.{settled_rows, settled_open, settled_reading};
-ghost use Rattle.dw_tree.specs.Steps.{begun_at, with_value, begun_in, begun_value, started, extended, ended, closed_at, undone, end_of, NextFits, next_bytes, finished};
+ghost use Rattle.dw_tree.specs.Steps.{begun_at, with_value, begun_in, begun_value, started, extended, ended, closed_at, undone, end_of, NextFits, next_bytes, next_pair, finished};
 
 use crate::row::{Begun, Kind, Reading, Row};
 use crate::tree::EntryTree;
-use dw_abbrev::Table;
-use dw_form::{AttrValue, Ctx, Stored};
+use dw_abbrev::{Pair, Table};
+use dw_form::{AttrValue, Ctx, Stored, Value};
 use dw_leb::Uleb;
 use std::alloc::{AllocError, Global};
 use std::marker::Model;
@@ -214,6 +215,26 @@ impl TreeDraft {
         self.here
     }
 
+    /// The text or block that has begun, with its bytes so far.
+    pub fn begun(&self) -> Option<AttrValue<'_>>
+        ensures { option_map attribute_of result ≡ option_map begun_value (begun_in self.now.place.reading) }
+    {
+        match self.begun {
+            Some(begun) => {
+                let bytes = &self.pool[begun.pool..];
+                let value = match begun.width {
+                    Some(width) => Value::Block { width, bytes },
+                    None => Value::Text(bytes),
+                };
+                Some(AttrValue {
+                    via: begun.via,
+                    value,
+                })
+            }
+            None => None,
+        }
+    }
+
     /// The bytes of its texts and blocks, those of one that has begun included, in the order in which
     /// they were given. It keeps no others.
     pub fn content(&self) -> &[u8]
@@ -227,6 +248,17 @@ impl TreeDraft {
         ensures { result.now ≡ self.now.table }
     {
         &self.table
+    }
+
+    /// The pair whose value the entry that is read is given next (section 7.5.3). None where no entry
+    /// is read.
+    pub fn next_pair(&self) -> Option<Pair>
+        ensures { option_map pair_of result ≡ next_pair self.now.table self.now.place.reading }
+    {
+        let reading = self.reading?;
+        let decl = self.table.get(reading.code.value)?;
+        let given = self.values.len() - reading.first;
+        Some(decl.pairs()[given])
     }
 
     /// How many entries are open.

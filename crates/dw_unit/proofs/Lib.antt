@@ -17,6 +17,6 @@ pub mod GivenValue
 pub mod Chain
 pub mod RootRead
 pub mod Levels
-pub mod BuildLemmas
+pub mod DraftLemmas
 pub mod PutValues
 pub mod OpenLemmas

@@ -1,5 +1,5 @@
 -- An entry that is given its values by a caller.
-use Rattle.std.proofs.Common.{◌≡◌, ◌+◌, ◌<◌, ◌≤◌, ◌++◌, ◌∷◌, [], ℕ, zero, suc, List, Option, Some, None, length, drop, get_or, map, slice_index_or, refl, sym, ap, ap₂, subst, ◌∙◌, arith, length-append}
+use Rattle.std.proofs.Common.{◌≡◌, ◌+◌, ◌<◌, ◌++◌, ◌∷◌, [], ℕ, zero, suc, List, Option, Some, None, length, drop, slice_get, map, slice_index_or, refl, sym, ap, ap₂, subst, ◌∙◌, arith, length-append}
 use Rattle.std.specs.Prelude.{IsSome}
 use Rattle.dw_leb.specs.Number.{Unsigned}
 use Rattle.dw_form.specs.declared.shape.Ctx.{Ctx}
@@ -8,14 +8,14 @@ use Rattle.dw_form.specs.declared.value.AttrValue.{AttrValue}
 use Rattle.dw_form.specs.Lent.{attribute_of}
 use Rattle.dw_abbrev.specs.PairView.{pair_of}
 use Rattle.dw_abbrev.specs.declared.pair.Pair.{Pair as RustPair}
-use Rattle.dw_abbrev.specs.Table.{Pair, Declaration, declared}
+use Rattle.dw_abbrev.specs.Table.{Pair, Declaration, Table, declared}
 use Rattle.dw_tree.specs.Tree.{values, pairs_of}
 use Rattle.dw_tree.specs.Flat.{value_part}
 use Rattle.dw_tree.specs.Place.{Place, Unread}
-use Rattle.dw_tree.specs.Steps.{begun_in, Growing, settle, with_value, undone, end_of, NextFits, next_bytes, FirstsFit, FirstFits, first_bytes}
-use Rattle.dw_tree.specs.Ends.{value_end}
-use Rattle.dw_unit.specs.Entries.{placed}
-use Rattle.dw_unit.proofs.EntryLemmas.{settle_open, pairs_are, prefix_more}
+use Rattle.dw_tree.specs.Steps.{begun_in, settle, NextFits, next_bytes, next_pair, FirstFits, first_bytes}
+use Rattle.dw_unit.specs.Header.{context_of}
+use Rattle.dw_unit.specs.Draft.{Drafted, with_place, given, undone, value_bytes}
+use Rattle.dw_unit.proofs.EntryLemmas.{settle_open}
 
 pub the : {X : Type 0} (o : Option X) → IsSome o → (x : X) × (o ≡ Some x)
 the None h = absurd cc
@@ -51,53 +51,30 @@ as_many k (p ∷ ps) (v ∷ vs) h = let n = as_many k ps vs h.1 in omega (arith,
 
 -- ---- one more value
 
-module _ (old draft : Growing) (ctx : Ctx) (code : Unsigned) (given : List Attribute) (v : Attribute) (same : old.context ≡ ctx) (known : IsSome (declared old.table code.value))
-    (draft_is : draft ≡ placed old (settle old.table old.place.spot code given)) (short : length given < length (pairs_of (declared old.table code.value))) (prefix : FirstsFit ctx (pairs_of (declared old.table code.value)) given)
-    (first : FirstFits ctx (drop (length given) (pairs_of (declared old.table code.value))) v) where
-  abbrev asked : List Pair
-  asked = pairs_of (declared old.table code.value)
-
-  abbrev reading : Unread
-  reading = record { code = code; values = given; begun = None }
-
-  abbrev open_draft : Growing
-  open_draft = placed old (record { spot = old.place.spot; reading = Some reading })
+module _ (old draft : Drafted) (code : Unsigned) (before : List Attribute) (v : Attribute) (known : IsSome (declared old.table code.value)) (draft_is : draft ≡ with_place (settle old.table old.place.spot code before) old)
+    (short : length before < length (pairs_of (declared old.table code.value))) (first : FirstFits (context_of old.header) (drop (length before) (pairs_of (declared old.table code.value))) v) where
+  abbrev open_draft : Drafted
+  open_draft = with_place (record { spot = old.place.spot; reading = Some (record { code = code; values = before; begun = None }) }) old
 
   open_is : draft ≡ open_draft
   open_is =
       let d = the (declared old.table code.value) known in
-      draft_is ∙ ap (placed old) (settle_open old.table old.place.spot code given d.0 d.1 (omega (arith, short, ap (λ (o : Option Declaration). length (pairs_of o)) d.1)))
-
-  fits_here : FirstFits old.context (drop (length given) asked) v
-  fits_here = subst (λ (k : Ctx). FirstFits k (drop (length given) asked) v) (sym same) first
+      draft_is ∙ ap (λ (p : Place). with_place p old) (settle_open old.table old.place.spot code before d.0 d.1 (omega (arith, short, ap (λ (o : Option Declaration). length (pairs_of o)) d.1)))
 
   pub none_begun : begun_in draft.place.reading ≡ None
-  none_begun = ap (λ (g : Growing). begun_in g.place.reading) open_is
+  none_begun = ap (λ (d : Drafted). begun_in d.place.reading) open_is
 
-  pub next_fits : NextFits draft.context draft.table draft.place.reading v
-  next_fits = subst (λ (g : Growing). NextFits g.context g.table g.place.reading v) (sym open_is) fits_here
+  pub next_fits : NextFits (context_of draft.header) draft.table draft.place.reading v
+  next_fits = subst (λ (d : Drafted). NextFits (context_of d.header) d.table d.place.reading v) (sym open_is) first
 
-  pub next_size : length (next_bytes draft.context draft.table draft.place.reading v) ≡ length (first_bytes ctx (drop (length given) asked) v)
-  next_size =
-      ap (λ (g : Growing). length (next_bytes g.context g.table g.place.reading v)) open_is
-      ∙ ap (λ (k : Ctx). length (first_bytes k (drop (length given) asked) v)) same
+  pub next_size : length (value_bytes draft v) ≡ length (first_bytes (context_of old.header) (drop (length before) (pairs_of (declared old.table code.value))) v)
+  next_size = ap (λ (d : Drafted). length (value_bytes d v)) open_is
 
-  pub with_is : with_value v draft ≡ placed old (settle old.table old.place.spot code (given ++ v ∷ []))
-  with_is = ap (with_value v) open_is
-
-  pub with_end : end_of (with_value v draft) ≡ end_of draft + length (first_bytes ctx (drop (length given) asked) v)
-  with_end =
-      let ends = value_end open_draft reading v refl known (subst (λ (k : Ctx). FirstsFit k asked given) (sym same) prefix) fits_here in
-      let from = ap (λ (g : Growing). end_of (with_value v g)) open_is in
-      let to = ap end_of open_is in
-      let size = ap (λ (g : Growing). length (next_bytes g.context g.table g.place.reading v)) open_is in
-      omega (arith, ends, from, to, size, next_size)
-
-  pub prefix_then : FirstsFit ctx asked (given ++ v ∷ [])
-  prefix_then = prefix_more ctx asked given v prefix first
+  pub with_is : given v draft ≡ with_place (settle old.table old.place.spot code (before ++ v ∷ [])) old
+  with_is = ap (given v) open_is
 
   pub undone_is : old.place.reading ≡ None → undone draft ≡ old
-  undone_is free = ap undone open_is ∙ ap (λ (o : Option Unread). placed old (record { spot = old.place.spot; reading = o })) (sym free)
+  undone_is free = ap undone open_is ∙ ap (λ (o : Option Unread). with_place (record { spot = old.place.spot; reading = o }) old) (sym free)
 
 -- ---- values and their pairs, one by one
 
@@ -136,12 +113,28 @@ module _ (k : Ctx) (ps : List RustPair) (vs : List AttrValue) (i : ℕ) (p : Rus
   sizes = ap₂ (λ (qs : List Pair) (xs : List Attribute). length ((values k qs).spell xs)) pairs_here values_here ∙ length-append ((value_part k p).spell (attribute_of v)) ((values k pairs_behind).spell values_behind)
 
 -- the first of the pairs from a place on
-pub first_is : (k : Ctx) (ps : List RustPair) (at : ℕ) (r : RustPair) (a : Attribute) → FirstFits k (drop at (map pair_of ps)) a
-    → (value_part k (slice_index_or ps at r)).Fits a × (first_bytes k (drop at (map pair_of ps)) a ≡ (value_part k (slice_index_or ps at r)).spell a)
-first_is k [] zero r a h = absurd h
-first_is k [] (suc at) r a h = absurd h
-first_is k (q ∷ ps) zero r a h = (h, refl)
-first_is k (q ∷ ps) (suc at) r a h = first_is k ps at r a h
+module _ (k : Ctx) (v : Attribute) where
+  pub first_is : (ps : List Pair) (n : ℕ) (p : Pair) → slice_get ps n ≡ Some p → FirstFits k (drop n ps) v
+      → (attribute k p.form.value p.constant).Fits v × (first_bytes k (drop n ps) v ≡ (attribute k p.form.value p.constant).spell v)
+  first_is [] zero p e h = absurd h
+  first_is [] (suc n) p e h = absurd h
+  first_is (q ∷ ps) zero p e h = let same : q ≡ p = cc in (subst (λ (x : Pair). (attribute k x.form.value x.constant).Fits v) same h, ap (λ (x : Pair). (attribute k x.form.value x.constant).spell v) same)
+  first_is (q ∷ ps) (suc n) p e h = first_is ps n p e h
+
+  pub first_some : (ps : List Pair) (n : ℕ) → slice_get ps n ≡ None → FirstFits k (drop n ps) v → ⊥
+  first_some [] zero e h = h
+  first_some [] (suc n) e h = h
+  first_some (q ∷ ps) zero e h = absurd cc
+  first_some (q ∷ ps) (suc n) e h = first_some ps n e h
+
+  pub next_is : (t : Table) (o : Option Unread) (p : Pair) → next_pair t o ≡ Some p → NextFits k t o v
+      → (attribute k p.form.value p.constant).Fits v × (next_bytes k t o v ≡ (attribute k p.form.value p.constant).spell v)
+  next_is t None p e h = absurd h
+  next_is t (Some r) p e h = first_is (pairs_of (declared t r.code.value)) (length r.values) p e h
+
+  pub next_some : (t : Table) (o : Option Unread) → next_pair t o ≡ None → NextFits k t o v → ⊥
+  next_some t None e h = h
+  next_some t (Some r) e h = first_some (pairs_of (declared t r.code.value)) (length r.values) e h
 
 pub no_size : (k : Ctx) (ps : List Pair) → length ((values k ps).spell []) ≡ 0
 no_size k [] = refl

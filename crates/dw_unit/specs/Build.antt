@@ -1,24 +1,22 @@
 -- Units built by calls: how a call changes a unit under construction, and why it is refused. Each refusal is the first
 -- that holds, in the order of the lines.
-use Rattle.std.specs.Prelude.{◌≡◌, ℕ, ◌+◌, ◌<◌, ◌^◌, ◌==◌, ◌↔◌, Bool, true, false, List, [], ◌∷◌, ◌++◌, length, Option, Some, None, option_map, is_some, nat_le, if◌then◌else◌, not, ◌||◌, ◌&&◌, IsTrue}
+use Rattle.std.specs.Prelude.{◌≡◌, ℕ, ◌==◌, ◌↔◌, Bool, true, false, List, [], ◌∷◌, ◌++◌, length, Option, Some, None, is_some, nat_le, if◌then◌else◌, not, ◌&&◌, IsTrue}
 use Rattle.std.proofs.Common.{refl}
 use Rattle.std.specs.Coded.{Coded, code_by, coded×, coded_list, coded_ℕ}
-use Rattle.dw_leb.specs.declared.order.Format.{Format}
-use Rattle.dw_leb.specs.declared.order.Format.TheVariants.{Dwarf32, Dwarf64}
 use Rattle.dw_leb.specs.Number.{Unsigned}
 use Rattle.dw_form.specs.Form.{Attribute}
 use Rattle.dw_abbrev.specs.Build.{is_width}
 use Rattle.dw_abbrev.specs.Table.{Table, declared, is_null}
-use Rattle.dw_tree.specs.Tree.{Tree, Forest, none, more, leaf, values, pairs_of, children_of, nesting, nulls, AreNulls}
+use Rattle.dw_tree.specs.Tree.{leaf, values, pairs_of, children_of, nesting}
 use Rattle.dw_tree.specs.Spelling.{entry_bytes}
 use Rattle.dw_tree.specs.Codes.{table_code}
-use Rattle.dw_tree.specs.Place.{Frame, Spot, add, enter, leave, Place, place_code}
+use Rattle.dw_tree.specs.Place.{Spot, add, enter, leave, Place, place_code}
 use Rattle.dw_tree.specs.Standing.{is_bare}
-use Rattle.dw_tree.specs.Steps.{Growing, end_of, whole_tree}
 use Rattle.dw_unit.specs.declared.refusal.Refusal.{Refusal}
 use Rattle.dw_unit.specs.declared.refusal.Refusal.TheVariants.{UnknownCode, WrongValues, NotOpen, Open, TooDeep, TooLong, SecondRoot, NoRoot, BadWidth, NoMemory}
-use Rattle.dw_unit.specs.Header.{Header, HeaderFits, context_of}
-use Rattle.dw_unit.specs.WholeUnit.{WholeUnit, header_code, header_size}
+use Rattle.dw_unit.specs.Header.{Header, context_of}
+use Rattle.dw_unit.specs.WholeUnit.{WholeUnit, header_code}
+use Rattle.dw_unit.specs.Draft.{Drafted, finished, passes_limit}
 
 -- a unit under construction: a header with its table, a tree with one open place, and the widths of the nulls behind the root
 pub record Building : Type 0 where
@@ -34,13 +32,12 @@ abbrev pub building_code : Coded Building
 building_code = code_by (Header × (Table × (Spot × List ℕ))) (coded× header_code (coded× table_code (coded× spot_code (coded_list coded_ℕ))))
     (λ b. (b.header, (b.table, (b.spot, b.padding)))) (λ p. record { header = p.0; table = p.1.0; spot = p.1.1.0; padding = p.1.1.1 }) (λ _. refl)
 
--- its tree, whose root begins behind the header
-abbrev pub growing_of : Building → Growing
-growing_of b = record { context = context_of b.header; table = b.table; start = header_size b.header; place = record { spot = b.spot; reading = None } }
+-- as a draft whose entries all have their values
+abbrev pub draft_of : Building → Drafted
+draft_of b = record { header = b.header; table = b.table; place = record { spot = b.spot; reading = None }; padding = b.padding }
 
--- the count of its bytes: header, entries and nulls
-abbrev pub size_of : Building → ℕ
-size_of b = end_of (growing_of b) + length (nulls b.padding)
+abbrev pub building_of : Drafted → Building
+building_of d = record { header = d.header; table = d.table; spot = d.place.spot; padding = d.padding }
 
 -- ---- what the calls do
 
@@ -60,7 +57,7 @@ padded width b = record { header = b.header; table = b.table; spot = b.spot; pad
 
 -- the unit, where its root is closed
 abbrev pub whole_of : Building → Option WholeUnit
-whole_of b = option_map (λ (x : Tree). record { header = b.header; table = b.table; root = x; padding = b.padding }) (whole_tree b.spot.above b.spot.left None)
+whole_of b = finished (draft_of b)
 
 -- ---- why they are refused
 
@@ -68,14 +65,9 @@ whole_of b = option_map (λ (x : Tree). record { header = b.header; table = b.ta
 abbrev pub is_open : Spot → Bool
 is_open s = not (length s.above == 0)
 
--- the least count of bytes that no unit of the format has: its length would reach 0xfffffff0, or it would pass 2 ^ 63 - 1
-abbrev pub size_limit : Format → ℕ
-size_limit Dwarf32 = 4 + 0xfffffff0
-size_limit Dwarf64 = 2 ^ 63
-
 -- with so many bytes more it would be too long
 abbrev pub is_too_long : Building → ℕ → Bool
-is_too_long b count = nat_le (size_limit b.header.format) (size_of b + count)
+is_too_long b count = passes_limit (draft_of b) count
 
 abbrev pub length_refusal : Building → ℕ → Option Refusal
 length_refusal b count = if is_too_long b count then Some TooLong else None
@@ -138,27 +130,3 @@ OpenRefused b code vs = Then (place_refusal b.spot) (EntryRefused b code vs)
 abbrev pub or_memory : Option Refusal → Refusal
 or_memory (Some refusal) = refusal
 or_memory None = NoMemory
-
--- ---- what is kept
-
--- at most one root: the outermost chain has one entry, which is open, or is closed, or none
-abbrev pub AtMostOne : Forest → Type 0
-AtMostOne none = Unit {0}
-AtMostOne (more x none) = Unit {0}
-AtMostOne (more x (more y ts)) = ⊥
-
-abbrev pub NoneBefore : List Frame → Forest → Type 0
-NoneBefore [] ts = ts ≡ none
-NoneBefore (f ∷ fs) ts = NoneBefore fs f.left
-
-abbrev pub HasOneRoot : List Frame → Forest → Type 0
-HasOneRoot [] ts = AtMostOne ts
-HasOneRoot (f ∷ fs) ts = NoneBefore fs f.left
-
-pub record IsBuilt (b : Building) (draft : Growing) (size : ℕ) : Type 0 where
-  pub header_fits : HeaderFits b.header
-  pub draft_is : draft ≡ growing_of b
-  pub one_root : HasOneRoot b.spot.above b.spot.left
-  pub nulls_fit : AreNulls b.padding
-  pub sized : size ≡ size_of b
-  pub short : size < size_limit b.header.format

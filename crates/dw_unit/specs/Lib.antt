@@ -12,4 +12,5 @@ pub mod HeadLaws
 pub mod Entries
 pub mod WholeUnit
 pub mod BodyView
+pub mod Draft
 pub mod Build

@@ -1,26 +1,21 @@
 //! Units built entry by entry (sections 2.3 and 7.5).
-ghost use Rattle.std.specs.Prelude.{◌≡◌, ◌≢◌, ◌≤◌, ◌<◌, ◌+◌, ◌^◌, [], length, map, is_some, true, false, None, Some, IfOk, IfErr, IfSome, OnOk, OnErr};
+ghost use Rattle.std.specs.Prelude.{◌≡◌, ◌≢◌, [], map, true, false, None, Some, IfOk, IfErr, OnOk, OnErr};
 ghost use Rattle.dw_leb.specs.View.{uleb_of};
 ghost use Rattle.dw_form.specs.Lent.{attribute_of};
-ghost use Rattle.dw_abbrev.specs.Build.{is_width};
-ghost use Rattle.dw_abbrev.specs.Table.{zero_of};
 ghost use Rattle.dw_tree.specs.Place.{nowhere};
 ghost use Rattle.dw_unit.specs.Unit.{UnitFits};
-ghost use Rattle.dw_unit.specs.WholeUnit.{header_size, contents_of};
+ghost use Rattle.dw_unit.specs.WholeUnit.{contents_of};
 ghost use Rattle.dw_unit.specs.declared.refusal.Refusal.TheVariants.{NoMemory};
-ghost use Rattle.dw_unit.specs.Build.{opened, closed, padded, whole_of, is_known, is_too_long, size_limit as limit_of, entry_size as entry_bytes_of, ValuesFit, EntryRefused, OpenRefused, place_refusal, close_refusal, pad_refusal, finish_refusal, or_memory};
+ghost use Rattle.dw_unit.specs.Build.{opened, closed, padded, whole_of, is_known, is_too_long, entry_size as entry_bytes_of, ValuesFit, EntryRefused, OpenRefused, place_refusal, null_refusal, close_refusal, pad_refusal, finish_refusal, or_memory};
 
-use crate::body::Body;
-use crate::given::{entry_size, put_entry, values_fit};
-use crate::head::length_bytes;
+use crate::draft::{Draft, size_limit};
+use crate::given::{is_longer, put_entry, values_fit};
 use crate::header::Header;
 use crate::refusal::Refusal;
 use crate::unit::Unit;
-use crate::writer::field_bytes;
 use dw_abbrev::Table;
 use dw_form::AttrValue;
-use dw_leb::{Format, Uleb};
-use dw_tree::TreeDraft;
+use dw_leb::Uleb;
 use std::alloc::Global;
 use std::marker::Model;
 use std::rc::Rc;
@@ -32,23 +27,20 @@ const NESTING: usize = 256;
 /// the next one stands, and the nulls behind its root.
 #[derive(Drop)]
 pub struct UnitBuilder {
-    header: Header,
-    draft: TreeDraft,
-    padding: Vec<u8>,
-    /// The count of its bytes so far, the initial length included.
-    size: u64,
+    draft: Draft,
 }
 
 impl Model for UnitBuilder {
-    ghost use Rattle.dw_unit.specs.Build.{Building, building_code, IsBuilt};
+    ghost use Rattle.std.specs.Prelude.{◌≡◌, None};
+    ghost use Rattle.dw_unit.specs.Build.{Building, building_code, building_of};
 
     ghost Value = { Building };
 
     ghost coded = { building_code };
 
-    ghost view = { λ b. record { header = b.header; table = b.draft.table; spot = b.draft.place.spot; padding = b.padding.items } };
+    ghost view = { λ b. building_of b.draft };
 
-    ghost invariant = { λ b. IsBuilt (record { header = b.header; table = b.draft.table; spot = b.draft.place.spot; padding = b.padding.items }) b.draft b.size };
+    ghost invariant = { λ b. b.draft.place.reading ≡ None };
 }
 
 impl UnitBuilder {
@@ -57,12 +49,8 @@ impl UnitBuilder {
     pub fn new(alloc: Global, header: Header, table: Rc<Table>) -> UnitBuilder
         ensures { result ≡ record { header = header; table = table.value; spot = nowhere; padding = [] } }
     {
-        let size = header_bytes(header);
         UnitBuilder {
-            header,
-            draft: TreeDraft::new(alloc, header.context(), table, size),
-            padding: Vec::new(alloc),
-            size,
+            draft: Draft::new(alloc, header, table),
         }
     }
 
@@ -84,17 +72,11 @@ impl UnitBuilder {
         if let Some(refusal) = self.misplaced() {
             return Err(refusal);
         }
-        let size = match self.added(code, values) {
-            Ok(size) => size,
-            Err(refusal) => return Err(refusal),
-        };
-        match put_entry(&mut self.draft, self.header.context(), code, values) {
-            Ok(_) => {
-                self.size += size;
-                Ok(())
-            }
-            Err(refusal) => Err(refusal),
+        self.judged(code, values)?;
+        if put_entry(&mut self.draft, code, values).is_err() {
+            return Err(Refusal::NoMemory);
         }
+        Ok(())
     }
 
     /// The innermost open entry is closed: a null of `width` bytes ends its children (section 2.3).
@@ -111,16 +93,12 @@ impl UnitBuilder {
         if self.draft.depth() == 0 {
             return Err(Refusal::NotOpen);
         }
-        let Some(null) = null(width) else {
-            return Err(Refusal::BadWidth);
-        };
-        if self.is_too_long(width as u64) {
-            return Err(Refusal::TooLong);
+        if let Some(refusal) = self.wide(width) {
+            return Err(refusal);
         }
-        if self.draft.close(null).is_err() {
+        if self.draft.close(width).is_err() {
             return Err(Refusal::NoMemory);
         }
-        self.size += width as u64;
         Ok(())
     }
 
@@ -138,16 +116,12 @@ impl UnitBuilder {
         if let Some(refusal) = self.unfinished() {
             return Err(refusal);
         }
-        let Some(_) = null(width) else {
-            return Err(Refusal::BadWidth);
-        };
-        if self.is_too_long(width as u64) {
-            return Err(Refusal::TooLong);
+        if let Some(refusal) = self.wide(width) {
+            return Err(refusal);
         }
-        if self.padding.push(width).is_err() {
+        if self.draft.pad(width).is_err() {
             return Err(Refusal::NoMemory);
         }
-        self.size += width as u64;
         Ok(())
     }
 
@@ -165,14 +139,8 @@ impl UnitBuilder {
         if let Some(refusal) = self.unfinished() {
             return Err((refusal, self));
         }
-        let UnitBuilder {
-            header,
-            draft,
-            padding,
-            size,
-        } = self;
-        let tree = draft.finish();
-        Ok(Unit::of(header, Body { tree, padding }, size))
+        let UnitBuilder { draft } = self;
+        Ok(draft.finish())
     }
 
     /// Why no entry can stand at the open place.
@@ -193,12 +161,11 @@ impl UnitBuilder {
         }
     }
 
-    /// The count of bytes of an entry with these values, or why it is refused.
-    fn added(&self, code: Uleb, values: &[AttrValue<'_>]) -> Result<u64, Refusal>
-        ensures size { IfOk result (λ n. n ≡ entry_bytes_of self.now (uleb_of code) (map attribute_of values.now)) }
+    /// Why an entry of this code with these values is refused, wherever it stands.
+    fn judged(&self, code: Uleb, values: &[AttrValue<'_>]) -> Result<(), Refusal>
         ensures fits { OnOk result (ValuesFit self.now (uleb_of code) (map attribute_of values.now)) }
         ensures known { OnOk result (is_known self.now.table (uleb_of code) ≡ true) }
-        ensures short { IfOk result (λ n. is_too_long self.now n ≡ false) }
+        ensures short { OnOk result (is_too_long self.now (entry_bytes_of self.now (uleb_of code) (map attribute_of values.now)) ≡ false) }
         ensures allowed { OnOk result (EntryRefused self.now (uleb_of code) (map attribute_of values.now) None) }
         ensures refused { IfErr result (λ e. (e ≢ NoMemory) × EntryRefused self.now (uleb_of code) (map attribute_of values.now) (Some e)) }
     {
@@ -208,16 +175,30 @@ impl UnitBuilder {
         let Some(decl) = self.draft.table().get(code.value) else {
             return Err(Refusal::UnknownCode);
         };
-        let ctx = self.header.context();
+        let header = self.draft.header();
+        let ctx = header.context();
         let pairs = decl.pairs();
         if !values_fit(ctx, pairs, values) {
             return Err(Refusal::WrongValues);
         }
-        let room = size_limit(self.header.format()) - self.size - 1;
-        match entry_size(ctx, code, pairs, values, room) {
-            Some(size) => Ok(size),
-            None => Err(Refusal::TooLong),
+        let room = size_limit(header.format()) - self.draft.size() - 1;
+        if is_longer(ctx, code, pairs, values, room) {
+            return Err(Refusal::TooLong);
         }
+        Ok(())
+    }
+
+    /// Why no null of this width can follow.
+    fn wide(&self, width: u8) -> Option<Refusal>
+        ensures { result ≡ null_refusal self.now width }
+    {
+        if width < 1 || width > 16 {
+            return Some(Refusal::BadWidth);
+        }
+        if self.draft.is_too_long(width as u64) {
+            return Some(Refusal::TooLong);
+        }
+        None
     }
 
     /// Why it isn't a whole unit yet.
@@ -233,37 +214,4 @@ impl UnitBuilder {
             Some(Refusal::Open)
         }
     }
-
-    /// Whether the unit is too long with so many bytes more.
-    fn is_too_long(&self, more: u64) -> bool
-        ensures { result ≡ is_too_long self.now more }
-    {
-        more >= size_limit(self.header.format()) - self.size
-    }
-}
-
-/// The least count of bytes that no unit of the format has (sections 7.2.2 and 7.4).
-fn size_limit(format: Format) -> u64
-    ensures { result ≡ limit_of format }
-{
-    match format {
-        Format::Dwarf32 => 4 + 0xffff_fff0,
-        Format::Dwarf64 => 1 << 63,
-    }
-}
-
-/// The count of bytes of a header, its initial length included.
-fn header_bytes(header: Header) -> u64
-    ensures size { result ≡ header_size header }
-    ensures small { result ≤ 44 }
-{
-    (length_bytes(header.format()) + field_bytes(header).len()) as u64
-}
-
-/// A null of so many bytes. None where the width isn't 1 to 16.
-fn null(width: u8) -> Option<Uleb>
-    ensures some { is_some result ≡ is_width width }
-    ensures value { IfSome result (λ z. uleb_of z ≡ zero_of width) }
-{
-    Uleb::with_width(0, width)
 }

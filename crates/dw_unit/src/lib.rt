@@ -9,6 +9,7 @@ mod builder;
 #[cfg(test)]
 mod builder_tests;
 mod codes;
+mod draft;
 mod entries;
 #[cfg(test)]
 mod entry_tests;
@@ -30,6 +31,7 @@ mod unit;
 mod writer;
 
 pub use builder::UnitBuilder;
+pub use draft::Draft;
 pub use dw_tree::{AttrRef, Attrs, Children, Entries, EntryRef};
 pub use head::read_header;
 pub use header::Header;

@@ -5,21 +5,20 @@ use Rattle.dw_form.specs.Form.{Attribute}
 use Rattle.dw_form.specs.Lent.{attribute_of}
 use Rattle.dw_abbrev.specs.Table.{declared}
 use Rattle.dw_tree.specs.Tree.{values, pairs_of}
-use Rattle.dw_tree.specs.Steps.{settle, end_of, FirstsFit}
-use Rattle.dw_unit.specs.Entries.{placed}
+use Rattle.dw_tree.specs.Steps.{settle}
+use Rattle.dw_unit.specs.Header.{context_of}
+use Rattle.dw_unit.specs.Draft.{drafted_size, with_place}
 use Rattle.dw_unit.proofs.given.put_entry.Given as goal
 
--- the values before these are given
+-- the values before this one are given
 abbrev pub invariant-loop-value : goal.invariant-loop-value
 invariant-loop-value l =
     record {
-      given : List Attribute;
-      all_is : given ++ drop l.at (map attribute_of l.values) ≡ map attribute_of l.values;
-      counted : length given ≡ l.at;
-      index : l.at ≡ l.value-index;
-      draft_is : l.draft ≡ placed l.fn.draft (settle l.fn.draft.table l.fn.draft.place.spot (uleb_of l.code) given);
-      prefix : FirstsFit l.ctx (pairs_of (declared l.fn.draft.table l.code.value)) given;
-      fits : (values l.ctx (drop (length given) (pairs_of (declared l.fn.draft.table l.code.value)))).Fits (drop l.at (map attribute_of l.values));
-      end : end_of l.draft + length ((values l.ctx (drop (length given) (pairs_of (declared l.fn.draft.table l.code.value)))).spell (drop l.at (map attribute_of l.values)))
-          ≡ end_of l.fn.draft + (l.code.width + length ((values l.ctx (pairs_of (declared l.fn.draft.table l.code.value))).spell (map attribute_of l.values)));
+      before : List Attribute;
+      all_is : before ++ drop l.value-index (map attribute_of l.values) ≡ map attribute_of l.values;
+      counted : length before ≡ l.value-index;
+      draft_is : l.draft ≡ with_place (settle l.fn.draft.table l.fn.draft.place.spot (uleb_of l.fn.code) before) l.fn.draft;
+      fits : (values (context_of l.fn.draft.header) (drop (length before) (pairs_of (declared l.fn.draft.table l.fn.code.value)))).Fits (drop l.value-index (map attribute_of l.values));
+      size : drafted_size l.draft + length ((values (context_of l.fn.draft.header) (drop (length before) (pairs_of (declared l.fn.draft.table l.fn.code.value)))).spell (drop l.value-index (map attribute_of l.values)))
+          ≡ drafted_size l.fn.draft + (l.fn.code.width + length ((values (context_of l.fn.draft.header) (pairs_of (declared l.fn.draft.table l.fn.code.value))).spell (map attribute_of l.values)));
     }

@@ -1,65 +1,49 @@
-use Rattle.std.proofs.Common.{◌≡◌, ◌<◌, ◌+◌, ℕ, List, true, false, None, length, map, refl, sym, ap, subst, ◌∙◌, arith}
+use Rattle.std.proofs.Common.{◌≡◌, ℕ, true, false, None, map, refl, sym, ap, subst, ◌∙◌}
 use Rattle.dw_leb.specs.Number.{Unsigned}
 use Rattle.dw_leb.specs.View.{uleb_of}
-use Rattle.dw_form.specs.declared.shape.Ctx.{Ctx}
 use Rattle.dw_form.specs.Lent.{attribute_of}
 use Rattle.dw_abbrev.specs.Table.{declared}
-use Rattle.dw_tree.specs.Tree.{values, pairs_of}
-use Rattle.dw_tree.specs.Steps.{Growing, settle, end_of}
-use Rattle.dw_unit.specs.Entries.{placed}
-use Rattle.dw_unit.specs.Build.{Building, size_of, size_limit, is_known, is_too_long, entry_size, opened, place_refusal, ValuesFit, IsBuilt}
-use Rattle.dw_unit.proofs.BuildLemmas.{within, ends_within, limit_near}
-use Rattle.dw_unit.proofs.OpenLemmas.{free_when, size_is, new_is, open_kept}
+use Rattle.dw_tree.specs.Tree.{pairs_of}
+use Rattle.dw_unit.specs.Header.{context_of}
+use Rattle.dw_unit.specs.Draft.{Drafted, passes_limit}
+use Rattle.dw_unit.specs.Build.{Building, draft_of, building_of, is_known, is_too_long, entry_size, opened, place_refusal, ValuesFit}
+use Rattle.dw_unit.proofs.EntryLemmas.{no_error}
+use Rattle.dw_unit.proofs.OpenLemmas.{free_when, size_is, same_draft, opened_is, known_some}
 use Rattle.dw_unit.proofs.builder.UnitBuilder.open.Goals as goal
 
 pub put_entry-requires-clause-level : goal.put_entry-requires-clause-level
 put_entry-requires-clause-level c =
-    let a = c.self.inside in
-    let free : None ≡ place_refusal a.draft.place.spot = c.in_default.ensures ∙ ap (λ (b : Building). place_refusal b.spot) (sym c.self.view_is) in
-    (free_when a.draft.place.spot free).level
+    let free : None ≡ place_refusal c.self.inside.draft.place.spot = c.in_default.ensures ∙ ap (λ (b : Building). place_refusal b.spot) (sym c.self.view_is) in
+    (free_when c.self.inside.draft.place.spot free).level
 
-pub put_entry-requires-clause-near : goal.put_entry-requires-clause-near
-put_entry-requires-clause-near c =
-    let a = c.self.inside in
-    let b : Building = record { header = a.header; table = a.draft.table; spot = a.draft.place.spot; padding = a.padding.items } in
+pub put_entry-requires-clause-short : goal.put_entry-requires-clause-short
+put_entry-requires-clause-short c =
+    let d : Drafted = c.self.inside.draft in
+    let b : Building = building_of d in
     let code : Unsigned = uleb_of c.args.code in
     let vs = map attribute_of c.args.values.now in
-    let size = size_is b code vs c.context.result (pairs_of (declared b.table code.value)) c.context.ensures.context refl in
-    let n : c.in-Ok.size ≡ entry_size b code vs = c.in-Ok.ensures.size ∙ ap (λ (x : Building). entry_size x code vs) (sym c.self.view_is) in
-    let short : is_too_long b c.in-Ok.size ≡ false = subst (λ (x : Building). is_too_long x c.in-Ok.size ≡ false) (sym c.self.view_is) c.in-Ok.ensures.short in
-    let w = within b c.in-Ok.size short in
-    let e = ends_within b a.draft a.size c.self.invariant in
-    omega (arith, size, n, w, e, limit_near a.header.format, c.self.invariant.sized)
+    let size = size_is b code vs (context_of d.header) (pairs_of (declared d.table code.value)) refl refl in
+    let short : is_too_long b (entry_size b code vs) ≡ false = subst (λ (x : Building). is_too_long x (entry_size x code vs) ≡ false) (sym c.self.view_is) c.in_ok-judged.ensures.short in
+    ap (λ (n : ℕ). passes_limit d n) (sym size) ∙ (ap (λ (x : Drafted). passes_limit x (entry_size b code vs)) (sym (same_draft d c.self.invariant)) ∙ short)
 
-pub invariant_of-self : goal.invariant_of-self
-invariant_of-self c =
-    let a = c.self.inside in
-    let b : Building = record { header = a.header; table = a.draft.table; spot = a.draft.place.spot; padding = a.padding.items } in
+pub invariant_of-self-2 : goal.invariant_of-self-2
+invariant_of-self-2 c =
+    let d : Drafted = c.self.inside.draft in
+    let b : Building = building_of d in
     let code : Unsigned = uleb_of c.args.code in
     let vs = map attribute_of c.args.values.now in
-    let new : Growing = c.put_entry.new.draft in
-    let free : None ≡ place_refusal b.spot = c.in_default.ensures ∙ ap (λ (x : Building). place_refusal x.spot) (sym c.self.view_is) in
-    let known : is_known b.table code ≡ true = subst (λ (x : Building). is_known x.table code ≡ true) (sym c.self.view_is) c.in-Ok.ensures.known in
-    let fits : ValuesFit b code vs = subst (λ (x : Building). ValuesFit x code vs) (sym c.self.view_is) c.in-Ok.ensures.fits in
-    let size = size_is b code vs c.context.result (pairs_of (declared b.table code.value)) c.context.ensures.context refl in
-    let n : c.in-Ok.size ≡ entry_size b code vs = c.in-Ok.ensures.size ∙ ap (λ (x : Building). entry_size x code vs) (sym c.self.view_is) in
-    let short : is_too_long b c.in-Ok.size ≡ false = subst (λ (x : Building). is_too_long x c.in-Ok.size ≡ false) (sym c.self.view_is) c.in-Ok.ensures.short in
-    let w = within b c.in-Ok.size short in
-    let put : new ≡ placed a.draft (settle a.draft.table a.draft.place.spot code vs) = c.in-Ok-put_entry.ensures.ok in
-    let ends : end_of new ≡ end_of a.draft + entry_size b code vs = omega (arith, c.in-Ok-put_entry.ensures.end, size) in
-    let kept = open_kept b a.draft a.size c.self.invariant free code vs known fits new put ends (omega (arith, w, n, c.self.invariant.sized)) in
-    subst (λ (m : ℕ). IsBuilt (record { header = a.header; table = new.table; spot = new.place.spot; padding = a.padding.items }) new (a.size + m)) (sym n)
-    (subst (λ (g : Growing). IsBuilt (record { header = a.header; table = g.table; spot = g.place.spot; padding = a.padding.items }) new (a.size + entry_size b code vs)) (sym (new_is b a.draft a.size c.self.invariant free code vs known fits new put)) kept)
+    let known : is_known b.table code ≡ true = subst (λ (x : Building). is_known x.table code ≡ true) (sym c.self.view_is) c.in_ok-judged.ensures.known in
+    let fits : ValuesFit b code vs = subst (λ (x : Building). ValuesFit x code vs) (sym c.self.view_is) c.in_ok-judged.ensures.fits in
+    let put : c.put_entry.new.draft ≡ draft_of (opened code vs b) = no_error c.put_entry.result _ (sym c.if-is_err.ensures.value) c.put_entry.ensures.ok ∙ opened_is d code vs (known_some d.table code known) fits in
+    ap (λ (x : Drafted). x.place.reading) put
 
-pub returns-in-Ok-put_entry-clause-opened : goal.returns-in-Ok-put_entry-clause-opened
-returns-in-Ok-put_entry-clause-opened c =
-    let a = c.self.inside in
-    let b : Building = record { header = a.header; table = a.draft.table; spot = a.draft.place.spot; padding = a.padding.items } in
+pub returns-clause-opened : goal.returns-clause-opened
+returns-clause-opened c =
+    let d : Drafted = c.self.inside.draft in
+    let b : Building = building_of d in
     let code : Unsigned = uleb_of c.args.code in
     let vs = map attribute_of c.args.values.now in
-    let new : Growing = c.put_entry.new.draft in
-    let free : None ≡ place_refusal b.spot = c.in_default.ensures ∙ ap (λ (x : Building). place_refusal x.spot) (sym c.self.view_is) in
-    let known : is_known b.table code ≡ true = subst (λ (x : Building). is_known x.table code ≡ true) (sym c.self.view_is) c.in-Ok.ensures.known in
-    let fits : ValuesFit b code vs = subst (λ (x : Building). ValuesFit x code vs) (sym c.self.view_is) c.in-Ok.ensures.fits in
-    ap (λ (g : Growing). record { header = a.header; table = g.table; spot = g.place.spot; padding = a.padding.items }) (new_is b a.draft a.size c.self.invariant free code vs known fits new c.in-Ok-put_entry.ensures.ok)
-    ∙ ap (opened code vs) c.self.view_is
+    let known : is_known b.table code ≡ true = subst (λ (x : Building). is_known x.table code ≡ true) (sym c.self.view_is) c.in_ok-judged.ensures.known in
+    let fits : ValuesFit b code vs = subst (λ (x : Building). ValuesFit x code vs) (sym c.self.view_is) c.in_ok-judged.ensures.fits in
+    let put : c.put_entry.new.draft ≡ draft_of (opened code vs b) = no_error c.put_entry.result _ (sym c.if-is_err.ensures.value) c.put_entry.ensures.ok ∙ opened_is d code vs (known_some d.table code known) fits in
+    ap building_of put ∙ ap (opened code vs) c.self.view_is

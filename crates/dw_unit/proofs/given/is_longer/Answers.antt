@@ -1,13 +1,12 @@
-use Rattle.std.proofs.Common.{◌≡◌, ◌<◌, ◌+◌, ℕ, List, length, drop, map, slice_index_or, sym, ap, ◌∙◌, arith, add-one}
-use Rattle.std.proofs.lemmas.List.{length-map, length-drop}
+use Rattle.std.proofs.Common.{◌<◌, ℕ, length, map, slice_index_or, refl, sym, ap, ◌∙◌, arith, add-one}
+use Rattle.std.proofs.lemmas.List.{length-map}
 use Rattle.std.specs.Prelude.{option_map}
 use Rattle.dw_leb.specs.View.{sleb_of}
 use Rattle.dw_form.specs.Lent.{attribute_of}
 use Rattle.dw_form.specs.Pieces.{has_spelling}
 use Rattle.dw_abbrev.specs.PairView.{pair_of}
-use Rattle.dw_tree.specs.Tree.{values}
 use Rattle.dw_unit.proofs.PutValues.{as_many, apart, sizes}
-use Rattle.dw_unit.proofs.given.entry_size.Goals as goal
+use Rattle.dw_unit.proofs.given.is_longer.Goals as goal
 
 pub bounds-values-at : goal.bounds-values-at
 bounds-values-at c =
@@ -26,8 +25,8 @@ size_of-more-requires-clause-spelled c =
     let pair_is = c.pair-item.is ∙ ap (λ (m : ℕ). slice_index_or ps m p) (sym i.counted) in
     (has_spelling c.args.ctx p.form.value (option_map sleb_of p.constant) (attribute_of c.index-values-at.result) (apart c.args.ctx ps vs c.loop-pair.at p c.index-values-at.result pair_in value_in pair_is c.index-values-at.is i.fits).0).0
 
-pub returns-then-more-room-clause-none : goal.returns-then-more-room-clause-none
-returns-then-more-room-clause-none c e =
+pub returns-then-more-room : goal.returns-then-more-room
+returns-then-more-room c =
     let i = c.loop-pair.invariant in
     let ps = c.args.pairs.now in
     let vs = c.args.values.now in
@@ -39,7 +38,7 @@ returns-then-more-room-clause-none c e =
     let fits = (apart c.args.ctx ps vs c.loop-pair.at p c.index-values-at.result pair_in value_in pair_is c.index-values-at.is i.fits).0 in
     let one = c.size_of-more.ensures ∙ ap length (has_spelling c.args.ctx p.form.value (option_map sleb_of p.constant) (attribute_of c.index-values-at.result) fits).1 in
     let all = sizes c.args.ctx ps vs c.loop-pair.at p c.index-values-at.result pair_in value_in pair_is c.index-values-at.is in
-    omega (arith, one, all, i.sized, i.within, c.if-more-room.true)
+    (λ _. omega (arith, one, all, i.sized, i.within, c.if-more-room.true), λ _. refl)
 
 pub loop-pair-preserved : goal.loop-pair-preserved
 loop-pair-preserved c =

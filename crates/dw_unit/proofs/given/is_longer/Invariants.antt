@@ -3,7 +3,7 @@ use Rattle.std.specs.Prelude.{map}
 use Rattle.dw_form.specs.Lent.{attribute_of}
 use Rattle.dw_abbrev.specs.PairView.{pair_of}
 use Rattle.dw_tree.specs.Tree.{values}
-use Rattle.dw_unit.proofs.given.entry_size.Given as goal
+use Rattle.dw_unit.proofs.given.is_longer.Given as goal
 
 -- the size of the values before this pair's is counted
 abbrev pub invariant-loop-pair : goal.invariant-loop-pair

@@ -1,0 +1,252 @@
+//! Units under construction, step by step (sections 2.3 and 7.5).
+ghost use Rattle.std.specs.Prelude.{◌≡◌, ◌≢◌, ◌≤◌, ◌<◌, ◌+◌, [], length, true, false, None, Some, IsSome, option_map, OnOk, OnErr};
+ghost use Rattle.dw_leb.specs.View.{uleb_of};
+ghost use Rattle.dw_form.specs.Lent.{attribute_of};
+ghost use Rattle.dw_abbrev.specs.Build.{is_width};
+ghost use Rattle.dw_abbrev.specs.PairView.{pair_of};
+ghost use Rattle.dw_abbrev.specs.Table.{declared, zero_of};
+ghost use Rattle.dw_tree.specs.Tree.{nesting};
+ghost use Rattle.dw_tree.specs.Standing.{is_bare};
+ghost use Rattle.dw_tree.specs.Steps.{begun_in, begun_value, NextFits, next_pair};
+ghost use Rattle.dw_unit.specs.Header.{context_of};
+ghost use Rattle.dw_unit.specs.Unit.{UnitFits};
+ghost use Rattle.dw_unit.specs.WholeUnit.{header_size, contents_of};
+ghost use Rattle.dw_unit.specs.Draft.{drafted_size, empty, begun, given, closed, padded, undone, finished, size_limit as limit_of, passes_limit, IsOnlyRoot, value_bytes};
+
+use crate::body::Body;
+use crate::head::length_bytes;
+use crate::header::Header;
+use crate::unit::Unit;
+use crate::writer::field_bytes;
+use dw_abbrev::{Pair, Table};
+use dw_form::{AttrValue, size_of};
+use dw_leb::{Format, Uleb};
+use dw_tree::TreeDraft;
+use std::alloc::{AllocError, Global};
+use std::marker::Model;
+use std::rc::Rc;
+
+/// A unit under construction, step by step: a header with its table, a tree that grows at one open
+/// place, and the nulls behind its root (section 7.5).
+///
+/// What a call's `requires` asks for its caller has tested. So the calls answer only that memory was
+/// refused, and the draft holds then what it held.
+#[derive(Drop)]
+pub struct Draft {
+    header: Header,
+    tree: TreeDraft,
+    /// The widths of the nulls behind the root.
+    padding: Vec<u8>,
+    /// The count of their bytes.
+    padded: u64,
+}
+
+impl Model for Draft {
+    ghost use Rattle.dw_unit.specs.Draft.{Drafted, drafted_code, IsDrafted};
+
+    ghost Value = { Drafted };
+
+    ghost coded = { drafted_code };
+
+    ghost view = { λ a. record { header = a.header; table = a.tree.table; place = a.tree.place; padding = a.padding.items } };
+
+    ghost invariant = { λ a. IsDrafted (record { header = a.header; table = a.tree.table; place = a.tree.place; padding = a.padding.items }) a.tree a.padded };
+}
+
+impl Draft {
+    /// A unit of this header without entries, over the table of their declarations. It takes no
+    /// memory.
+    pub fn new(alloc: Global, header: Header, table: Rc<Table>) -> Draft
+        ensures { result ≡ empty header table.value }
+    {
+        let start = header_bytes(header);
+        Draft {
+            header,
+            tree: TreeDraft::new(alloc, header.context(), table, start),
+            padding: Vec::new(alloc),
+            padded: 0,
+        }
+    }
+
+    /// An entry of this code begins, the root or one below the entry that is open (section 7.5.3).
+    /// Where its declaration asks for no values it is complete.
+    pub fn begin(&mut self, code: Uleb) -> Result<(), AllocError>
+        requires some { 0 < code.value }
+        requires known { IsSome (declared self.old.table code.value) }
+        requires free { self.old.place.reading ≡ None }
+        requires level { length self.old.place.spot.above < nesting }
+        requires only { IsOnlyRoot self.old.place.spot }
+        requires short { passes_limit self.old code.width ≡ false }
+        ensures ok { OnOk result (self.new ≡ begun (uleb_of code) self.old) }
+        ensures size { OnOk result (drafted_size self.new ≡ drafted_size self.old + code.width) }
+        ensures err { OnErr result (self.new ≡ self.old) }
+    {
+        self.tree.begin(code)
+    }
+
+    /// The entry that is read is given its next value (section 7.5.3). With its last value it is
+    /// complete: closed where its declaration has no children, else open.
+    pub fn value(&mut self, value: &AttrValue<'_>) -> Result<(), AllocError>
+        requires between { begun_in self.old.place.reading ≡ None }
+        requires fits { NextFits (context_of self.old.header) self.old.table self.old.place.reading (attribute_of value.now) }
+        requires short { passes_limit self.old (length (value_bytes self.old (attribute_of value.now))) ≡ false }
+        ensures ok { OnOk result (self.new ≡ given (attribute_of value.now) self.old) }
+        ensures size { OnOk result (drafted_size self.new ≡ drafted_size self.old + length (value_bytes self.old (attribute_of value.now))) }
+        ensures err { OnErr result (self.new ≡ self.old) }
+    {
+        match self.next_pair() {
+            Some(pair) => {
+                let size = size_of(self.header.context(), pair.form.value, value);
+                self.put(value, size)
+            }
+            None => unreachable!(),
+        }
+    }
+
+    /// The same with a value that was measured: it has `size` bytes.
+    pub(crate) fn put(&mut self, value: &AttrValue<'_>, size: u64) -> Result<(), AllocError>
+        requires between { begun_in self.old.place.reading ≡ None }
+        requires fits { NextFits (context_of self.old.header) self.old.table self.old.place.reading (attribute_of value.now) }
+        requires size { size ≡ length (value_bytes self.old (attribute_of value.now)) }
+        requires short { passes_limit self.old size ≡ false }
+        ensures ok { OnOk result (self.new ≡ given (attribute_of value.now) self.old) }
+        ensures size { OnOk result (drafted_size self.new ≡ drafted_size self.old + length (value_bytes self.old (attribute_of value.now))) }
+        ensures err { OnErr result (self.new ≡ self.old) }
+    {
+        self.tree.value(value, size)
+    }
+
+    /// The innermost open entry is closed: a null of `width` bytes ends its children (section 2.3).
+    pub fn close(&mut self, width: u8) -> Result<(), AllocError>
+        requires width { is_width width ≡ true }
+        requires inside { self.old.place.spot.above ≢ [] }
+        requires free { self.old.place.reading ≡ None }
+        requires short { passes_limit self.old width ≡ false }
+        ensures ok { OnOk result (self.new ≡ closed width self.old) }
+        ensures err { OnErr result (self.new ≡ self.old) }
+    {
+        self.tree.close(null(width))
+    }
+
+    /// One more null of `width` bytes stands behind the root, as padding (section 7.5).
+    pub fn pad(&mut self, width: u8) -> Result<(), AllocError>
+        requires width { is_width width ≡ true }
+        requires root { is_bare self.old.place.spot ≡ false }
+        requires whole { self.old.place.spot.above ≡ [] }
+        requires free { self.old.place.reading ≡ None }
+        requires short { passes_limit self.old width ≡ false }
+        ensures ok { OnOk result (self.new ≡ padded width self.old) }
+        ensures err { OnErr result (self.new ≡ self.old) }
+    {
+        self.padding.push(width)?;
+        self.padded += width as u64;
+        Ok(())
+    }
+
+    /// The entry that is read is taken back, with the values that it was given. It takes no memory.
+    pub fn undo(&mut self)
+        ensures { self.new ≡ undone self.old }
+    {
+        self.tree.undo();
+    }
+
+    /// The unit, once its root is closed. It can be written. It takes no memory.
+    pub fn finish(self) -> Unit
+        requires root { is_bare self.place.spot ≡ false }
+        requires whole { self.place.spot.above ≡ [] }
+        requires free { self.place.reading ≡ None }
+        ensures unit { finished self ≡ Some result }
+        ensures fits { UnitFits result.table (contents_of result) }
+    {
+        let size = self.size();
+        let Draft {
+            header,
+            tree,
+            padding,
+            padded: _,
+        } = self;
+        let tree = tree.finish();
+        Unit::of(header, Body { tree, padding }, size)
+    }
+
+    /// The header.
+    pub fn header(&self) -> Header
+        ensures { result ≡ self.now.header }
+    {
+        self.header
+    }
+
+    /// The table of its entries' declarations.
+    pub fn table(&self) -> &Table
+        ensures { result.now ≡ self.now.table }
+    {
+        self.tree.table()
+    }
+
+    /// The count of its bytes so far, the initial length included. It is less than `size_limit` of
+    /// the header's format.
+    pub fn size(&self) -> u64
+        ensures size { result ≡ drafted_size self.now }
+        ensures short { result < limit_of self.now.header.format }
+    {
+        self.tree.end() + self.padded
+    }
+
+    /// The pair whose value the entry that is read is given next (section 7.5.3). None where no entry
+    /// is read.
+    pub fn next_pair(&self) -> Option<Pair>
+        ensures { option_map pair_of result ≡ next_pair self.now.table self.now.place.reading }
+    {
+        self.tree.next_pair()
+    }
+
+    /// How many entries are open.
+    pub fn depth(&self) -> usize
+        ensures { result ≡ length self.now.place.spot.above }
+    {
+        self.tree.depth()
+    }
+
+    /// Whether no entry was begun, besides one whose values aren't complete.
+    pub fn is_empty(&self) -> bool
+        ensures { result ≡ is_bare self.now.place.spot }
+    {
+        self.tree.is_empty()
+    }
+
+    /// Whether the unit is too long with so many bytes more (sections 7.2.2 and 7.4).
+    pub fn is_too_long(&self, more: u64) -> bool
+        ensures { result ≡ passes_limit self.now more }
+    {
+        more >= size_limit(self.header.format()) - self.size()
+    }
+}
+
+/// The least count of bytes that no unit of the format has (sections 7.2.2 and 7.4).
+pub(crate) fn size_limit(format: Format) -> u64
+    ensures { result ≡ limit_of format }
+{
+    match format {
+        Format::Dwarf32 => 4 + 0xffff_fff0,
+        Format::Dwarf64 => 1 << 63,
+    }
+}
+
+/// The count of bytes of a header, its initial length included.
+fn header_bytes(header: Header) -> u64
+    ensures size { result ≡ header_size header }
+    ensures small { result ≤ 44 }
+{
+    (length_bytes(header.format()) + field_bytes(header).len()) as u64
+}
+
+/// A null of so many bytes.
+fn null(width: u8) -> Uleb
+    requires { is_width width ≡ true }
+    ensures { uleb_of result ≡ zero_of width }
+{
+    match Uleb::with_width(0, width) {
+        Some(null) => null,
+        None => unreachable!(),
+    }
+}
