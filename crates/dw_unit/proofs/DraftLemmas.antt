@@ -15,8 +15,8 @@ use Rattle.dw_abbrev.specs.Table.{Declaration, Table, declared, zero_of}
 use Rattle.dw_form.specs.declared.shape.Ctx.{Ctx}
 use Rattle.dw_tree.specs.Tree.{Tree, Forest, none, more, leaf, branch, pairs_of, nulls, AreNulls, nesting, tree as part}
 use Rattle.dw_tree.specs.Row.{push}
-use Rattle.dw_tree.specs.Place.{Frame, Spot, leave_from, Unread, Place}
-use Rattle.dw_tree.specs.Steps.{Growing, TreeAt, settled, settle_by, settle, begun_at, value_at, with_value, closed_at, undone as undone_at, end_of, finished as finished_at, whole_tree, FirstsFit, NextFits}
+use Rattle.dw_tree.specs.Place.{Frame, Spot, leave_from, Begun, Unread, Place}
+use Rattle.dw_tree.specs.Steps.{Growing, TreeAt, settled, settle_by, settle, begun_at, value_at, with_value, begun_in, begun_value, ended_by, ended as ended_at, closed_at, undone as undone_at, end_of, finished as finished_at, whole_tree, FirstsFit, NextFits}
 use Rattle.dw_tree.specs.Ends.{begun_end, value_end, closed_end}
 use Rattle.dw_unit.specs.Header.{fields, fields_of, context_of}
 use Rattle.dw_unit.specs.HeaderLemmas.{fields_fit}
@@ -142,6 +142,18 @@ value_place d v = by d.place.reading
     by : (o : Option Unread) → value_at v (tree_in d) o ≡ tree_in (with_place (value_at v (tree_in d) o).place d)
     by None = refl
     by (Some r) = refl
+
+-- a text or block that has begun is given as a value
+pub begun_some : {X Y : Type 0} (f : X → Y) (o : Option X) (y : Y) → Some y ≡ option_map f o → (x : X) × (o ≡ Some x) × (y ≡ f x)
+begun_some f None y e = absurd cc
+begun_some f (Some x) y e = (x, refl, cc)
+
+pub ended_value : (g : Growing) (v : Attribute) → option_map begun_value (begun_in g.place.reading) ≡ Some v → ended_at g ≡ with_value v g
+ended_value g v e = by (begun_in g.place.reading) e
+  where
+    by : (o : Option Begun) → option_map begun_value o ≡ Some v → ended_by o g ≡ with_value v g
+    by None h = absurd cc
+    by (Some b) h = let same : begun_value b ≡ v = cc in ap (λ (a : Attribute). with_value a g) same
 
 -- ---- what is kept
 

@@ -1,5 +1,5 @@
 -- A unit under construction, step by step: what each call makes of it, and what is true of it.
-use Rattle.std.specs.Prelude.{◌≡◌, ℕ, ◌+◌, ◌<◌, ◌^◌, Bool, true, List, [], ◌∷◌, ◌++◌, length, Option, None, option_map, nat_le, IsSome, IfSome}
+use Rattle.std.specs.Prelude.{◌≡◌, ℕ, ◌+◌, ◌<◌, ◌^◌, Bool, true, false, List, [], ◌∷◌, ◌++◌, length, Option, None, option_map, nat_le, IsSome, IfSome}
 use Rattle.std.proofs.Common.{refl}
 use Rattle.std.specs.Coded.{Coded, code_by, coded×, coded_list, coded_ℕ}
 use Rattle.dw_leb.specs.declared.order.Format.{Format}
@@ -12,7 +12,7 @@ use Rattle.dw_tree.specs.Tree.{Tree, Forest, none, more, pairs_of, nulls, AreNul
 use Rattle.dw_tree.specs.Codes.{table_code}
 use Rattle.dw_tree.specs.Place.{Frame, Spot, nowhere, Unread, Place, place_code}
 use Rattle.dw_tree.specs.Standing.{is_bare}
-use Rattle.dw_tree.specs.Steps.{Growing, begun_at, with_value, closed_at, undone as undone_at, end_of, whole_tree, next_bytes, FirstsFit}
+use Rattle.dw_tree.specs.Steps.{Growing, begun_at, with_value, begun_in, begun_value, started as started_at, extended as extended_at, ended as ended_at, closed_at, undone as undone_at, end_of, whole_tree, NextFits, next_bytes, FirstsFit}
 use Rattle.dw_unit.specs.Header.{Header, HeaderFits, context_of}
 use Rattle.dw_unit.specs.WholeUnit.{WholeUnit, header_code, header_size}
 
@@ -52,6 +52,18 @@ begun code d = with_place (begun_at code (tree_in d)).place d
 abbrev pub given : Attribute → Drafted → Drafted
 given v d = with_place (with_value v (tree_in d)).place d
 
+-- a text or block begins as its next value, of which no bytes are there yet
+abbrev pub started : Option Unsigned → Option ℕ → Drafted → Drafted
+started via width d = with_place (started_at via width (tree_in d)).place d
+
+-- more of its bytes are there
+abbrev pub extended : List ℕ → Drafted → Drafted
+extended bytes d = with_place (extended_at bytes (tree_in d)).place d
+
+-- it has all its bytes
+abbrev pub ended : Drafted → Drafted
+ended d = with_place (ended_at (tree_in d)).place d
+
 -- the innermost open entry is closed
 abbrev pub closed : ℕ → Drafted → Drafted
 closed width d = with_place (closed_at width (tree_in d)).place d
@@ -86,6 +98,17 @@ IsOnlyRoot s = s.above ≡ [] → is_bare s ≡ true
 -- the bytes of a value, as the next one of the entry that is read
 abbrev pub value_bytes : Drafted → Attribute → List ℕ
 value_bytes d v = next_bytes (context_of d.header) d.table d.place.reading v
+
+-- the text or block that has begun, with its bytes so far
+abbrev pub begun_of : Drafted → Option Attribute
+begun_of d = option_map begun_value (begun_in d.place.reading)
+
+-- it has a spelling as the next value of the entry that is read, and the unit isn't too long with it
+abbrev pub BegunFits : Drafted → Type 0
+BegunFits d = IfSome (begun_of d) (λ v. NextFits (context_of d.header) d.table d.place.reading v)
+
+abbrev pub BegunShort : Drafted → Type 0
+BegunShort d = IfSome (begun_of d) (λ v. passes_limit d (length (value_bytes d v)) ≡ false)
 
 -- ---- what is kept
 

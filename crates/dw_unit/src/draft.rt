@@ -6,12 +6,13 @@ ghost use Rattle.dw_abbrev.specs.Build.{is_width};
 ghost use Rattle.dw_abbrev.specs.PairView.{pair_of};
 ghost use Rattle.dw_abbrev.specs.Table.{declared, zero_of};
 ghost use Rattle.dw_tree.specs.Tree.{nesting};
+ghost use Rattle.dw_tree.specs.Held.{held_in};
 ghost use Rattle.dw_tree.specs.Standing.{is_bare};
-ghost use Rattle.dw_tree.specs.Steps.{begun_in, begun_value, NextFits, next_pair};
+ghost use Rattle.dw_tree.specs.Steps.{begun_in, NextFits, next_pair};
 ghost use Rattle.dw_unit.specs.Header.{context_of};
 ghost use Rattle.dw_unit.specs.Unit.{UnitFits};
 ghost use Rattle.dw_unit.specs.WholeUnit.{header_size, contents_of};
-ghost use Rattle.dw_unit.specs.Draft.{drafted_size, empty, begun, given, closed, padded, undone, finished, size_limit as limit_of, passes_limit, IsOnlyRoot, value_bytes};
+ghost use Rattle.dw_unit.specs.Draft.{drafted_size, empty, begun, given, started, extended, ended, closed, padded, undone, finished, size_limit as limit_of, passes_limit, IsOnlyRoot, value_bytes, begun_of, BegunFits, BegunShort};
 
 use crate::body::Body;
 use crate::head::length_bytes;
@@ -116,6 +117,50 @@ impl Draft {
         self.tree.value(value, size)
     }
 
+    /// A text, or a block whose length field has `width` bytes, begins as the next value of the entry
+    /// that is read (section 7.5.5). `via` is the form that an indirect value names. The bytes come
+    /// with `bytes`, and `end_value` ends it.
+    pub fn start(&mut self, via: Option<Uleb>, width: Option<u8>) -> Result<(), AllocError>
+        requires reading { IsSome self.old.place.reading }
+        requires between { begun_in self.old.place.reading ≡ None }
+        ensures ok { OnOk result (self.new ≡ started (option_map uleb_of via) width self.old) }
+        ensures err { OnErr result (self.new ≡ self.old) }
+    {
+        self.tree.start(via, width)
+    }
+
+    /// The text or block that has begun is given its next bytes.
+    pub fn bytes(&mut self, piece: &[u8]) -> Result<(), AllocError>
+        requires begun { IsSome (begun_in self.old.place.reading) }
+        ensures ok { OnOk result (self.new ≡ extended piece.now self.old) }
+        ensures err { OnErr result (self.new ≡ self.old) }
+    {
+        self.tree.bytes(piece)
+    }
+
+    /// The text or block that has begun has all its bytes. It takes no memory.
+    pub fn end_value(&mut self)
+        requires fits { BegunFits self.old }
+        requires short { BegunShort self.old }
+        ensures { self.new ≡ ended self.old }
+    {
+        if let Some(size) = self.begun_size() {
+            self.tree.end_value(size);
+        }
+    }
+
+    /// The count of bytes of the text or block that has begun.
+    fn begun_size(&self) -> Option<u64>
+        requires { BegunFits self.now }
+        ensures { result ≡ option_map (λ v. length (value_bytes self.now v)) (begun_of self.now) }
+    {
+        let begun = self.tree.begun()?;
+        match self.next_pair() {
+            Some(pair) => Some(size_of(self.header.context(), pair.form.value, &begun)),
+            None => unreachable!(),
+        }
+    }
+
     /// The innermost open entry is closed: a null of `width` bytes ends its children (section 2.3).
     pub fn close(&mut self, width: u8) -> Result<(), AllocError>
         requires width { is_width width ≡ true }
@@ -198,6 +243,21 @@ impl Draft {
         ensures { option_map pair_of result ≡ next_pair self.now.table self.now.place.reading }
     {
         self.tree.next_pair()
+    }
+
+    /// The text or block that has begun, with its bytes so far.
+    pub fn begun(&self) -> Option<AttrValue<'_>>
+        ensures { option_map attribute_of result ≡ begun_of self.now }
+    {
+        self.tree.begun()
+    }
+
+    /// The bytes of its texts and blocks, those of one that has begun included, in the order in which
+    /// they were given. It keeps no others.
+    pub fn content(&self) -> &[u8]
+        ensures { result.now ≡ held_in self.now.place }
+    {
+        self.tree.content()
     }
 
     /// How many entries are open.
