@@ -11,8 +11,8 @@ use Rattle.dw_tree.specs.Sound.{IsRead}
 use Rattle.dw_tree.specs.Steps.{Growing, next_pair}
 use Rattle.dw_tree.proofs.draft.TreeDraft.next_pair.Goals as goal
 
-pub returns : goal.returns
-returns c =
+pub returns-clause-pair : goal.returns-clause-pair
+returns-clause-pair c =
     let a = c.self.inside in
     let t = a.table.value in
     let vs = a.values.items in
