@@ -8,6 +8,7 @@ pub mod Row
 pub mod Codes
 pub mod Place
 pub mod Steps
+pub mod Next
 pub mod Flat
 pub mod Settled
 pub mod Sound

@@ -1,5 +1,5 @@
 //! A tree under construction.
-ghost use Rattle.std.specs.Prelude.{◌≡◌, ◌≢◌, ◌+◌, ◌<◌, ◌≤◌, ◌^◌, ◌-◌, [], length, option_map, IfOk, IfSome, None, Some, IsSome, OnOk, OnErr, vec_len, vec_capacity};
+ghost use Rattle.std.specs.Prelude.{◌≡◌, ◌≢◌, ◌+◌, ◌<◌, ◌≤◌, ◌^◌, ◌-◌, [], length, option_map, IfOk, IfSome, None, Some, is_some, IsSome, OnOk, OnErr, vec_len, vec_capacity};
 ghost use Rattle.dw_leb.specs.Number.{uleb};
 ghost use Rattle.dw_leb.specs.View.{uleb_of};
 ghost use Rattle.dw_form.specs.Form.{IsContext};
@@ -250,10 +250,11 @@ impl TreeDraft {
         &self.table
     }
 
-    /// The pair whose value the entry that is read is given next (section 7.5.3). None where no entry
-    /// is read.
+    /// The pair whose value the entry that is read is given next (section 7.5.3). None exactly where
+    /// no entry is read.
     pub fn next_pair(&self) -> Option<Pair>
-        ensures { option_map pair_of result ≡ next_pair self.now.table self.now.place.reading }
+        ensures pair { option_map pair_of result ≡ next_pair self.now.table self.now.place.reading }
+        ensures reading { is_some result ≡ is_some self.now.place.reading }
     {
         let reading = self.reading?;
         let decl = self.table.get(reading.code.value)?;

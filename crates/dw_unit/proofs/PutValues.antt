@@ -1,5 +1,5 @@
 -- An entry that is given its values by a caller.
-use Rattle.std.proofs.Common.{◌≡◌, ◌+◌, ◌<◌, ◌++◌, ◌∷◌, [], ℕ, zero, suc, List, Option, Some, None, length, drop, slice_get, map, slice_index_or, refl, sym, ap, ap₂, subst, ◌∙◌, arith, length-append}
+use Rattle.std.proofs.Common.{◌≡◌, ◌+◌, ◌<◌, ◌++◌, ◌∷◌, [], ℕ, zero, suc, List, Option, Some, None, length, drop, map, slice_index_or, refl, sym, ap, ap₂, subst, ◌∙◌, arith, length-append}
 use Rattle.std.specs.Prelude.{IsSome}
 use Rattle.dw_leb.specs.Number.{Unsigned}
 use Rattle.dw_form.specs.declared.shape.Ctx.{Ctx}
@@ -12,7 +12,7 @@ use Rattle.dw_abbrev.specs.Table.{Pair, Declaration, Table, declared}
 use Rattle.dw_tree.specs.Tree.{values, pairs_of}
 use Rattle.dw_tree.specs.Flat.{value_part}
 use Rattle.dw_tree.specs.Place.{Place, Unread}
-use Rattle.dw_tree.specs.Steps.{begun_in, settle, NextFits, next_bytes, next_pair, FirstFits, first_bytes}
+use Rattle.dw_tree.specs.Steps.{begun_in, settle, NextFits, FirstFits, first_bytes}
 use Rattle.dw_unit.specs.Header.{context_of}
 use Rattle.dw_unit.specs.Draft.{Drafted, with_place, given, undone, value_bytes}
 use Rattle.dw_unit.proofs.EntryLemmas.{settle_open}
@@ -111,30 +111,6 @@ module _ (k : Ctx) (ps : List RustPair) (vs : List AttrValue) (i : ℕ) (p : Rus
 
   pub sizes : length ((values k (drop i (map pair_of ps))).spell (drop i (map attribute_of vs))) ≡ length ((value_part k p).spell (attribute_of v)) + length ((values k pairs_behind).spell values_behind)
   sizes = ap₂ (λ (qs : List Pair) (xs : List Attribute). length ((values k qs).spell xs)) pairs_here values_here ∙ length-append ((value_part k p).spell (attribute_of v)) ((values k pairs_behind).spell values_behind)
-
--- the first of the pairs from a place on
-module _ (k : Ctx) (v : Attribute) where
-  pub first_is : (ps : List Pair) (n : ℕ) (p : Pair) → slice_get ps n ≡ Some p → FirstFits k (drop n ps) v
-      → (attribute k p.form.value p.constant).Fits v × (first_bytes k (drop n ps) v ≡ (attribute k p.form.value p.constant).spell v)
-  first_is [] zero p e h = absurd h
-  first_is [] (suc n) p e h = absurd h
-  first_is (q ∷ ps) zero p e h = let same : q ≡ p = cc in (subst (λ (x : Pair). (attribute k x.form.value x.constant).Fits v) same h, ap (λ (x : Pair). (attribute k x.form.value x.constant).spell v) same)
-  first_is (q ∷ ps) (suc n) p e h = first_is ps n p e h
-
-  pub first_some : (ps : List Pair) (n : ℕ) → slice_get ps n ≡ None → FirstFits k (drop n ps) v → ⊥
-  first_some [] zero e h = h
-  first_some [] (suc n) e h = h
-  first_some (q ∷ ps) zero e h = absurd cc
-  first_some (q ∷ ps) (suc n) e h = first_some ps n e h
-
-  pub next_is : (t : Table) (o : Option Unread) (p : Pair) → next_pair t o ≡ Some p → NextFits k t o v
-      → (attribute k p.form.value p.constant).Fits v × (next_bytes k t o v ≡ (attribute k p.form.value p.constant).spell v)
-  next_is t None p e h = absurd h
-  next_is t (Some r) p e h = first_is (pairs_of (declared t r.code.value)) (length r.values) p e h
-
-  pub next_some : (t : Table) (o : Option Unread) → next_pair t o ≡ None → NextFits k t o v → ⊥
-  next_some t None e h = h
-  next_some t (Some r) e h = first_some (pairs_of (declared t r.code.value)) (length r.values) e h
 
 pub no_size : (k : Ctx) (ps : List Pair) → length ((values k ps).spell []) ≡ 0
 no_size k [] = refl

@@ -1,5 +1,5 @@
 //! Units under construction, step by step (sections 2.3 and 7.5).
-ghost use Rattle.std.specs.Prelude.{◌≡◌, ◌≢◌, ◌≤◌, ◌<◌, ◌+◌, [], length, true, false, None, Some, IsSome, option_map, OnOk, OnErr};
+ghost use Rattle.std.specs.Prelude.{◌≡◌, ◌≢◌, ◌≤◌, ◌<◌, ◌+◌, [], length, true, false, None, Some, is_some, IsSome, option_map, OnOk, OnErr};
 ghost use Rattle.dw_leb.specs.View.{uleb_of};
 ghost use Rattle.dw_form.specs.Lent.{attribute_of};
 ghost use Rattle.dw_abbrev.specs.Build.{is_width};
@@ -237,10 +237,11 @@ impl Draft {
         self.tree.end() + self.padded
     }
 
-    /// The pair whose value the entry that is read is given next (section 7.5.3). None where no entry
-    /// is read.
+    /// The pair whose value the entry that is read is given next (section 7.5.3). None exactly where
+    /// no entry is read.
     pub fn next_pair(&self) -> Option<Pair>
-        ensures { option_map pair_of result ≡ next_pair self.now.table self.now.place.reading }
+        ensures pair { option_map pair_of result ≡ next_pair self.now.table self.now.place.reading }
+        ensures reading { is_some result ≡ is_some self.now.place.reading }
     {
         self.tree.next_pair()
     }

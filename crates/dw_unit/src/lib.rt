@@ -10,6 +10,8 @@ mod builder;
 mod builder_tests;
 mod codes;
 mod draft;
+#[cfg(test)]
+mod draft_tests;
 mod entries;
 #[cfg(test)]
 mod entry_tests;

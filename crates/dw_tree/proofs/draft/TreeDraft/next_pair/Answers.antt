@@ -13,8 +13,8 @@ use Rattle.dw_tree.specs.DraftView.{front}
 use Rattle.dw_tree.proofs.Begins.{next_given}
 use Rattle.dw_tree.proofs.draft.TreeDraft.next_pair.Goals as goal
 
-pub returns : goal.returns
-returns c =
+pub returns-clause-pair : goal.returns-clause-pair
+returns-clause-pair c =
     let a = c.self.inside in
     let t = a.table.value in
     let vs = a.values.items in

@@ -4,7 +4,7 @@ use Rattle.dw_form.specs.Lent.{attribute_of}
 use Rattle.dw_form.specs.declared.shape.Ctx.{Ctx}
 use Rattle.dw_form.specs.Pieces.{HasSpelling, spelling, has_spelling}
 use Rattle.dw_abbrev.specs.PairView.{pair_of}
-use Rattle.dw_unit.proofs.PutValues.{next_is, next_some}
+use Rattle.dw_tree.specs.Next.{next_is, next_some}
 use Rattle.dw_unit.specs.Header.{context_of}
 use Rattle.dw_unit.specs.Draft.{Drafted, passes_limit}
 use Rattle.dw_unit.proofs.draft.Draft.value.Goals as goal
@@ -16,7 +16,7 @@ size_of-size-requires-clause-spelled c =
     let k = context_of d.header in
     let p = pair_of c.in-Some.pair in
     let same : c.context.result ≡ k = c.context.ensures.context ∙ ap (λ (x : Drafted). context_of x.header) c.self.view_is in
-    let w = next_is k v d.table d.place.reading p (sym c.in-Some.ensures) c.requires.fits in
+    let w = next_is k v d.table d.place.reading p (sym c.in-Some.ensures.pair) c.requires.fits in
     let whole = has_spelling k p.form.value p.constant v w.0 in
     subst (λ (x : Ctx). HasSpelling x p.form.value v) (sym same) whole.0
 
@@ -27,7 +27,7 @@ put-requires-clause-size c =
     let k = context_of d.header in
     let p = pair_of c.in-Some.pair in
     let same : c.context.result ≡ k = c.context.ensures.context ∙ ap (λ (x : Drafted). context_of x.header) c.self.view_is in
-    let w = next_is k v d.table d.place.reading p (sym c.in-Some.ensures) c.requires.fits in
+    let w = next_is k v d.table d.place.reading p (sym c.in-Some.ensures.pair) c.requires.fits in
     let whole = has_spelling k p.form.value p.constant v w.0 in
     c.size_of-size.ensures ∙ (ap (λ (x : Ctx). length (spelling x p.form.value v)) same ∙ ap length (whole.1 ∙ sym w.1))
 
@@ -38,7 +38,7 @@ put-requires-clause-short c =
     let k = context_of d.header in
     let p = pair_of c.in-Some.pair in
     let same : c.context.result ≡ k = c.context.ensures.context ∙ ap (λ (x : Drafted). context_of x.header) c.self.view_is in
-    let w = next_is k v d.table d.place.reading p (sym c.in-Some.ensures) c.requires.fits in
+    let w = next_is k v d.table d.place.reading p (sym c.in-Some.ensures.pair) c.requires.fits in
     let whole = has_spelling k p.form.value p.constant v w.0 in
     ap (passes_limit d) (c.size_of-size.ensures ∙ (ap (λ (x : Ctx). length (spelling x p.form.value v)) same ∙ ap length (whole.1 ∙ sym w.1))) ∙ c.requires.short
 
@@ -47,4 +47,4 @@ unreachable-requires c =
     let d : Drafted = c.args.self.now in
     let v : Attribute = attribute_of c.args.value.now in
     let k = context_of d.header in
-    absurd (next_some k v d.table d.place.reading (sym c.in-None.ensures) c.requires.fits)
+    absurd (next_some k v d.table d.place.reading (sym c.in-None.ensures.pair) c.requires.fits)

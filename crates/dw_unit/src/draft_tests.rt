@@ -1,0 +1,188 @@
+//! What no clause says of drafts: each call once with memory to spare, by a caller that tests what a
+//! call asks for with the draft's own observers, and makes it again where memory is refused; the same
+//! unit from a builder; an entry taken back.
+use crate::{Draft, Header, Kind, Unit, UnitBuilder, write_unit};
+use dw_abbrev::{Table, Tables};
+use dw_form::{AttrValue, Value, fits, size_of};
+use dw_leb::{Format, Order, Uleb, Watched, WriteError};
+use std::alloc::Global;
+use std::rc::Rc;
+use std::test::Fail;
+
+/// Code 1, DW_TAG_compile_unit, children, DW_AT_name as DW_FORM_string; code 2, DW_TAG_base_type, no
+/// children, DW_AT_byte_size as DW_FORM_data1.
+const NESTED: [u8; 15] = [
+    0x01, 0x11, 1, 0x03, 0x08, 0, 0, 0x02, 0x24, 0, 0x0b, 0x0b, 0, 0, 0,
+];
+
+/// Over it a compile unit of the name "a", whose code is padded, with a base type of 4 bytes, a null of
+/// 2 bytes behind it, and nulls of 1 and 2 bytes behind the root.
+const PADDED: [u8; 23] = [
+    0x13, 0, 0, 0, 0x05, 0, 0x01, 0x08, 0, 0, 0, 0, 0x81, 0, 0x61, 0, 0x02, 0x04, 0x80, 0, 0, 0x80,
+    0,
+];
+
+fn table(alloc: Global) -> Result<Rc<Table>, Fail> {
+    Ok(Tables::new(alloc, &NESTED).get(0)?)
+}
+
+fn header() -> Result<Header, Fail> {
+    Ok(Header::new(Order::Little, Format::Dwarf32, Kind::Compile, 8, 0).ok_or("no header")?)
+}
+
+fn name() -> AttrValue<'static> {
+    AttrValue {
+        via: None,
+        value: Value::Text(&[0x61]),
+    }
+}
+
+fn four() -> AttrValue<'static> {
+    AttrValue {
+        via: None,
+        value: Value::Num(4),
+    }
+}
+
+/// An entry of this code begins, where one can.
+#[tactic(auto, using(crate::proofs::Levels::nesting_is))]
+fn begun(draft: &mut Draft, code: Uleb) -> Result<(), Fail> {
+    if draft.next_pair().is_some() {
+        return Err("an entry is read".into());
+    }
+    if code.value == 0 || draft.table().get(code.value).is_none() {
+        return Err("an unknown code".into());
+    }
+    let depth = draft.depth();
+    if depth >= 256 || (depth == 0 && !draft.is_empty()) || draft.is_too_long(code.width as u64) {
+        return Err("no place".into());
+    }
+    if draft.begin(code).is_err() {
+        draft.begin(code)?;
+    }
+    Ok(())
+}
+
+/// The entry that is read is given a value that fits.
+fn given(draft: &mut Draft, value: AttrValue<'_>) -> Result<(), Fail> {
+    let Some(pair) = draft.next_pair() else {
+        return Err("no entry is read".into());
+    };
+    let ctx = draft.header().context();
+    if !fits(ctx, pair.form.value, pair.constant, &value) {
+        return Err("a wrong value".into());
+    }
+    if draft.is_too_long(size_of(ctx, pair.form.value, &value)) {
+        return Err("too long".into());
+    }
+    if let Err(_) = draft.value(&value) {
+        draft.value(&value)?;
+    }
+    Ok(())
+}
+
+/// The innermost open entry is closed, where one is open.
+fn closed(draft: &mut Draft, width: u8) -> Result<(), Fail> {
+    if draft.next_pair().is_some() || draft.depth() == 0 {
+        return Err("no entry to close".into());
+    }
+    if width < 1 || width > 16 || draft.is_too_long(width as u64) {
+        return Err("no null".into());
+    }
+    if draft.close(width).is_err() {
+        draft.close(width)?;
+    }
+    Ok(())
+}
+
+/// One more null of the padding, where the root is closed.
+fn padded(draft: &mut Draft, width: u8) -> Result<(), Fail> {
+    if draft.next_pair().is_some() || draft.depth() != 0 || draft.is_empty() {
+        return Err("no closed root".into());
+    }
+    if width < 1 || width > 16 || draft.is_too_long(width as u64) {
+        return Err("no null".into());
+    }
+    if draft.pad(width).is_err() {
+        draft.pad(width)?;
+    }
+    Ok(())
+}
+
+fn finished(draft: Draft) -> Result<Unit, Fail> {
+    if draft.next_pair().is_some() || draft.depth() != 0 || draft.is_empty() {
+        return Err("no closed root".into());
+    }
+    Ok(draft.finish())
+}
+
+fn written(alloc: Global, unit: &Unit) -> Result<Vec<u8>, WriteError> {
+    let mut writer = Watched::new(Vec::new(alloc));
+    write_unit(unit, &mut writer)?;
+    Ok(writer.into_inner())
+}
+
+/// The same unit by a builder.
+fn built(alloc: Global) -> Result<Unit, Fail> {
+    let mut builder = UnitBuilder::new(alloc, header()?, table(alloc)?);
+    let code = Uleb::with_width(1, 2).ok_or("no such width")?;
+    builder.open(code, &[name()])?;
+    builder.open(Uleb::least(2), &[four()])?;
+    builder.close(2)?;
+    builder.pad(1)?;
+    builder.pad(2)?;
+    match builder.finish() {
+        Ok(unit) => Ok(unit),
+        Err((refusal, _)) => Err(refusal.into()),
+    }
+}
+
+#[test]
+fn a_unit_step_by_step(rt: HostRuntime) -> Result<(), Fail> {
+    let mut draft = Draft::new(rt.alloc(), header()?, table(rt.alloc())?);
+    assert_eq!(rt; draft.size(), 12);
+    assert_eq!(rt; draft.is_empty(), true);
+    begun(&mut draft, Uleb::with_width(1, 2).ok_or("no such width")?)?;
+    assert_eq!(rt; draft.size(), 14);
+    assert_eq!(rt; draft.is_empty(), true);
+    given(&mut draft, name())?;
+    assert_eq!(rt; draft.depth(), 1);
+    begun(&mut draft, Uleb::least(2))?;
+    given(&mut draft, four())?;
+    assert_eq!(rt; draft.depth(), 1);
+    closed(&mut draft, 2)?;
+    assert_eq!(rt; draft.depth(), 0);
+    assert_eq!(rt; draft.is_empty(), false);
+    padded(&mut draft, 1)?;
+    padded(&mut draft, 2)?;
+    assert_eq!(rt; draft.size(), 23);
+    let unit = finished(draft)?;
+    assert_eq!(rt; unit.size(), 23);
+    assert_eq!(rt; written(rt.alloc(), &unit)?.as_slice(), PADDED.as_slice());
+    let other = built(rt.alloc())?;
+    assert_eq!(rt; written(rt.alloc(), &other)?.as_slice(), PADDED.as_slice());
+    Ok(())
+}
+
+#[test]
+fn an_entry_is_taken_back(rt: HostRuntime) -> Result<(), Fail> {
+    let mut draft = Draft::new(rt.alloc(), header()?, table(rt.alloc())?);
+    begun(&mut draft, Uleb::least(1))?;
+    let pair = draft.next_pair().ok_or("no entry is read")?;
+    assert_eq!(rt; pair.form.value, 0x08);
+    draft.undo();
+    assert_eq!(rt; draft.size(), 12);
+    assert_eq!(rt; draft.next_pair(), None);
+    begun(&mut draft, Uleb::with_width(1, 2).ok_or("no such width")?)?;
+    given(&mut draft, name())?;
+    begun(&mut draft, Uleb::least(1))?;
+    draft.undo();
+    begun(&mut draft, Uleb::least(2))?;
+    given(&mut draft, four())?;
+    closed(&mut draft, 2)?;
+    padded(&mut draft, 1)?;
+    padded(&mut draft, 2)?;
+    let unit = finished(draft)?;
+    assert_eq!(rt; written(rt.alloc(), &unit)?.as_slice(), PADDED.as_slice());
+    Ok(())
+}
