@@ -20,3 +20,4 @@ pub mod Levels
 pub mod BuildLemmas
 pub mod PutValues
 pub mod OpenLemmas
+pub mod Found
