@@ -21,3 +21,4 @@ pub mod BuildLemmas
 pub mod PutValues
 pub mod OpenLemmas
 pub mod Found
+pub mod Rising
