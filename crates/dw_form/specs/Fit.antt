@@ -1,5 +1,5 @@
 -- Which values have a spelling under a form, as a test.
-use Rattle.std.proofs.Common.{◌≡◌, ◌≢◌, ◌≤◌, ◌<◌, ◌^◌, ℕ, Bool, true, false, List, [], ◌∷◌, length, Option, Some, None, refl, sym, ap, ap₂, ◌∙◌, arith}
+use Rattle.std.proofs.Common.{◌≡◌, ◌<◌, ◌^◌, ℕ, Bool, true, false, List, [], ◌∷◌, length, Option, Some, None, refl, sym, ap, ap₂, ◌∙◌, arith}
 use Rattle.std.specs.Prelude.{nat_le, nat_lt, ◌==◌, ◌&&◌, ◌||◌, not, if◌then◌else◌, is_some, IsTrue, ◌↔◌, IfSome, option_map}
 use Rattle.std.specs.List.{AllByRecursion}
 use Rattle.std.specs.Ordering.{int_eq}
@@ -7,7 +7,7 @@ use Rattle.std.proofs.lemmas.Bool.{leb-true, le-leb, ltb-true, lt-ltb, eqb-true,
 use Rattle.std.proofs.lemmas.Bool.Decides.{Decides-int_eq}
 use Rattle.dw_leb.specs.declared.errors.Reason.TheVariants.{BadIndirect}
 use Rattle.dw_leb.specs.Part.{Part, FitsAs, ◌then◌}
-use Rattle.dw_leb.specs.Number.{Unsigned, Signed, UlebFits, SlebFits, fixed, content, text, uleb, sleb}
+use Rattle.dw_leb.specs.Number.{Unsigned, Signed, UlebFits, SlebFits, fixed, content}
 use Rattle.dw_leb.specs.DecideNumber.{uleb_fits, sleb_fits, fits_uleb}
 use Rattle.dw_leb.specs.ReadNumber.{before_zero}
 use Rattle.dw_form.specs.declared.shape.Ctx.{Ctx}
@@ -18,7 +18,7 @@ use Rattle.dw_leb.specs.declared.unsigned.Uleb as leb
 use Rattle.dw_form.specs.declared.value.Value as declared
 use Rattle.dw_form.specs.declared.value.Value.TheVariants as values
 use Rattle.dw_form.specs.Lent.{value_of}
-use Rattle.dw_form.specs.Form.{Value, Num, Wide, Uleb, Sleb, Block, Text, Present, Implicit, Attribute, shape, shaped, shaped_if, formed, bad_inner, by_indirection, attribute}
+use Rattle.dw_form.specs.Form.{Value, Num, Wide, Uleb, Sleb, Block, Text, Present, Implicit, Attribute, shape, shaped, shaped_if, bad_inner, by_indirection, attribute}
 
 -- no byte is 0
 abbrev pub is_text : List ℕ → Bool

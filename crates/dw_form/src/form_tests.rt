@@ -86,7 +86,7 @@ const FIXED: [Fixed; 28] = [
 
 /// A value. Numbers of LEB128 and blocks have the count of bytes of the number or length.
 #[derive(Clone, Copy)]
-enum Want {
+pub(crate) enum Want {
     Num(u64),
     Wide(u128),
     Uleb(u64, u8),
@@ -347,15 +347,15 @@ fn check(rt: &impl Abort, alloc: Global, case: &Case<'_>) -> Result<(), Fail>
     writes(rt, alloc, case)
 }
 
-fn unsigned(value: u64, width: u8) -> Result<Uleb, Fail> {
+pub(crate) fn unsigned(value: u64, width: u8) -> Result<Uleb, Fail> {
     Ok(Uleb::with_width(value, width).ok_or("no such number")?)
 }
 
-fn signed(value: i64, width: u8) -> Result<Sleb, Fail> {
+pub(crate) fn signed(value: i64, width: u8) -> Result<Sleb, Fail> {
     Ok(Sleb::with_width(value, width).ok_or("no such number")?)
 }
 
-fn wanted(want: Want) -> Result<Value<'static>, Fail> {
+pub(crate) fn wanted(want: Want) -> Result<Value<'static>, Fail> {
     Ok(match want {
         Want::Num(number) => Value::Num(number),
         Want::Wide(number) => Value::Wide(number),

@@ -17,6 +17,8 @@
 
 mod fit;
 #[cfg(test)]
+mod fit_tests;
+#[cfg(test)]
 mod form_tests;
 pub mod laws;
 mod lend;

@@ -20,3 +20,5 @@ pub mod Levels
 pub mod DraftLemmas
 pub mod PutValues
 pub mod OpenLemmas
+pub mod Found
+pub mod Rising

@@ -1,6 +1,7 @@
 //! Units (section 7.5).
-ghost use Rattle.std.specs.Prelude.{◌≡◌, length};
-ghost use Rattle.dw_tree.specs.Lent.{root_of, entries_of, find_at};
+ghost use Rattle.std.specs.Prelude.{◌≡◌, ◌≢◌, ◌↔◌, length, None, Some, IfSome};
+ghost use Rattle.std.specs.List.{All, Contains};
+ghost use Rattle.dw_tree.specs.Lent.{EntryAt, root_of, entries_of, find_at};
 ghost use Rattle.dw_unit.specs.WholeUnit.{IsUnit, bytes_of, tree_of};
 
 use crate::body::Body;
@@ -73,9 +74,13 @@ impl Unit {
         self.tree.root()
     }
 
-    /// The entry that begins exactly at this offset, counted from the unit's first byte.
+    /// The entry that begins exactly at this offset, counted from the unit's first byte: there is at
+    /// most one. None exactly where no entry begins there.
     pub fn entry_at(&self, offset: u64) -> Option<EntryRef<'_>>
-        ensures { result ≡ find_at offset (entries_of (tree_of self.now)) }
+        ensures first { result ≡ find_at offset (entries_of (tree_of self.now)) }
+        ensures found { IfSome result (λ e. Contains (entries_of (tree_of self.now)) e × (e.offset ≡ offset)) }
+        ensures each { (e : EntryAt) → Contains (entries_of (tree_of self.now)) e → e.offset ≡ offset → result ≡ Some e }
+        ensures none { result ≡ None ↔ All (λ e. e.offset ≢ offset) (entries_of (tree_of self.now)) }
     {
         self.tree.entry_at(offset)
     }
