@@ -30,8 +30,9 @@ use std::rc::Rc;
 /// A unit under construction, step by step: a header with its table, a tree that grows at one open
 /// place, and the nulls behind its root (section 7.5).
 ///
-/// What a call's `requires` asks for its caller has tested. So the calls answer only that memory was
-/// refused, and the draft holds then what it held.
+/// What a call's `requires` asks for its caller has tested, by the draft's observers or because it
+/// knows what it did. So an error says only that memory was refused, and then the draft holds what it
+/// held. What is finished can be written.
 #[derive(Drop)]
 pub struct Draft {
     header: Header,
@@ -69,8 +70,9 @@ impl Draft {
         }
     }
 
-    /// An entry of this code begins, the root or one below the entry that is open (section 7.5.3).
-    /// Where its declaration asks for no values it is complete.
+    /// An entry of this code begins, the root or one below the innermost open entry (sections 7.5.2
+    /// and 7.5.3). Where its declaration asks for no values it is complete. `AllocError` where a
+    /// growth by one entry is refused.
     pub fn begin(&mut self, code: Uleb) -> Result<(), AllocError>
         requires some { 0 < code.value }
         requires known { IsSome (declared self.old.table code.value) }
@@ -86,7 +88,8 @@ impl Draft {
     }
 
     /// The entry that is read is given its next value (section 7.5.3). With its last value it is
-    /// complete: closed where its declaration has no children, else open.
+    /// complete: closed where its declaration has no children, else open. `AllocError` where a growth
+    /// by the value is refused.
     pub fn value(&mut self, value: &AttrValue<'_>) -> Result<(), AllocError>
         requires between { begun_in self.old.place.reading ≡ None }
         requires fits { NextFits (context_of self.old.header) self.old.table self.old.place.reading (attribute_of value.now) }
@@ -119,7 +122,8 @@ impl Draft {
 
     /// A text, or a block whose length field has `width` bytes, begins as the next value of the entry
     /// that is read (section 7.5.5). `via` is the form that an indirect value names. The bytes come
-    /// with `bytes`, and `end_value` ends it.
+    /// with `bytes`, and `end_value` ends it. `AllocError` where the growth that its end needs is
+    /// refused.
     pub fn start(&mut self, via: Option<Uleb>, width: Option<u8>) -> Result<(), AllocError>
         requires reading { IsSome self.old.place.reading }
         requires between { begun_in self.old.place.reading ≡ None }
@@ -129,7 +133,8 @@ impl Draft {
         self.tree.start(via, width)
     }
 
-    /// The text or block that has begun is given its next bytes.
+    /// The text or block that has begun is given its next bytes. `AllocError` where a growth by them is
+    /// refused.
     pub fn bytes(&mut self, piece: &[u8]) -> Result<(), AllocError>
         requires begun { IsSome (begun_in self.old.place.reading) }
         ensures ok { OnOk result (self.new ≡ extended piece.now self.old) }
@@ -161,7 +166,8 @@ impl Draft {
         }
     }
 
-    /// The innermost open entry is closed: a null of `width` bytes ends its children (section 2.3).
+    /// The innermost open entry is closed: a null of `width` bytes, 1 to 16, ends its children
+    /// (section 2.3). `AllocError` where a growth by the null is refused.
     pub fn close(&mut self, width: u8) -> Result<(), AllocError>
         requires width { is_width width ≡ true }
         requires inside { self.old.place.spot.above ≢ [] }
@@ -173,7 +179,8 @@ impl Draft {
         self.tree.close(null(width))
     }
 
-    /// One more null of `width` bytes stands behind the root, as padding (section 7.5).
+    /// One more null of `width` bytes, 1 to 16, stands behind the root, as padding (section 7.5).
+    /// `AllocError` where a growth by the null is refused.
     pub fn pad(&mut self, width: u8) -> Result<(), AllocError>
         requires width { is_width width ≡ true }
         requires root { is_bare self.old.place.spot ≡ false }
@@ -228,8 +235,8 @@ impl Draft {
         self.tree.table()
     }
 
-    /// The count of its bytes so far, the initial length included. It is less than `size_limit` of
-    /// the header's format.
+    /// The count of its bytes so far, with those of the initial length and of the entry that is read.
+    /// It is less than 2^32 - 12 in the 32-bit format, and less than 2^63 in the 64-bit format.
     pub fn size(&self) -> u64
         ensures size { result ≡ drafted_size self.now }
         ensures short { result < limit_of self.now.header.format }
@@ -275,7 +282,8 @@ impl Draft {
         self.tree.is_empty()
     }
 
-    /// Whether the unit is too long with so many bytes more (sections 7.2.2 and 7.4).
+    /// Whether the unit is too long with so many bytes more: its unit_length would reach 0xfffffff0 in
+    /// the 32-bit format, or it would pass 2^63 - 1 bytes (sections 7.2.2 and 7.4).
     pub fn is_too_long(&self, more: u64) -> bool
         ensures { result ≡ passes_limit self.now more }
     {

@@ -65,6 +65,9 @@ fn begun(draft: &mut Draft, code: Uleb) -> Result<(), Fail> {
 
 /// The entry that is read is given a value that fits.
 fn given(draft: &mut Draft, value: AttrValue<'_>) -> Result<(), Fail> {
+    if draft.begun().is_some() {
+        return Err("a value has begun".into());
+    }
     let Some(pair) = draft.next_pair() else {
         return Err("no entry is read".into());
     };
