@@ -159,7 +159,7 @@ impl Draft {
         requires { BegunFits self.now }
         ensures { result ≡ option_map (λ v. length (value_bytes self.now v)) (begun_of self.now) }
     {
-        let begun = self.tree.begun()?;
+        let begun = self.begun()?;
         match self.next_pair() {
             Some(pair) => Some(size_of(self.header.context(), pair.form.value, &begun)),
             None => unreachable!(),

@@ -1,6 +1,9 @@
 //! What no clause says of drafts: each call once with memory to spare, by a caller that tests what a
 //! call asks for with the draft's own observers, and makes it again where memory is refused; the same
 //! unit from a builder; an entry taken back.
+ghost use Rattle.std.specs.Prelude.{IsTrue};
+ghost use Rattle.dw_unit.specs.Draft.{BegunFits, BegunShort};
+
 use crate::{Draft, Header, Kind, Unit, UnitBuilder, write_unit};
 use dw_abbrev::{Table, Tables};
 use dw_form::{AttrValue, Value, fits, size_of};
@@ -84,6 +87,54 @@ fn given(draft: &mut Draft, value: AttrValue<'_>) -> Result<(), Fail> {
     Ok(())
 }
 
+/// A text begins as the next value of the entry that is read.
+fn started(draft: &mut Draft) -> Result<(), Fail> {
+    if draft.next_pair().is_none() || draft.begun().is_some() {
+        return Err("no value can begin".into());
+    }
+    if draft.start(None, None).is_err() {
+        draft.start(None, None)?;
+    }
+    Ok(())
+}
+
+/// The text that has begun is given more of its bytes.
+fn lengthened(draft: &mut Draft, piece: &[u8]) -> Result<(), Fail> {
+    if draft.begun().is_none() {
+        return Err("no value has begun".into());
+    }
+    if draft.bytes(piece).is_err() {
+        draft.bytes(piece)?;
+    }
+    Ok(())
+}
+
+/// Whether the text that has begun fits as it is.
+fn can_end(draft: &Draft) -> bool
+    ensures { IsTrue result → (BegunFits draft.now × BegunShort draft.now) }
+{
+    let Some(pair) = draft.next_pair() else {
+        return false;
+    };
+    let Some(begun) = draft.begun() else {
+        return false;
+    };
+    let ctx = draft.header().context();
+    if !fits(ctx, pair.form.value, pair.constant, &begun) {
+        return false;
+    }
+    !draft.is_too_long(size_of(ctx, pair.form.value, &begun))
+}
+
+/// The text that has begun has all its bytes.
+fn ended(draft: &mut Draft) -> Result<(), Fail> {
+    if !can_end(draft) {
+        return Err("a wrong text".into());
+    }
+    draft.end_value();
+    Ok(())
+}
+
 /// The innermost open entry is closed, where one is open.
 fn closed(draft: &mut Draft, width: u8) -> Result<(), Fail> {
     if draft.next_pair().is_some() || draft.depth() == 0 {
@@ -164,6 +215,52 @@ fn a_unit_step_by_step(rt: HostRuntime) -> Result<(), Fail> {
     assert_eq!(rt; written(rt.alloc(), &unit)?.as_slice(), PADDED.as_slice());
     let other = built(rt.alloc())?;
     assert_eq!(rt; written(rt.alloc(), &other)?.as_slice(), PADDED.as_slice());
+    Ok(())
+}
+
+#[test]
+fn a_name_in_pieces(rt: HostRuntime) -> Result<(), Fail> {
+    let mut draft = Draft::new(rt.alloc(), header()?, table(rt.alloc())?);
+    begun(&mut draft, Uleb::with_width(1, 2).ok_or("no such width")?)?;
+    started(&mut draft)?;
+    lengthened(&mut draft, &[])?;
+    assert_eq!(rt; draft.content(), [].as_slice());
+    lengthened(&mut draft, &[0x61])?;
+    assert_eq!(rt; draft.content(), [0x61].as_slice());
+    assert_eq!(rt;
+        draft
+            .begun()
+            .map(|begun| begun.value == Value::Text(&[0x61])),
+        Some(true)
+    );
+    assert_eq!(rt; draft.size(), 14);
+    ended(&mut draft)?;
+    assert_eq!(rt; draft.begun().is_none(), true);
+    assert_eq!(rt; draft.size(), 16);
+    begun(&mut draft, Uleb::least(1))?;
+    started(&mut draft)?;
+    lengthened(&mut draft, &[0x62, 0x63])?;
+    draft.undo();
+    assert_eq!(rt; draft.content(), [0x61].as_slice());
+    begun(&mut draft, Uleb::least(2))?;
+    given(&mut draft, four())?;
+    closed(&mut draft, 2)?;
+    padded(&mut draft, 1)?;
+    padded(&mut draft, 2)?;
+    let unit = finished(draft)?;
+    assert_eq!(rt; written(rt.alloc(), &unit)?.as_slice(), PADDED.as_slice());
+    Ok(())
+}
+
+/// A text that holds a zero byte doesn't fit.
+#[test]
+fn a_wrong_name_in_pieces(rt: HostRuntime) -> Result<(), Fail> {
+    let mut draft = Draft::new(rt.alloc(), header()?, table(rt.alloc())?);
+    begun(&mut draft, Uleb::least(1))?;
+    started(&mut draft)?;
+    lengthened(&mut draft, &[0x61, 0])?;
+    assert!(rt; !can_end(&draft));
+    assert_eq!(rt; draft.content(), [0x61, 0].as_slice());
     Ok(())
 }
 

@@ -6,7 +6,7 @@ use Rattle.dw_form.specs.declared.shape.Ctx.{Ctx}
 use Rattle.dw_form.specs.Pieces.{HasSpelling, spelling, has_spelling}
 use Rattle.dw_abbrev.specs.PairView.{pair_of}
 use Rattle.dw_tree.specs.Steps.{NextFits}
-use Rattle.dw_unit.proofs.PutValues.{next_is, next_some}
+use Rattle.dw_tree.specs.Next.{next_is, next_some}
 use Rattle.dw_unit.specs.Header.{context_of}
 use Rattle.dw_unit.specs.Draft.{Drafted, begun_of, value_bytes}
 use Rattle.dw_unit.proofs.draft.Draft.begun_size.Goals as goal
@@ -18,9 +18,9 @@ size_of-requires-clause-spelled c =
     let k = context_of d.header in
     let p = pair_of c.in-Some.pair in
     let same : c.context.result ≡ k = c.context.ensures.context ∙ ap (λ (x : Drafted). context_of x.header) c.self.view_is in
-    let has : begun_of d ≡ Some v = ap begun_of (sym c.self.view_is) ∙ sym c.in_ok-begun.ensures in
+    let has : begun_of d ≡ Some v = sym c.in_ok-begun.ensures in
     let fits : NextFits k d.table d.place.reading v = subst (λ (o : Option Attribute). IfSome o (λ a. NextFits k d.table d.place.reading a)) has c.requires in
-    let w = next_is k v d.table d.place.reading p (sym c.in-Some.ensures) fits in
+    let w = next_is k v d.table d.place.reading p (sym c.in-Some.ensures.pair) fits in
     let whole = has_spelling k p.form.value p.constant v w.0 in
     subst (λ (x : Ctx). HasSpelling x p.form.value v) (sym same) whole.0
 
@@ -29,9 +29,9 @@ unreachable-requires c =
     let d : Drafted = c.args.self.now in
     let v : Attribute = attribute_of c.in_ok-begun.begun in
     let k = context_of d.header in
-    let has : begun_of d ≡ Some v = ap begun_of (sym c.self.view_is) ∙ sym c.in_ok-begun.ensures in
+    let has : begun_of d ≡ Some v = sym c.in_ok-begun.ensures in
     let fits : NextFits k d.table d.place.reading v = subst (λ (o : Option Attribute). IfSome o (λ a. NextFits k d.table d.place.reading a)) has c.requires in
-    absurd (next_some k v d.table d.place.reading (sym c.in-None.ensures) fits)
+    absurd (next_some k v d.table d.place.reading (sym c.in-None.ensures.pair) fits)
 
 pub returns : goal.returns
 returns c =
@@ -40,9 +40,9 @@ returns c =
     let k = context_of d.header in
     let p = pair_of c.in-Some.pair in
     let same : c.context.result ≡ k = c.context.ensures.context ∙ ap (λ (x : Drafted). context_of x.header) c.self.view_is in
-    let has : begun_of d ≡ Some v = ap begun_of (sym c.self.view_is) ∙ sym c.in_ok-begun.ensures in
+    let has : begun_of d ≡ Some v = sym c.in_ok-begun.ensures in
     let fits : NextFits k d.table d.place.reading v = subst (λ (o : Option Attribute). IfSome o (λ a. NextFits k d.table d.place.reading a)) has c.requires in
-    let w = next_is k v d.table d.place.reading p (sym c.in-Some.ensures) fits in
+    let w = next_is k v d.table d.place.reading p (sym c.in-Some.ensures.pair) fits in
     let whole = has_spelling k p.form.value p.constant v w.0 in
     ap Some (c.size_of.ensures ∙ (ap (λ (x : Ctx). length (spelling x p.form.value v)) same ∙ ap length (whole.1 ∙ sym w.1)))
     ∙ ap (option_map (λ (a : Attribute). length (value_bytes d a))) (sym has)
