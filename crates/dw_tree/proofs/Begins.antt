@@ -13,7 +13,7 @@ use Rattle.dw_leb.specs.declared.unsigned.Uleb.{Uleb}
 use Rattle.dw_leb.specs.View.{uleb_of}
 use Rattle.dw_tree.specs.Place.{Frame, Spot, rows_before, spot_after, Unread, Place}
 use Rattle.dw_tree.specs.Flat.{contents, tokens, place_of, unread_of}
-use Rattle.dw_tree.specs.Steps.{Growing, begins, begun_in, next_pair, end_of, unread_bytes, whole_tree}
+use Rattle.dw_tree.specs.Steps.{begins, begun_in, next_pair, end_of, unread_bytes, whole_tree}
 use Rattle.dw_tree.specs.Row.{Token, rows_bytes}
 use Rattle.dw_tree.specs.Held.{held, held_in, given_bytes, Holds}
 use Rattle.dw_tree.specs.DraftView.{front, begun_of, place_with, given, growing, IsGiven, HasBegun, IsDraft}

@@ -1,8 +1,6 @@
 -- The pool has the bytes of the values, and no others.
-use Rattle.std.proofs.Common.{◌≡◌, ℕ, ◌+◌, ◌≤◌, List, [], ◌∷◌, ◌++◌, length, take, drop, refl, sym, ◌∙◌, ap, ap₂, subst, arith, append_assoc, append-nil, Bool, true, false, cond, Option, Some, None}
-use Rattle.std.specs.Prelude.{IfSome}
+use Rattle.std.proofs.Common.{◌≡◌, ℕ, List, [], ◌∷◌, ◌++◌, length, take, drop, refl, sym, ◌∙◌, ap, append_assoc, append-nil, Bool, true, false, cond, Option, Some, None}
 use Rattle.std.proofs.Math.Seq.{take-append_seam}
-use Rattle.dw_leb.specs.View.{uleb_of}
 use Rattle.dw_form.specs.declared.stored.Stored.{Stored}
 use Rattle.dw_form.specs.Form.{Attribute}
 use Rattle.dw_form.specs.Kept.{bytes_in, value_bytes, text_or_block}
@@ -10,9 +8,9 @@ use Rattle.dw_abbrev.specs.Table.{Table}
 use Rattle.dw_tree.specs.declared.row.Row.{Row}
 use Rattle.dw_tree.specs.declared.row.Reading.{Reading}
 use Rattle.dw_tree.specs.Row.{Token, null_row}
-use Rattle.dw_tree.specs.Flat.{contents, value_count, token_of, tokens}
+use Rattle.dw_tree.specs.Flat.{contents, token_of, tokens}
 use Rattle.dw_tree.specs.Settled.{row_of, is_whole, settled_rows, settled_reading}
-use Rattle.dw_tree.specs.Held.{joined, row_values, held, given_bytes, Holds}
+use Rattle.dw_tree.specs.Held.{joined, row_values, held, Holds}
 use Rattle.dw_tree.proofs.Settles.{Given, tokens-push, counted, whole_values}
 
 pub joined-push : (vs : List Attribute) (v : Attribute) → joined (vs ++ v ∷ []) ≡ joined vs ++ bytes_in v

@@ -4,17 +4,17 @@ use Rattle.std.proofs.lemmas.List.{drop-drop}
 use Rattle.dw_leb.specs.declared.errors.Reason.{Reason}
 use Rattle.dw_leb.specs.Number.{Unsigned}
 use Rattle.dw_leb.specs.Reader.{Outcome, Found, Broken, Reader, mapped, paired, behind, read_optional, read_repeated}
-use Rattle.dw_leb.specs.ItemSteps.{ReadSoFar, one_read, all_read, head_breaks, body_breaks, none_read}
+use Rattle.dw_leb.specs.ItemSteps.{ReadSoFar, one_read, all_read, head_breaks, body_breaks}
 use Rattle.dw_form.specs.declared.shape.Ctx.{Ctx}
 use Rattle.dw_form.specs.Form.{Attribute}
 use Rattle.dw_form.specs.ReadForm.{read_attribute}
 use Rattle.dw_abbrev.specs.Table.{Pair, Declaration, Table, declared, is_null}
-use Rattle.dw_tree.specs.Tree.{Tree, leaf, branch, Forest, none, more, Body, pairs_of, children_of}
+use Rattle.dw_tree.specs.Tree.{Forest, none, more, Body, pairs_of, children_of}
 use Rattle.dw_tree.specs.ReadTree.{node_from, nodes_from, read_values, read_body, read_children}
 use Rattle.dw_tree.specs.Row.{push}
-use Rattle.dw_tree.specs.Place.{Frame, Spot, Place}
+use Rattle.dw_tree.specs.Place.{Frame, Spot}
 use Rattle.dw_tree.specs.Steps.{Growing, settle, closed_at}
-use Rattle.dw_unit.specs.Entries.{placed, has_room, code_reader, body_reader, chain_reader}
+use Rattle.dw_unit.specs.Entries.{placed, code_reader, body_reader, chain_reader}
 use Rattle.dw_unit.proofs.EntryLemmas.{settle_whole}
 
 -- ---- the plain reader's values are as many as the pairs

@@ -1,7 +1,5 @@
 -- The steps of reading values and padding.
 use Rattle.std.proofs.Common.{None, ◌≡◌, ◌≤◌, ◌<◌, ◌+◌, ◌-◌, ℕ, zero, suc, List, [], ◌∷◌, ◌++◌, length, drop, get_or, Err, refl, sym, ap, ◌∙◌, append_assoc, append-nil, arith}
-use Rattle.std.specs.List.{AllByRecursion}
-use Rattle.std.proofs.lemmas.List.{drop-drop, map-append}
 use Rattle.dw_leb.specs.declared.errors.Reason.{Reason}
 use Rattle.dw_leb.specs.Part.{Part, Taken}
 use Rattle.dw_leb.specs.Number.{Unsigned}
@@ -9,11 +7,9 @@ use Rattle.dw_leb.specs.Reader.{Outcome, Found, Broken, Reader, mapped, paired, 
 use Rattle.dw_leb.specs.ReadNumber.{read_uleb}
 use Rattle.dw_leb.specs.Decide.{Decides}
 use Rattle.dw_form.specs.declared.shape.Ctx.{Ctx}
-use Rattle.dw_form.specs.declared.stored.Stored.{Stored}
 use Rattle.dw_form.specs.Form.{Attribute}
 use Rattle.dw_form.specs.ReadForm.{read_attribute}
 use Rattle.dw_form.specs.DecideForm.{attribute_decides}
-use Rattle.dw_form.specs.Kept.{content, StoredFits, content_stays, stored_fits}
 use Rattle.dw_abbrev.specs.Table.{Pair}
 use Rattle.dw_abbrev.specs.PairView.{pair_of}
 use Rattle.dw_abbrev.specs.declared.pair.Pair.{Pair as RustPair}
@@ -30,9 +26,6 @@ use Rattle.dw_tree.specs.Place.{Spot}
 use Rattle.dw_tree.specs.Steps.{settled, settle_by, settle, FirstsFit, FirstFits}
 use Rattle.dw_tree.specs.Tree.{pairs_of}
 use Rattle.dw_unit.specs.Entries.{put_front}
-use Rattle.dw_unit.specs.Told.{Tells}
-use Rattle.dw_unit.specs.declared.bad.BodyError.{BodyError}
-use Rattle.dw_unit.specs.declared.bad.BodyError.TheVariants as errors
 
 -- ---- items put in front
 

@@ -1,5 +1,5 @@
 -- An entry that is read is given one more value.
-use Rattle.std.proofs.Common.{None, ◌≡◌, ◌+◌, ◌<◌, ◌++◌, ◌∷◌, [], ℕ, suc, List, Option, Some, length, drop, get_or, map, refl, sym, ap, ap₂, subst, ◌∙◌, arith}
+use Rattle.std.proofs.Common.{None, ◌≡◌, ◌+◌, ◌<◌, ◌++◌, ◌∷◌, [], ℕ, suc, List, Some, length, drop, get_or, map, refl, sym, ap, ap₂, subst, ◌∙◌, arith}
 use Rattle.std.proofs.lemmas.List.{length-map}
 use Rattle.std.specs.Prelude.{IsSome}
 use Rattle.dw_leb.specs.Number.{Unsigned}
@@ -10,11 +10,11 @@ use Rattle.dw_abbrev.specs.declared.pair.Pair.{Pair as RustPair}
 use Rattle.dw_abbrev.specs.Table.{Pair, Declaration, declared}
 use Rattle.dw_tree.specs.Tree.{pairs_of}
 use Rattle.dw_tree.specs.Flat.{value_part}
-use Rattle.dw_tree.specs.Place.{Place, Unread}
+use Rattle.dw_tree.specs.Place.{Unread}
 use Rattle.dw_tree.specs.Steps.{begun_in, Growing, settle, with_value, end_of, NextFits, next_bytes, FirstsFit, FirstFits, first_bytes}
 use Rattle.dw_tree.specs.Ends.{value_end}
 use Rattle.dw_unit.specs.Entries.{placed}
-use Rattle.dw_unit.proofs.EntryLemmas.{next_pair, settle_open, pairs_are, prefix_more}
+use Rattle.dw_unit.proofs.EntryLemmas.{next_pair, settle_open, prefix_more}
 
 module _ (old draft : Growing) (ctx : Ctx) (code : Unsigned) (d : Declaration) (ps : List RustPair) (vs : List Attribute) (i : ℕ) (p : RustPair)
     (same : old.context ≡ ctx) (known : declared old.table code.value ≡ Some d) (pairs : map pair_of ps ≡ d.pairs)

@@ -1,5 +1,5 @@
 -- The levels below the root's.
-use Rattle.std.proofs.Common.{◌≡◌, ◌+◌, ◌-◌, ◌<◌, ℕ, refl, arith}
+use Rattle.std.proofs.Common.{◌≡◌, ◌-◌, refl}
 use Rattle.dw_tree.specs.Tree.{nesting}
 
 pub levels_is : nesting - 1 ≡ 255

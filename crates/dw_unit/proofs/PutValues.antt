@@ -8,7 +8,7 @@ use Rattle.dw_form.specs.declared.value.AttrValue.{AttrValue}
 use Rattle.dw_form.specs.Lent.{attribute_of}
 use Rattle.dw_abbrev.specs.PairView.{pair_of}
 use Rattle.dw_abbrev.specs.declared.pair.Pair.{Pair as RustPair}
-use Rattle.dw_abbrev.specs.Table.{Pair, Declaration, Table, declared}
+use Rattle.dw_abbrev.specs.Table.{Pair, Declaration, declared}
 use Rattle.dw_tree.specs.Tree.{values, pairs_of}
 use Rattle.dw_tree.specs.Flat.{value_part}
 use Rattle.dw_tree.specs.Place.{Place, Unread}

@@ -1,6 +1,6 @@
 -- The root entry and the padding behind it, by the plain reader.
-use Rattle.std.proofs.Common.{◌≡◌, ◌+◌, ◌-◌, ℕ, suc, List, length, drop, Err, refl, ap}
-use Rattle.dw_leb.specs.Reader.{Outcome, Found, Broken, paired}
+use Rattle.std.proofs.Common.{◌≡◌, ◌-◌, ℕ, suc, List, length, drop, Err, refl, ap}
+use Rattle.dw_leb.specs.Reader.{Outcome, Found, paired}
 use Rattle.dw_form.specs.declared.shape.Ctx.{Ctx}
 use Rattle.dw_abbrev.specs.Table.{Table}
 use Rattle.dw_unit.specs.declared.bad.BodyError.{BodyError}

@@ -1,30 +1,15 @@
 -- Headers: each reader decides its part.
-use Rattle.std.proofs.Common.{◌≡◌, ℕ, zero, suc, ◌+◌, ◌-◌, ◌<◌, ◌≤◌, Bool, true, false, cond, List, [], ◌∷◌, ◌++◌, length, drop, Option, Some, None, refl, sym, ap, subst, ◌∙◌, append_assoc, arith}
-use Rattle.std.specs.Prelude.{if◌then◌else◌, ◌==◌}
-use Rattle.std.proofs.lemmas.Bool.{eqb-true, eqb-false, ne_eqb}
-use Rattle.std.proofs.lemmas.List.{drop_at, length-append}
-use Rattle.dw_leb.specs.declared.errors.Reason.{Reason}
-use Rattle.dw_leb.specs.declared.errors.Reason.TheVariants.{SecondRoot, TooDeep}
-use Rattle.dw_leb.specs.Part.{Breaks, Part, After, ◌then◌, judged, nothing, optional, refused, Taken}
+use Rattle.std.proofs.Common.{◌≡◌, ℕ, List, [], ◌∷◌, Some, refl, sym, ap}
+use Rattle.std.specs.Prelude.{if◌then◌else◌}
+use Rattle.dw_leb.specs.Part.{Part, ◌then◌, judged, nothing}
 use Rattle.dw_leb.specs.declared.order.Order.{Order}
 use Rattle.dw_leb.specs.declared.order.Format.{Format}
-use Rattle.dw_leb.specs.Number.{offset_size, Unsigned, uleb, fixed}
-use Rattle.dw_leb.specs.Repeat.{repeated, ItemsFit}
-use Rattle.dw_leb.specs.Reader.{Outcome, Found, Broken, Reader, ◌and_then◌, behind, paired, mapped, checked, returned}
-use Rattle.dw_leb.specs.ReadNumber.{read_uleb}
-use Rattle.dw_leb.specs.Decide.{Decides, Says, AreBytes, AreBytes-behind, found, broken, IsView, then_decides, judged_decides, seen_decides, nothing_decides, refused_decides, optional_decides}
-use Rattle.dw_leb.specs.Stay.{Stays, After_stays, then_stays, judged_stays, nothing_stays, refused_stays, optional_stays}
-use Rattle.dw_leb.specs.DecideRepeat.{behind_at, repeated_decides, repeated_stays, items_end}
+use Rattle.dw_leb.specs.Number.{offset_size, fixed}
+use Rattle.dw_leb.specs.Reader.{returned}
+use Rattle.dw_leb.specs.Decide.{Decides, then_decides, judged_decides, seen_decides, nothing_decides}
+use Rattle.dw_leb.specs.Stay.{Stays, then_stays, judged_stays, nothing_stays}
 use Rattle.dw_leb.specs.Digits.{fixed_decides, Short_stays}
-use Rattle.dw_leb.specs.DecideNumber.{uleb_decides, uleb_stays, uleb_some}
-use Rattle.dw_form.specs.declared.shape.Ctx.{Ctx}
-use Rattle.dw_form.specs.Form.{Attribute, attribute}
-use Rattle.dw_form.specs.DecideForm.{attribute_decides, attribute_stays}
-use Rattle.dw_abbrev.specs.Table.{Pair, Table, is_null, zero_of, declared}
-use Rattle.dw_abbrev.specs.DecideTable.{null_is}
 use Rattle.dw_unit.specs.Header.{added_sizes, numbers, bad_version, bad_type, bad_address_size, no_more, first_and_rest, fields}
-use Rattle.dw_tree.specs.Tree.{Tree, leaf, branch, Forest, none, more, Body, node_of, nodes_of, as_node, as_nodes, first_value, no_value, values, pairs_of, children_of, bad_root, bad_child, body, children, tree, nulls, AreNulls, not_null, MoreBreaks, PaddingBreaks}
-use Rattle.dw_tree.specs.ReadTree.{node_from, nodes_from, read_values, read_body, read_children, read_tree, read_padding}
 use Rattle.dw_unit.specs.ReadUnit.{read_numbers, read_fields}
 
 first_and_rest_back : (xs : List ℕ) (a : ℕ × List ℕ) → first_and_rest xs ≡ Some a → (a.0 ∷ a.1) ≡ xs

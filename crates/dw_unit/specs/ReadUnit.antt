@@ -1,24 +1,21 @@
 -- Units read by a plain, slow reader.
-use Rattle.std.specs.Prelude.{ℕ, zero, suc, ◌+◌, ◌-◌, true, false, List, [], ◌∷◌, length, drop, Some, None, ◌==◌, if◌then◌else◌}
+use Rattle.std.specs.Prelude.{ℕ, suc, ◌+◌, ◌-◌, List, [], ◌∷◌, length, drop, ◌==◌, if◌then◌else◌}
 use Rattle.dw_leb.specs.declared.errors.Reason.{Reason}
-use Rattle.dw_leb.specs.declared.errors.Reason.TheVariants.{TooDeep}
 use Rattle.dw_leb.specs.declared.order.Order.{Order}
 use Rattle.dw_leb.specs.declared.order.Format.{Format}
-use Rattle.dw_leb.specs.Number.{offset_size, Unsigned, length_limit}
+use Rattle.dw_leb.specs.Number.{offset_size, length_limit}
 use Rattle.dw_leb.specs.declared.errors.Section.{Section}
 use Rattle.dw_leb.specs.declared.errors.Section.TheVariants.{Info, Abbrev}
-use Rattle.dw_leb.specs.Reader.{Outcome, Found, Broken, Reader, made, checked, returned, failing, read_optional, read_repeated, ◌and_then◌}
-use Rattle.dw_leb.specs.ReadNumber.{read_fixed, read_uleb, read_length}
+use Rattle.dw_leb.specs.Reader.{Outcome, Found, Broken, Reader, made, checked, returned, ◌and_then◌}
+use Rattle.dw_leb.specs.ReadNumber.{read_fixed, read_length}
 use Rattle.dw_form.specs.declared.shape.Ctx.{Ctx}
-use Rattle.dw_form.specs.Form.{Attribute}
-use Rattle.dw_form.specs.ReadForm.{read_attribute}
-use Rattle.dw_abbrev.specs.Table.{Pair, Table, declared, is_null}
+use Rattle.dw_abbrev.specs.Table.{Table}
 use Rattle.dw_abbrev.specs.ReadTable.{read_table_at}
 use Rattle.dw_unit.specs.declared.kind.Kind.{Kind}
 use Rattle.dw_unit.specs.declared.kind.Kind.TheVariants.{Compile, Partial, TypeUnit, Skeleton}
 use Rattle.dw_unit.specs.Header.{Header, added_sizes, bad_version, bad_type, bad_address_size, Fields}
 use Rattle.dw_tree.specs.ReadTree.{read_tree, read_padding}
-use Rattle.dw_tree.specs.Tree.{Tree, leaf, branch, Forest, none, more, Body, pairs_of, children_of, bad_root, bad_child, nesting, not_null}
+use Rattle.dw_tree.specs.Tree.{Tree, nesting}
 use Rattle.dw_unit.specs.Unit.{Contents, header_of}
 
 abbrev pub read_numbers : Order → List ℕ → Reader (List ℕ)

@@ -1,10 +1,9 @@
-use Rattle.std.proofs.Common.{Vec, Global, ◌≡◌, ◌-◌, ◌<◌, ◌+◌, ℕ, suc, List, length, take, drop, ap, sym, subst, ◌∙◌, arith, length-drop, Err, vec_items}
+use Rattle.std.proofs.Common.{Vec, Global, ◌≡◌, ◌-◌, ◌<◌, ℕ, suc, List, length, take, drop, ap, sym, subst, ◌∙◌, arith, length-drop, vec_items}
 use Rattle.std.proofs.lemmas.List.{take_all}
-use Rattle.dw_leb.specs.Reader.{Outcome, Found, paired}
-use Rattle.dw_tree.specs.Tree.{Tree, nesting}
+use Rattle.dw_leb.specs.Reader.{Found, paired}
 use Rattle.dw_tree.specs.ReadTree.{read_padding}
 use Rattle.dw_unit.specs.Entries.{Refuses}
-use Rattle.dw_unit.proofs.RootLemmas.{entries_go, entries_break, tells_refuses, padding_refused}
+use Rattle.dw_unit.proofs.RootLemmas.{entries_go, tells_refuses, padding_refused}
 use Rattle.dw_unit.proofs.body.body_at.Goals as goal
 
 pub returns-in-Ok-clause-exact : goal.returns-in-Ok-clause-exact

@@ -1,24 +1,22 @@
-use Rattle.std.proofs.Common.{rules, ◌≡◌, ◌≢◌, ◌≤◌, ◌<◌, ◌+◌, ◌-◌, ◌^◌, ◌++◌, ◌∷◌, [], ℕ, suc, List, Bool, true, false, Option, Some, None, Err, length, drop, take, map, refl, sym, ap, ap₂, subst, ◌∙◌, arith, length-drop}
-use Rattle.std.proofs.lemmas.List.{length-map, take_all}
+use Rattle.std.proofs.Common.{◌≡◌, ◌≢◌, ◌+◌, ◌-◌, ◌++◌, ◌∷◌, [], ℕ, suc, List, true, false, Option, Some, None, length, drop, take, map, refl, sym, ap, ap₂, subst, ◌∙◌, arith, length-drop}
+use Rattle.std.proofs.lemmas.List.{take_all}
 use Rattle.std.proofs.lemmas.Bool.{eq-eqb, ne_eqb}
 use Rattle.std.proofs.lemmas.Result.{err_from_is_err_and}
-use Rattle.dw_leb.specs.Number.{Unsigned}
 use Rattle.dw_leb.specs.View.{uleb_of}
 use Rattle.dw_leb.specs.Reader.{Outcome, Found, Broken}
 use Rattle.dw_leb.specs.ItemSteps.{none_read}
 use Rattle.dw_form.specs.Form.{Attribute}
 use Rattle.dw_abbrev.specs.PairView.{pair_of}
 use Rattle.dw_abbrev.specs.Table.{Pair, Declaration, Table, declared, is_null}
-use Rattle.dw_tree.specs.Tree.{Forest, none, pairs_of, children_of, nesting}
+use Rattle.dw_tree.specs.Tree.{Forest, pairs_of, children_of, nesting}
 use Rattle.dw_tree.specs.ReadTree.{nodes_from, read_values, read_children}
 use Rattle.dw_tree.specs.Place.{Frame}
-use Rattle.dw_tree.specs.Steps.{Growing, settle, closed_at, end_of}
+use Rattle.dw_tree.specs.Steps.{Growing, closed_at, end_of}
 use Rattle.dw_tree.specs.Ends.{closed_end}
 use Rattle.dw_unit.specs.declared.bad.Bad.{Bad}
 use Rattle.dw_unit.specs.declared.bad.BodyError.{BodyError}
 use Rattle.dw_unit.specs.declared.bad.BodyError.TheVariants as errors
-use Rattle.dw_unit.specs.Entries.{placed, code_reader, body_reader, TellsError, TellsForest}
-use Rattle.dw_unit.specs.Told.{told_code}
+use Rattle.dw_unit.specs.Entries.{placed, code_reader, body_reader, TellsError}
 use Rattle.dw_unit.proofs.EntryLemmas.{no_error}
 use Rattle.dw_unit.proofs.Chain.{values_long, code_broken, null_ends, values_break, leaf_read, kids_break, branch_read, leaf_put, entered, branch_put}
 use Rattle.dw_unit.proofs.entries.+children_at.Goals as goal

@@ -1,22 +1,19 @@
-use Rattle.std.proofs.Common.{rules, ◌≡◌, ◌≤◌, ◌<◌, ◌+◌, ◌-◌, ◌^◌, ◌++◌, ◌∷◌, [], ℕ, suc, List, Option, Some, None, length, drop, take, map, refl, sym, ap, subst, ◌∙◌, arith, append-nil, length-append, add-one}
+use Rattle.std.proofs.Common.{◌≡◌, ◌+◌, ◌-◌, ◌++◌, ◌∷◌, [], ℕ, suc, List, drop, map, refl, sym, ap, ◌∙◌, arith, append-nil, length-append, add-one}
 use Rattle.std.proofs.lemmas.List.{length-map, drop-drop}
 use Rattle.std.specs.Prelude.{IsSome}
 use Rattle.dw_leb.specs.Number.{Unsigned}
 use Rattle.dw_leb.specs.Part.{Taken}
-use Rattle.dw_leb.specs.Reader.{Outcome, Found, Broken}
+use Rattle.dw_leb.specs.Reader.{Outcome, Found}
 use Rattle.dw_leb.specs.View.{uleb_of}
-use Rattle.dw_form.specs.declared.shape.Ctx.{Ctx}
 use Rattle.dw_form.specs.Form.{Attribute}
 use Rattle.dw_form.specs.Lent.{attribute_of}
 use Rattle.dw_abbrev.specs.PairView.{pair_of}
-use Rattle.dw_abbrev.specs.Table.{Pair, Declaration, Table, declared}
-use Rattle.dw_tree.specs.Tree.{pairs_of}
+use Rattle.dw_abbrev.specs.Table.{Pair, declared}
 use Rattle.dw_tree.specs.ReadTree.{read_values}
 use Rattle.dw_tree.specs.Flat.{value_part}
-use Rattle.dw_tree.specs.Place.{Place, Spot, Unread}
-use Rattle.dw_tree.specs.Steps.{Growing, settle, begun_at, with_value, value_at, end_of, NextFits, next_bytes, FirstsFit, FirstFits, first_bytes}
-use Rattle.dw_tree.specs.Ends.{begun_end, value_end}
-use Rattle.dw_unit.specs.Entries.{put_front, placed}
+use Rattle.dw_tree.specs.Steps.{Growing, begun_at, with_value, end_of}
+use Rattle.dw_tree.specs.Ends.{begun_end}
+use Rattle.dw_unit.specs.Entries.{put_front}
 use Rattle.dw_unit.proofs.EntryLemmas.{put_none, value_breaks, value_read, no_error, drop_past}
 use Rattle.dw_unit.proofs.GivenValue.{none_begun, next_fits, next_size, with_is, with_end, prefix_then}
 use Rattle.dw_unit.proofs.entries.entry_at.Goals as goal

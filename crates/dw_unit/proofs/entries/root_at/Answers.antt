@@ -1,4 +1,4 @@
-use Rattle.std.proofs.Common.{rules, ◌≡◌, ◌≢◌, ◌≤◌, ◌<◌, ◌+◌, ◌-◌, ◌^◌, ◌++◌, ◌∷◌, [], ℕ, suc, List, Bool, true, false, Option, Some, None, Err, length, drop, map, refl, sym, ap, ap₂, subst, ◌∙◌, arith}
+use Rattle.std.proofs.Common.{◌≡◌, ◌+◌, ◌-◌, [], ℕ, List, true, false, Option, Some, None, length, drop, map, sym, ap, ap₂, ◌∙◌, arith}
 use Rattle.std.proofs.lemmas.Result.{err_from_is_err_and}
 use Rattle.dw_leb.specs.declared.errors.Reason.{Reason}
 use Rattle.dw_leb.specs.View.{uleb_of}
@@ -6,7 +6,7 @@ use Rattle.dw_leb.specs.Reader.{Outcome, Found, Broken}
 use Rattle.dw_form.specs.Form.{Attribute}
 use Rattle.dw_abbrev.specs.PairView.{pair_of}
 use Rattle.dw_abbrev.specs.Table.{Pair, Declaration, Table, declared}
-use Rattle.dw_tree.specs.Tree.{Tree, Forest, leaf, branch, pairs_of, children_of, nesting}
+use Rattle.dw_tree.specs.Tree.{Forest, leaf, branch, pairs_of, children_of, nesting}
 use Rattle.dw_tree.specs.ReadTree.{nodes_from, read_values, read_children}
 use Rattle.dw_tree.specs.Place.{Place}
 use Rattle.dw_tree.specs.Steps.{Growing, closed_at}

@@ -1,4 +1,4 @@
-use Rattle.std.proofs.Common.{◌≡◌, ◌-◌, ap, sym, subst}
+use Rattle.std.proofs.Common.{◌≡◌, ◌-◌, subst}
 use Rattle.dw_leb.specs.Reader.{checked, Broken}
 use Rattle.dw_leb.specs.ReadNumber.{read_uleb}
 use Rattle.dw_abbrev.specs.Table.{Table}

@@ -1,11 +1,7 @@
-use Rattle.std.proofs.Common.{◌≡◌, ◌<◌, ◌+◌, ℕ, suc, List, Bool, true, false, length, drop, map, slice_index_or, sym, ap, subst, ◌∙◌, arith, add-one}
+use Rattle.std.proofs.Common.{◌<◌, ℕ, length, map, slice_index_or, sym, ap, ◌∙◌, arith, add-one}
 use Rattle.std.proofs.lemmas.List.{length-map}
-use Rattle.dw_form.specs.Form.{Attribute}
-use Rattle.dw_form.specs.declared.value.AttrValue.{AttrValue}
 use Rattle.dw_form.specs.Lent.{attribute_of}
 use Rattle.dw_abbrev.specs.PairView.{pair_of}
-use Rattle.dw_abbrev.specs.Table.{Pair}
-use Rattle.dw_tree.specs.Tree.{values}
 use Rattle.dw_unit.proofs.PutValues.{as_many, apart, together}
 use Rattle.dw_unit.proofs.given.values_fit.Goals as goal
 

@@ -1,4 +1,4 @@
-use Rattle.std.proofs.Common.{◌-◌, ℕ, List, Err, length, take, drop, sym, subst, ap, ap₂, ◌≡◌, ◌∙◌, ◌+◌, refl, arith, inl, length-drop}
+use Rattle.std.proofs.Common.{◌-◌, ℕ, List, length, take, drop, sym, subst, ap, ap₂, ◌≡◌, ◌∙◌, ◌+◌, refl, arith, inl, length-drop}
 use Rattle.std.proofs.lemmas.List.{take_all}
 use Rattle.std.proofs.lemmas.Result.{err_from_is_err_and}
 use Rattle.dw_leb.specs.declared.errors.Fault.{Fault}

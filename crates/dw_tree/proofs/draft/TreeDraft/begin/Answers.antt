@@ -14,15 +14,15 @@ use Rattle.dw_tree.specs.Settled.{settled_rows, settled_open}
 use Rattle.dw_tree.specs.Flat.{unread_of, contents, tokens}
 use Rattle.dw_tree.specs.Sound.{IsSound, IsBegun}
 use Rattle.dw_tree.proofs.Grows.{all_take}
-use Rattle.dw_tree.proofs.Settles.{Given, settled_room, none_of_map, sound_idle, drop_length}
+use Rattle.dw_tree.proofs.Settles.{Given, settled_room, sound_idle, drop_length}
 use Rattle.dw_tree.proofs.Stands.{end_is}
 use Rattle.dw_tree.specs.Row.{rows_bytes}
 use Rattle.dw_tree.specs.Steps.{unread_bytes}
 use Rattle.dw_tree.proofs.Drafts.{first_size, sound_then, stand_then, begun_then, deep_then, end_then}
 use Rattle.dw_tree.proofs.Limits.{few_open}
-use Rattle.dw_tree.proofs.Begins.{idle_is, begun_none, free_is, given_is, view_given, place_given, draft_of, whole_free, spot_is, end_given, take_front}
-use Rattle.dw_tree.specs.Held.{joined, held, given_bytes, Holds}
-use Rattle.dw_tree.proofs.Holds.{holds_settled, exact_grown, holds_kept, holds_closed}
+use Rattle.dw_tree.proofs.Begins.{idle_is, begun_none, given_is, view_given, draft_of}
+use Rattle.dw_tree.specs.Held.{joined, held, Holds}
+use Rattle.dw_tree.proofs.Holds.{holds_settled}
 use Rattle.dw_tree.proofs.draft.TreeDraft.begin.Goals as goal
 
 pub settle-self-inside-requires-clause-level : goal.settle-self-inside-requires-clause-level

@@ -1,8 +1,7 @@
-use Rattle.std.proofs.Common.{◌≡◌, ℕ, ◌++◌, List, length, sym, ap, subst, ◌∙◌, arith, Option, Some, length-append}
-use Rattle.std.specs.Prelude.{IfSome, IsSome, is_ok}
-use Rattle.dw_tree.specs.declared.row.Begun.{Begun as Started}
+use Rattle.std.proofs.Common.{◌≡◌, ◌++◌, length, sym, ap, subst, ◌∙◌, arith, length-append}
+use Rattle.std.specs.Prelude.{IsSome, is_ok}
 use Rattle.dw_tree.specs.Steps.{Growing, begun_in}
-use Rattle.dw_tree.specs.DraftView.{front, IsGiven, HasBegun}
+use Rattle.dw_tree.specs.DraftView.{front}
 use Rattle.dw_tree.proofs.Begins.{begun_is, begun_open, front_stays, more_or_none}
 use Rattle.dw_tree.proofs.draft.TreeDraft.bytes.Goals as goal
 

@@ -11,14 +11,14 @@ use Rattle.dw_tree.specs.Flat.{unread_of, token_of, tokens, RowFits}
 use Rattle.dw_tree.specs.Place.{Spot, Place, spot_after}
 use Rattle.dw_tree.specs.Sound.{IsSound, Stand, levels_after}
 use Rattle.dw_tree.specs.Steps.{Growing, closed_at, end_of, unread_bytes}
-use Rattle.dw_tree.proofs.Settles.{none_of_map, sound_idle}
+use Rattle.dw_tree.proofs.Settles.{sound_idle}
 use Rattle.dw_tree.proofs.Stands.{end_is, level_is, open_long, stand_push, stand_set}
 use Rattle.dw_tree.specs.Ends.{bytes_push}
 use Rattle.dw_tree.proofs.Closes.{with_end, closes_inside, closes_sound, closes_spot, one_more}
 use Rattle.dw_tree.proofs.Limits.{few_open}
-use Rattle.dw_tree.proofs.Begins.{idle_is, begun_none, free_is, given_is, view_given, place_given, draft_of, whole_free, spot_is, end_given, take_front}
-use Rattle.dw_tree.specs.Held.{joined, held, given_bytes, Holds}
-use Rattle.dw_tree.proofs.Holds.{holds_settled, exact_grown, holds_kept, holds_closed}
+use Rattle.dw_tree.proofs.Begins.{idle_is, begun_none, given_is, view_given, place_given, draft_of}
+use Rattle.dw_tree.specs.Held.{Holds}
+use Rattle.dw_tree.proofs.Holds.{holds_closed}
 use Rattle.dw_tree.proofs.draft.TreeDraft.close.Goals as goal
 
 pub overflow_cast-depth : goal.overflow_cast-depth

@@ -1,4 +1,4 @@
-use Rattle.std.proofs.Common.{◌≡◌, sym, ap, ◌∙◌}
+use Rattle.std.proofs.Common.{ap, ◌∙◌}
 use Rattle.dw_tree.specs.Steps.{Growing}
 use Rattle.dw_tree.specs.Held.{held_in}
 use Rattle.dw_tree.proofs.Begins.{held_is}

@@ -1,4 +1,4 @@
-use Rattle.std.proofs.Common.{◌≡◌, length, ap, sym, ◌∙◌, List}
+use Rattle.std.proofs.Common.{length, ap, sym, ◌∙◌, List}
 use Rattle.dw_tree.specs.Row.{Token}
 use Rattle.dw_tree.specs.Place.{spot_after}
 use Rattle.dw_tree.specs.Flat.{tokens}
@@ -6,7 +6,7 @@ use Rattle.dw_tree.specs.Steps.{Growing}
 use Rattle.dw_tree.specs.Place.{Spot}
 use Rattle.dw_tree.specs.DraftView.{front}
 use Rattle.dw_tree.proofs.Stands.{open_long}
-use Rattle.dw_tree.proofs.Begins.{idle_is, begun_none, free_is, given_is, view_given, draft_of, whole_free, spot_is, end_given, take_front}
+use Rattle.dw_tree.proofs.Begins.{spot_is}
 use Rattle.dw_tree.proofs.draft.TreeDraft.depth.Goals as goal
 
 pub returns : goal.returns

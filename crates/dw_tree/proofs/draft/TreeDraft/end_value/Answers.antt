@@ -6,7 +6,7 @@ use Rattle.dw_form.specs.Form.{Attribute}
 use Rattle.dw_form.specs.Kept.{StoredFits, content, text_or_block}
 use Rattle.dw_tree.specs.declared.row.Reading.{Reading}
 use Rattle.dw_tree.specs.Row.{Token, rows_bytes}
-use Rattle.dw_tree.specs.Steps.{Growing, end_of, unread_bytes, NextFits, next_bytes, next_pairs, first_bytes, FirstFits, with_value, value_at, begun_in, begun_value, ended}
+use Rattle.dw_tree.specs.Steps.{Growing, end_of, unread_bytes, NextFits, next_bytes, next_pairs, first_bytes, FirstFits, begun_in, begun_value, ended}
 use Rattle.dw_tree.specs.Place.{Place}
 use Rattle.dw_tree.specs.Flat.{unread_of, contents, tokens}
 use Rattle.dw_tree.specs.DraftView.{begun_of}
@@ -18,8 +18,8 @@ use Rattle.dw_tree.proofs.Limits.{few_open}
 use Rattle.dw_tree.proofs.LentLemmas.{next_names}
 use Rattle.dw_tree.proofs.Drafts.{grown_values, sound_then, stand_then, begun_then, deep_then, end_then, begun_grown, size_grown, stand_grown, same_tokens}
 use Rattle.dw_tree.proofs.Begins.{view_open, given_open, unmapped, ends_open}
-use Rattle.dw_tree.specs.Held.{joined, held, given_bytes, Holds}
-use Rattle.dw_tree.proofs.Holds.{begun_content, holds_settled, exact_grown, holds_kept, holds_closed}
+use Rattle.dw_tree.specs.Held.{held, Holds}
+use Rattle.dw_tree.proofs.Holds.{begun_content, holds_settled, exact_grown}
 use Rattle.dw_tree.proofs.draft.TreeDraft.end_value.Goals as goal
 
 pub settle-self-inside-requires-clause-level : goal.settle-self-inside-requires-clause-level

@@ -1,4 +1,4 @@
-use Rattle.std.proofs.Common.{append-nil, ◌≡◌, ℕ, ◌+◌, ◌-◌, ◌<◌, ◌^◌, List, [], length, refl, sym, ap, subst, ◌∙◌, arith, Option, Some, None, option_map}
+use Rattle.std.proofs.Common.{append-nil, ◌≡◌, ◌-◌, List, [], length, sym, ap, subst, ◌∙◌, arith, Some, option_map}
 use Rattle.std.specs.Prelude.{IsSome}
 use Rattle.dw_tree.specs.Tree.{Tree, tree, nesting}
 use Rattle.dw_tree.specs.Row.{Token, rows_of, rows_bytes, rest_of, head_of, tree_of_rows}
@@ -12,7 +12,7 @@ use Rattle.dw_tree.proofs.Stands.{end_is}
 use Rattle.dw_tree.proofs.Whole.{whole_rows, some_of_map, mapped, idle_size}
 use Rattle.dw_tree.proofs.Fits.{tree_fits}
 use Rattle.dw_tree.proofs.Spelled.{tree_spelled}
-use Rattle.dw_tree.proofs.Begins.{idle_is, begun_none, free_is, given_is, view_given, draft_of, whole_free, spot_is, end_given, take_front}
+use Rattle.dw_tree.proofs.Begins.{idle_is, begun_none, given_is, view_given, whole_free}
 use Rattle.dw_tree.proofs.draft.TreeDraft.finish.Goals as goal
 
 pub invariant_of-result : goal.invariant_of-result

@@ -1,13 +1,12 @@
-use Rattle.std.proofs.Common.{◌≡◌, ℕ, length, ap, sym, ◌∙◌, List}
+use Rattle.std.proofs.Common.{ℕ, ap, sym, ◌∙◌, List}
 use Rattle.std.specs.Prelude.{◌==◌}
 use Rattle.dw_tree.specs.Row.{Token}
 use Rattle.dw_tree.specs.Flat.{tokens}
 use Rattle.dw_tree.specs.Steps.{Growing}
-use Rattle.dw_tree.specs.Place.{Spot}
 use Rattle.dw_tree.specs.DraftView.{front}
 use Rattle.dw_tree.specs.Standing.{is_bare}
 use Rattle.dw_tree.proofs.Bare.{bare_when}
-use Rattle.dw_tree.proofs.Begins.{idle_is, begun_none, free_is, given_is, view_given, draft_of, whole_free, spot_is, end_given, take_front}
+use Rattle.dw_tree.proofs.Begins.{spot_is}
 use Rattle.dw_tree.proofs.draft.TreeDraft.is_empty.Goals as goal
 
 pub returns : goal.returns

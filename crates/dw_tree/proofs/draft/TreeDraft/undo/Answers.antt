@@ -11,8 +11,8 @@ use Rattle.dw_tree.proofs.Grown.{sound_kept, tokens_kept}
 use Rattle.dw_tree.specs.DraftView.{front}
 use Rattle.dw_tree.proofs.Begins.{begun_within, take_front, spot_is}
 use Rattle.dw_tree.proofs.Stands.{end_is}
-use Rattle.dw_tree.specs.Held.{joined, held, given_bytes, Holds}
-use Rattle.dw_tree.proofs.Holds.{holds_settled, exact_grown, holds_kept, holds_closed}
+use Rattle.dw_tree.specs.Held.{Holds}
+use Rattle.dw_tree.proofs.Holds.{holds_kept}
 use Rattle.dw_tree.proofs.draft.TreeDraft.undo.Goals as goal
 
 pub invariant_of-self : goal.invariant_of-self

@@ -16,9 +16,9 @@ use Rattle.dw_tree.proofs.Stands.{end_is}
 use Rattle.dw_tree.proofs.Limits.{few_open}
 use Rattle.dw_tree.proofs.LentLemmas.{next_names}
 use Rattle.dw_tree.proofs.Drafts.{grown_values, sound_then, stand_then, begun_then, deep_then, end_then, begun_grown, size_grown, stand_grown, same_tokens}
-use Rattle.dw_tree.proofs.Begins.{idle_is, begun_none, free_is, given_is, view_given, place_given, draft_of, whole_free, spot_is, end_given, take_front}
-use Rattle.dw_tree.specs.Held.{joined, held, given_bytes, Holds}
-use Rattle.dw_tree.proofs.Holds.{holds_settled, exact_grown, holds_kept, holds_closed}
+use Rattle.dw_tree.proofs.Begins.{free_is, given_is, view_given, place_given, draft_of}
+use Rattle.dw_tree.specs.Held.{held, Holds}
+use Rattle.dw_tree.proofs.Holds.{holds_settled, exact_grown}
 use Rattle.dw_tree.proofs.draft.TreeDraft.value.Goals as goal
 
 pub settle-self-inside-requires-clause-level : goal.settle-self-inside-requires-clause-level

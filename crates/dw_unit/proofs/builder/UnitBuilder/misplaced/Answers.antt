@@ -1,4 +1,4 @@
-use Rattle.std.proofs.Common.{◌≡◌, None, Some, ap, ◌∙◌}
+use Rattle.std.proofs.Common.{ap, ◌∙◌}
 use Rattle.dw_unit.specs.Build.{Building, place_refusal}
 use Rattle.dw_unit.proofs.OpenLemmas.{too_deep, not_deep}
 use Rattle.dw_unit.proofs.builder.UnitBuilder.misplaced.Goals as goal
