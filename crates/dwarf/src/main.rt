@@ -8,7 +8,7 @@ use dw_tool::command::{Line, LineError};
 use dw_tool::line::line;
 use dw_tool::run::{Inputs, run};
 use dw_tool::status::ToolError;
-use std::io::ErrorKind;
+use std::io::{BufWriter, ErrorKind, Write};
 use std::process::ExitCode;
 use std::rt::{Env, Files};
 use std::{env, fs, io};
@@ -64,18 +64,25 @@ fn act_on(rt: &(impl AllocGlobal + Files + Print + Eprint), line: &Line<'_>) -> 
         info: &mut Watched::new(info),
         abbrev: abbrev.as_slice(),
     };
-    let ran = run(
-        rt.alloc(),
-        line.command,
-        inputs,
-        &mut Watched::new(io::writer(rt)),
-    );
+    let Ok(output) = BufWriter::new(rt.alloc(), io::writer(rt)) else {
+        return no_memory(rt);
+    };
+    let mut output = Watched::new(output);
+    let ran = run(rt.alloc(), line.command, inputs, &mut output);
     match ran {
-        Ok(status) => status as u8,
+        Ok(status) => flushed(rt, &mut output.into_inner(), status as u8),
         Err(ToolError::Fault(fault)) => refused(rt, fault),
         Err(ToolError::Read(kind)) => file_failed(rt, line.info, kind),
         Err(ToolError::Write(_)) => file_failed(rt, "standard output", ErrorKind::Other),
         Err(ToolError::Memory) => no_memory(rt),
+    }
+}
+
+// Writes what is left of the output, and gives the exit status.
+fn flushed(rt: &impl Eprint, output: &mut impl Write, status: u8) -> u8 {
+    match output.flush() {
+        Ok(()) => status,
+        Err(_) => file_failed(rt, "standard output", ErrorKind::Other),
     }
 }
 
