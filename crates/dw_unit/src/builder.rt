@@ -93,7 +93,7 @@ impl UnitBuilder {
         if self.draft.depth() == 0 {
             return Err(Refusal::NotOpen);
         }
-        if let Some(refusal) = self.wide(width) {
+        if let Some(refusal) = self.misfit(width) {
             return Err(refusal);
         }
         if self.draft.close(width).is_err() {
@@ -116,7 +116,7 @@ impl UnitBuilder {
         if let Some(refusal) = self.unfinished() {
             return Err(refusal);
         }
-        if let Some(refusal) = self.wide(width) {
+        if let Some(refusal) = self.misfit(width) {
             return Err(refusal);
         }
         if self.draft.pad(width).is_err() {
@@ -189,7 +189,7 @@ impl UnitBuilder {
     }
 
     /// Why no null of this width can follow.
-    fn wide(&self, width: u8) -> Option<Refusal>
+    fn misfit(&self, width: u8) -> Option<Refusal>
         ensures { result ≡ null_refusal self.now width }
     {
         if width < 1 || width > 16 {
