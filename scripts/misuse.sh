@@ -1,5 +1,5 @@
 #!/usr/bin/env bash
-# Tries what a caller must not be able to write: misuse/an_entry_outlives_its_unit.rt has to be refused
+# Tries what a caller must not be able to write: misuse/an_entry_outlives_its_unit.txt has to be refused
 # as a borrow that still stands, and its sound counterpart has to pass.
 #
 # Usage: scripts/misuse.sh
@@ -18,7 +18,7 @@ echo "misuse: dw_leb dw_form dw_abbrev dw_tree dw_unit" >> "$scratch/crates.txt"
 git init -q "$scratch"
 
 check() {
-    cp "$root/misuse/$1.rt" "$scratch/crates/misuse/src/lib.rt"
+    cp "$root/misuse/$1.txt" "$scratch/crates/misuse/src/lib.rt"
     (cd "$scratch/crates/misuse" && rt check) > "$scratch/answer" 2>&1
 }
 
