@@ -18,7 +18,7 @@ use Rattle.dw_leb.specs.Stay.{one_front, no_break}
 use Rattle.dw_leb.specs.Digits.{fixed_decides, length-fixed}
 use Rattle.dw_leb.specs.DecideNumber.{initial_length_decides, initial-size, initial_within}
 use Rattle.dw_leb.specs.ReadNumber.{read_length, read_fixed}
-use Rattle.dw_unit.specs.Header.{fields}
+use Rattle.dw_header.specs.Header.{fields}
 use Rattle.dw_unit.specs.Unit.{Fails, header_of, body_bytes}
 use Rattle.dw_unit.specs.DecideUnit.{unit_fault, fault_stays}
 use Rattle.dw_unit.specs.ReadUnit.{Fault}

@@ -10,7 +10,7 @@ use Rattle.dw_form.specs.declared.shape.Ctx.{Ctx}
 use Rattle.dw_form.specs.Form.{attribute}
 use Rattle.dw_abbrev.specs.Table.{Pair, Table, is_null, declared}
 use Rattle.dw_tree.specs.Tree.{Forest, Body, values, pairs_of, children_of, unless_declared, bad_root, bad_child, body, children, tree, nesting, nulls, not_null, MoreBreaks, PaddingBreaks}
-use Rattle.dw_unit.specs.Header.{added_sizes, numbers, bad_version, bad_type, bad_address_size, fields}
+use Rattle.dw_header.specs.Header.{added_sizes, numbers, bad_version, bad_type, bad_address_size, fields}
 use Rattle.dw_unit.specs.Unit.{EntriesBreak}
 use Rattle.dw_feed.specs.Uncut.{Uncut, Judges, After_uncut, then_uncut, judged_uncut, nothing_uncut, refused_uncut, optional_uncut, repeated_uncut, Short_uncut, uleb_uncut, attribute_uncut, refuses_unless}
 

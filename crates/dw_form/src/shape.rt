@@ -1,6 +1,5 @@
 //! The form table (section 7.5.6, table 7.6).
 ghost use Rattle.std.specs.Prelude.{◌≡◌, ◌≤◌, None, Some, IfSome};
-ghost use Rattle.dw_leb.specs.Number.{offset_size as offset_bytes};
 ghost use Rattle.dw_form.specs.Form.{shape, ShapeFits};
 
 use dw_leb::{Format, Order};
@@ -50,7 +49,7 @@ impl Shape {
         ensures shape { result ≡ shape form address_size format }
         ensures sizes { IfSome result ShapeFits }
     {
-        let offset = offset_size(format);
+        let offset = format.offset_size();
         match form {
             0x01 => Some(Shape::Fixed(address_size)),
             0x0b | 0x0c | 0x11 | 0x25 | 0x29 => Some(Shape::Fixed(1)),
@@ -72,15 +71,5 @@ impl Shape {
             0x21 => Some(Shape::Implicit),
             _ => None,
         }
-    }
-}
-
-/// The count of bytes of an offset into a section (section 7.4).
-fn offset_size(format: Format) -> u8
-    ensures { result ≡ offset_bytes format }
-{
-    match format {
-        Format::Dwarf32 => 4,
-        Format::Dwarf64 => 8,
     }
 }

@@ -4,7 +4,7 @@ use Rattle.std.specs.Prelude.{if◌then◌else◌, nat_lt, ◌==◌, ℤ, pos, n
 use Rattle.std.proofs.Math.Nat.{pow-suc}
 use Rattle.std.proofs.lemmas.Bool.{ltb-true, ltb-false, lt-ltb, le-ltb, eqb-true}
 use Rattle.std.proofs.lemmas.List.{length-append}
-use Rattle.dw_leb.specs.Part.{LebTooBig, Part, ◌then◌, judged, seen, viewed, optional}
+use Rattle.dw_leb.specs.Part.{LebTooBig, LengthTooBig, Part, ◌then◌, judged, seen, viewed, optional}
 use Rattle.dw_leb.specs.Field.{IsField}
 use Rattle.dw_leb.specs.Number.{UlebFits, SlebFits, marked, fixed_bytes, length_size, length_limit, Order, Format, Dwarf32, Dwarf64, fixed, groups, Unsigned, Signed, uleb_groups, UlebHolds, SlebHolds, above_u64, uleb, extent, residue, sleb_groups, outside_i64, sleb, reserved, as_initial, too_far, initial_length}
 use Rattle.dw_leb.specs.Reader.{made}
@@ -159,6 +159,10 @@ pub fits_sleb : (s : Signed) → sleb.Fits s → SlebFits s
 fits_sleb s h =
     let len = length-digits 128 base s.width (residue s.width s.value) in
     record { some = omega (arith, len, h.0.1.0); most = omega (arith, len, h.0.1.1); held = h.0.0; range = ltb-true _ _ (unless_true (nat_lt (extent s.value) (2 ^ 63)) LebTooBig h.1) }
+
+-- a unit's end, which its initial length tells, lies below 2 ^ 63
+pub initial_end : (order : Order) (start : ℕ) (format : Format) (n : ℕ) → (initial_length order start).Fits (format, n) → start + length_size format + n < 2 ^ 63
+initial_end order start format n fits = ltb-true _ _ (unless_true (nat_lt (start + length_size format + n) (2 ^ 63)) LengthTooBig fits.1)
 
 -- ---- a number breaks at its first byte
 

@@ -17,3 +17,4 @@ pub mod Laws
 pub mod View
 pub mod ItemSteps
 pub mod Towards
+pub mod Told

@@ -1,4 +1,5 @@
 //! Why reading or writing failed, and where.
+ghost use Rattle.std.specs.Prelude.{◌≡◌, ◌<◌, ◌+◌, ◌^◌};
 
 use std::io::ErrorKind;
 use thiserror::Error;
@@ -48,6 +49,36 @@ pub enum Reason {
     LengthTooBig,
     /// Right by the standard, but not read by this version yet.
     NotYet,
+}
+
+/// A broken field among the bytes that were read: where it begins, counted from their first, and why
+/// it is refused.
+#[derive(Clone, Copy, Debug, PartialEq, Eq)]
+pub struct Bad {
+    /// Where the field begins.
+    pub offset: usize,
+    /// Why the field is refused.
+    pub reason: Reason,
+}
+
+impl Bad {
+    /// A field that begins with the bytes.
+    pub fn here(reason: Reason) -> Bad
+        ensures { result ≡ record { offset = 0; reason = reason } }
+    {
+        Bad { offset: 0, reason }
+    }
+
+    /// The same field, counted from `size` bytes before.
+    pub fn behind(self, size: usize) -> Bad
+        requires { size + self.offset < 2 ^ 64 }
+        ensures { result ≡ record { offset = size + self.offset; reason = self.reason } }
+    {
+        Bad {
+            offset: size + self.offset,
+            reason: self.reason,
+        }
+    }
 }
 
 /// The section in which a fault stands.

@@ -58,11 +58,7 @@ fn within(start: u64, format: Format, n: u128) -> Result<(Format, u64), Reason>
     ensures format { IfOk result (λ x. x.0 ≡ format) }
     ensures end { IfOk result (λ x. x.1 < 2 ^ 63) }
 {
-    let size = match format {
-        Format::Dwarf32 => 4,
-        Format::Dwarf64 => 12,
-    };
-    if start as u128 + size + n < 1 << 63 {
+    if start as u128 + format.length_size() as u128 + n < 1 << 63 {
         Ok((format, n as u64))
     } else {
         Err(Reason::LengthTooBig)

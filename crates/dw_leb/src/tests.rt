@@ -3,8 +3,8 @@
 use crate::devices::Stepped;
 use crate::laws::{one_outcome, one_spelling, outcomes_are_stable};
 use crate::{
-    Fault, Format, Order, ReadError, Reason, Section, Sleb, Uleb, Watched, WriteError, read_all,
-    read_exactly, read_fixed, read_length, write_all, write_fixed, write_length,
+    Bad, Fault, Format, Order, ReadError, Reason, Section, Sleb, Uleb, Watched, WriteError,
+    read_all, read_exactly, read_fixed, read_length, write_all, write_fixed, write_length,
 };
 use std::io::{ErrorKind, Read, Write};
 use std::process::Abort;
@@ -145,6 +145,24 @@ fn initial_lengths(rt: HostRuntime) {
     assert_eq!(rt; length(&rt, Order::Little, 0, &little), wide);
     let big = [255, 255, 255, 255, 0, 0, 0, 0, 0, 0, 0, 15];
     assert_eq!(rt; length(&rt, Order::Big, 0, &big), wide);
+}
+
+/// Sections 7.2.2 and 7.4: the 64-bit format's initial length is an escape of 4 bytes and 8 bytes.
+#[test]
+fn sizes_of_the_formats(rt: HostRuntime) {
+    for (format, length, offset) in [(Format::Dwarf32, 4, 4), (Format::Dwarf64, 12, 8)] {
+        assert_eq!(rt; format.length_size(), length);
+        assert_eq!(rt; format.offset_size(), offset);
+    }
+}
+
+#[test]
+fn fields_behind_others(rt: HostRuntime) {
+    let field = Bad::here(Reason::BadVersion);
+    assert_eq!(rt; field.offset, 0);
+    let field = field.behind(4).behind(12);
+    assert_eq!(rt; field.offset, 16);
+    assert_eq!(rt; field.reason, Reason::BadVersion);
 }
 
 #[test]

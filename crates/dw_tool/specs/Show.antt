@@ -6,9 +6,9 @@ use Rattle.dw_leb.specs.declared.order.Format.TheVariants.{Dwarf32, Dwarf64}
 use Rattle.dw_form.specs.Form.{Value, Num, Wide, Uleb, Sleb, Block, Text, Present, Implicit}
 use Rattle.dw_abbrev.specs.Table.{declared}
 use Rattle.dw_tree.specs.Lent.{LentAttribute, EntryAt, attributes_of, code_of, entries_of, tag_of}
-use Rattle.dw_unit.specs.declared.kind.Kind.{Kind}
-use Rattle.dw_unit.specs.declared.kind.Kind.TheVariants.{Compile, Partial, TypeUnit, Skeleton}
-use Rattle.dw_unit.specs.Header.{Header}
+use Rattle.dw_header.specs.declared.kind.Kind.{Kind}
+use Rattle.dw_header.specs.declared.kind.Kind.TheVariants.{Compile, Partial, TypeUnit, Skeleton}
+use Rattle.dw_header.specs.Header.{Header}
 use Rattle.dw_unit.specs.WholeUnit.{WholeUnit, bytes_of, tree_of}
 use Rattle.dw_tool.specs.Text.{attribute_text, block, hexadecimal, quoted, tag_text}
 

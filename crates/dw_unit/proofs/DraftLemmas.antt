@@ -18,10 +18,11 @@ use Rattle.dw_tree.specs.Row.{push}
 use Rattle.dw_tree.specs.Place.{Frame, Spot, leave_from, Begun, Unread, Place}
 use Rattle.dw_tree.specs.Steps.{Growing, TreeAt, settled, settle_by, settle, begun_at, value_at, with_value, begun_in, begun_value, ended_by, ended as ended_at, closed_at, undone as undone_at, end_of, finished as finished_at, whole_tree, FirstsFit, NextFits}
 use Rattle.dw_tree.specs.Ends.{begun_end, value_end, closed_end}
-use Rattle.dw_unit.specs.Header.{fields, fields_of, context_of}
-use Rattle.dw_unit.specs.HeaderLemmas.{fields_fit}
+use Rattle.dw_header.specs.Header.{fields, fields_of, context_of}
+use Rattle.dw_header.specs.HeaderLemmas.{fields_fit}
 use Rattle.dw_unit.specs.Unit.{body_bytes}
-use Rattle.dw_unit.specs.WholeUnit.{WholeUnit, contents_of, header_size, IsUnit}
+use Rattle.dw_unit.specs.WholeUnit.{WholeUnit, contents_of, IsUnit}
+use Rattle.dw_header.specs.Headed.{header_size}
 use Rattle.dw_unit.specs.Draft.{Drafted, tree_in, drafted_size, with_place, begun, given, closed, padded, undone, size_limit, passes_limit, IsOnlyRoot, value_bytes, AtMostOne, NoneBefore, HasOneRoot, IsUnread, IsDrafted}
 use Rattle.dw_unit.proofs.EntryLemmas.{prefix_more}
 

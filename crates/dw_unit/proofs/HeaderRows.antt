@@ -8,10 +8,11 @@ use Rattle.dw_leb.specs.declared.errors.Section.TheVariants.{Info, Abbrev}
 use Rattle.dw_form.specs.Form.{shape}
 use Rattle.dw_form.specs.ReadForm.{read_attribute}
 use Rattle.dw_abbrev.specs.ReadTable.{read_table, read_table_at}
-use Rattle.dw_unit.specs.declared.kind.Kind.TheVariants.{Compile, Partial, TypeUnit, Skeleton}
+use Rattle.dw_header.specs.declared.kind.Kind.TheVariants.{Compile, Partial, TypeUnit, Skeleton}
 use Rattle.dw_tree.specs.Tree.{nesting}
 use Rattle.dw_tree.specs.ReadTree.{read_children, read_tree}
-use Rattle.dw_unit.specs.ReadUnit.{read_fields, read_unit, Unit, Fault}
+use Rattle.dw_header.specs.ReadHeader.{read_fields}
+use Rattle.dw_unit.specs.ReadUnit.{read_unit, Unit, Fault}
 use Rattle.dw_unit.proofs.Samples.{first_table, named, headed, contents}
 
 -- ---- the four kinds, in both formats

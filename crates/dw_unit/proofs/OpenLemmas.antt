@@ -13,7 +13,7 @@ use Rattle.dw_tree.specs.Standing.{is_bare_in}
 use Rattle.dw_tree.specs.Steps.{settled, settle}
 use Rattle.dw_unit.specs.declared.refusal.Refusal.{Refusal}
 use Rattle.dw_unit.specs.declared.refusal.Refusal.TheVariants.{TooDeep, SecondRoot}
-use Rattle.dw_unit.specs.Header.{context_of}
+use Rattle.dw_header.specs.Header.{context_of}
 use Rattle.dw_unit.specs.Draft.{Drafted, with_place, IsOnlyRoot}
 use Rattle.dw_unit.specs.Build.{Building, draft_of, building_of, with_entry, opened, is_known, place_refusal, entry_size, values_refusal, ValuesFit, EntryRefused}
 use Rattle.dw_unit.proofs.EntryLemmas.{settle_whole}

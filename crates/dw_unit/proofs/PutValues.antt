@@ -13,7 +13,7 @@ use Rattle.dw_tree.specs.Tree.{values, pairs_of}
 use Rattle.dw_tree.specs.Flat.{value_part}
 use Rattle.dw_tree.specs.Place.{Place, Unread}
 use Rattle.dw_tree.specs.Steps.{begun_in, settle, NextFits, FirstFits, first_bytes}
-use Rattle.dw_unit.specs.Header.{context_of}
+use Rattle.dw_header.specs.Header.{context_of}
 use Rattle.dw_unit.specs.Draft.{Drafted, with_place, given, undone, value_bytes}
 use Rattle.dw_unit.proofs.EntryLemmas.{settle_open}
 

@@ -8,9 +8,9 @@ use Rattle.dw_leb.specs.Number.{Unsigned, Signed}
 use Rattle.dw_form.specs.declared.shape.Ctx.{Ctx}
 use Rattle.dw_form.specs.Form.{Value, Attribute, Text}
 use Rattle.dw_abbrev.specs.Table.{Pair, Declaration, Table}
-use Rattle.dw_unit.specs.declared.kind.Kind.{Kind}
-use Rattle.dw_unit.specs.declared.kind.Kind.TheVariants.{Compile}
-use Rattle.dw_unit.specs.Header.{Header}
+use Rattle.dw_header.specs.declared.kind.Kind.{Kind}
+use Rattle.dw_header.specs.declared.kind.Kind.TheVariants.{Compile}
+use Rattle.dw_header.specs.Header.{Header}
 use Rattle.dw_tree.specs.Tree.{Tree, leaf}
 use Rattle.dw_unit.specs.Unit.{Contents}
 

@@ -3,7 +3,7 @@ use Rattle.std.proofs.Common.{◌≡◌, ◌-◌, ℕ, List, ◌++◌, length, a
 use Rattle.std.proofs.lemmas.List.{length-append}
 use Rattle.dw_leb.specs.Number.{initial_length, length_size}
 use Rattle.dw_leb.specs.DecideNumber.{initial-size}
-use Rattle.dw_unit.specs.Header.{fields, fields_of, context_of}
+use Rattle.dw_header.specs.Header.{fields, fields_of, context_of}
 use Rattle.dw_tree.specs.Tree.{tree, nulls, nesting}
 use Rattle.dw_unit.specs.Unit.{body_bytes}
 use Rattle.dw_unit.specs.WholeUnit.{WholeUnit, bytes_of, contents_of}

@@ -5,7 +5,7 @@ use Rattle.dw_leb.specs.declared.order.Order.TheVariants.{Little, Big}
 use Rattle.dw_leb.specs.declared.order.Format.TheVariants.{Dwarf32, Dwarf64}
 use Rattle.dw_form.specs.Form.{shape, shaped, attribute, Num, Text}
 use Rattle.dw_abbrev.specs.Table.{Table}
-use Rattle.dw_unit.specs.declared.kind.Kind.TheVariants.{Compile, TypeUnit, Skeleton}
+use Rattle.dw_header.specs.declared.kind.Kind.TheVariants.{Compile, TypeUnit, Skeleton}
 use Rattle.dw_tree.specs.Tree.{Tree, leaf, branch, none, more, children, nesting}
 use Rattle.dw_unit.specs.Unit.{unit_bytes}
 use Rattle.dw_tree.specs.Spelling.{tree_bytes}

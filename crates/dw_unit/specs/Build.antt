@@ -14,7 +14,7 @@ use Rattle.dw_tree.specs.Place.{Spot, add, enter, leave, Place, place_code}
 use Rattle.dw_tree.specs.Standing.{is_bare}
 use Rattle.dw_unit.specs.declared.refusal.Refusal.{Refusal}
 use Rattle.dw_unit.specs.declared.refusal.Refusal.TheVariants.{UnknownCode, WrongValues, NotOpen, Open, TooDeep, TooLong, SecondRoot, NoRoot, BadWidth, NoMemory}
-use Rattle.dw_unit.specs.Header.{Header, context_of}
+use Rattle.dw_header.specs.Header.{Header, context_of}
 use Rattle.dw_unit.specs.WholeUnit.{WholeUnit, header_code}
 use Rattle.dw_unit.specs.Draft.{Drafted, finished, passes_limit}
 

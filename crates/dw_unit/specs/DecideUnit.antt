@@ -1,33 +1,32 @@
 -- Units: the reader takes what is spelled, fails where it fails, and does nothing else.
-use Rattle.std.proofs.Common.{◌⊎◌, ◌≡◌, ◌≢◌, ℕ, zero, suc, ◌+◌, ◌-◌, ◌<◌, Bool, true, false, List, [], ◌∷◌, ◌++◌, length, drop, Some, None, refl, sym, ap, subst, ◌∙◌, append_assoc, arith, inl, inr}
+use Rattle.std.proofs.Common.{◌⊎◌, ◌≡◌, ◌≢◌, ℕ, suc, ◌+◌, ◌-◌, List, [], ◌∷◌, ◌++◌, length, drop, refl, sym, ap, subst, ◌∙◌, append_assoc, arith, inl, inr}
 use Rattle.std.proofs.lemmas.List.{drop_at, length-append}
-use Rattle.std.specs.Prelude.{nat_lt, ◌==◌, ◌&&◌, cond}
-use Rattle.std.proofs.lemmas.Bool.{eqb-true, ltb-true, and_parts}
 use Rattle.dw_leb.specs.declared.errors.Reason.{Reason}
-use Rattle.dw_leb.specs.declared.errors.Reason.TheVariants.{Truncated, BadVersion, BadUnitType}
+use Rattle.dw_leb.specs.declared.errors.Reason.TheVariants.{Truncated}
 use Rattle.dw_leb.specs.Part.{Part}
 use Rattle.dw_leb.specs.declared.order.Order.{Order}
 use Rattle.dw_leb.specs.declared.order.Format.{Format}
-use Rattle.dw_leb.specs.Number.{offset_size, initial_length, length_limit}
+use Rattle.dw_leb.specs.Number.{initial_length, length_limit}
 use Rattle.dw_form.specs.declared.shape.Ctx.{Ctx}
 use Rattle.dw_abbrev.specs.Table.{Table, TableAt}
-use Rattle.dw_unit.specs.declared.kind.Kind.{Kind}
-use Rattle.dw_unit.specs.declared.kind.Kind.TheVariants.{Compile, Partial, TypeUnit, Skeleton}
-use Rattle.dw_unit.specs.Header.{Header, bad_version, bad_type, numbers, added_sizes, kind_number, kind_fields, fields, Fields, fields_of, context_of}
+use Rattle.dw_header.specs.Header.{Header, fields, Fields, fields_of, context_of}
 use Rattle.dw_tree.specs.Tree.{Tree, tree, nesting, nulls, AreNulls, PaddingBreaks}
-use Rattle.dw_unit.specs.Unit.{Contents, body_bytes, unit_bytes, header_of, table_offset, Headed, HeaderBreaks, EntriesBreak, BodyBreaks, UnitBreaks, Fails, UnitIn}
+use Rattle.dw_unit.specs.Unit.{Contents, body_bytes, unit_bytes, header_of, table_offset, EntriesBreak, BodyBreaks, UnitBreaks, Fails, UnitIn}
+use Rattle.dw_header.specs.Headed.{Headed, HeaderBreaks}
 use Rattle.dw_leb.specs.declared.errors.Section.{Section}
 use Rattle.dw_leb.specs.declared.errors.Section.TheVariants.{Info, Abbrev}
 use Rattle.dw_leb.specs.Reader.{Outcome, Found, Broken, ◌and_then◌, behind, paired}
 use Rattle.dw_leb.specs.ReadNumber.{read_length}
 use Rattle.dw_tree.specs.ReadTree.{read_tree, read_padding}
-use Rattle.dw_unit.specs.ReadUnit.{read_fields, first_number, second_number, kind_from, header_from, Answer, Unit, Fault, read_entries, answer_entries, answer_table, answer_fields, answer_length, read_unit}
+use Rattle.dw_header.specs.ReadHeader.{read_fields, header_from}
+use Rattle.dw_unit.specs.ReadUnit.{Answer, Unit, Fault, read_entries, answer_entries, answer_table, answer_fields, answer_length, read_unit}
 use Rattle.dw_abbrev.specs.ReadTable.{read_table_at}
 use Rattle.dw_leb.specs.Decide.{Says, AreBytes, AreBytes-behind, found, broken}
 use Rattle.dw_leb.specs.Stay.{Stays, After_stays}
 use Rattle.dw_leb.specs.DecideRepeat.{behind_at}
-use Rattle.dw_leb.specs.DecideNumber.{initial_length_decides, initial_length_stays, initial_within}
-use Rattle.dw_unit.specs.DecideHeader.{fields_decides, fields_stays}
+use Rattle.dw_leb.specs.DecideNumber.{initial_length_decides, initial_within}
+use Rattle.dw_header.specs.DecideHeader.{fields_decides, header_stays, headed_stays}
+use Rattle.dw_header.specs.HeaderLemmas.{header_back, kind_there}
 use Rattle.dw_tree.specs.DecideTree.{tree_decides, tree_stays, padding_take, padding_fault, padding_stays, PaddingSays, padding_says}
 use Rattle.dw_abbrev.specs.DecideTable.{table_take, table_fault, TableSays, table_says}
 
@@ -125,15 +124,6 @@ header_at order section bytes format n x rest h =
     ∙ ap (answer_fields order format section (s ++ rest) n (length (len_bytes order format n))) ((fields_decides order format).takes x rest n h.fields_fit h.within)
     ∙ ap (λ (b : List ℕ). answer_table order format x b (n - length s) (length (len_bytes order format n) + length s) (read_table_at section (table_offset x))) (drop_at s rest (length s) refl)
 
-kind_back : (kind : Kind) → kind_from (kind_number kind) (kind_fields kind) ≡ kind
-kind_back Compile = refl
-kind_back Partial = refl
-kind_back (TypeUnit signature offset) = refl
-kind_back (Skeleton id) = refl
-
-header_back : (h : Header) → header_from h.order h.format (fields_of h) ≡ h
-header_back h = rw (kind_back h.kind) refl
-
 -- ---- what is spelled is read
 
 pub unit_take : (section : List ℕ) (u : Contents) (bytes rest : List ℕ) (h : UnitIn section u bytes rest) → read_unit u.header.order section bytes ≡ Unit u (length (unit_bytes h.table u))
@@ -192,51 +182,6 @@ abbrev pub AnswerSays : Order → List ℕ → List ℕ → Answer → Type 0
 AnswerSays order section bytes (Unit u size) = (u.header.order ≡ order) × (rest : List ℕ) × (h : UnitIn section u bytes rest) × (length (unit_bytes h.table u) ≡ size)
 AnswerSays order section bytes (Fault s offset reason) = Fails order section bytes s offset reason
 
-version_is : (v : ℕ) → bad_version v ≡ None → v ≡ 5
-version_is v e = by (v == 5) refl e
-  where
-    by : (b : Bool) → (v == 5) ≡ b → cond b None (Some BadVersion) ≡ None → v ≡ 5
-    by true t h = eqb-true v 5 t
-    by false t h = absurd cc
-
-type_range : (v : ℕ) → bad_type v ≡ None → (0 < v) × (v < 5)
-type_range v e = by (nat_lt 0 v && nat_lt v 5) refl e
-  where
-    by : (b : Bool) → (nat_lt 0 v && nat_lt v 5) ≡ b → cond b None (Some BadUnitType) ≡ None → (0 < v) × (v < 5)
-    by true t h = let both = and_parts (nat_lt 0 v) (nat_lt v 5) t in (ltb-true 0 v both.0, ltb-true v 5 both.1)
-    by false t h = absurd cc
-
-no_numbers : (order : Order) (added : List ℕ) → (numbers order []).Fits added → [] ≡ added
-no_numbers order [] fits = refl
-no_numbers order (a ∷ more) fits = absurd fits
-
-one_number : (order : Order) (m : ℕ) (added : List ℕ) → (numbers order (m ∷ [])).Fits added → (first_number added ∷ []) ≡ added
-one_number order m [] fits = absurd fits
-one_number order m (a ∷ []) fits = refl
-one_number order m (a ∷ b ∷ more) fits = absurd fits.1
-
-two_numbers : (order : Order) (m n : ℕ) (added : List ℕ) → (numbers order (m ∷ n ∷ [])).Fits added → (first_number added ∷ second_number added ∷ []) ≡ added
-two_numbers order m n [] fits = absurd fits
-two_numbers order m n (a ∷ []) fits = absurd fits.1
-two_numbers order m n (a ∷ b ∷ []) fits = refl
-two_numbers order m n (a ∷ b ∷ c ∷ more) fits = absurd fits.1.1
-
-kind_numbers : (order : Order) (format : Format) (kind : ℕ) (added : List ℕ) → (0 < kind) × (kind < 5) → (numbers order (added_sizes format kind)).Fits added
-    → (kind_number (kind_from kind added) ≡ kind) × (kind_fields (kind_from kind added) ≡ added)
-kind_numbers order format zero added range fits = absurd (omega (arith, range.0))
-kind_numbers order format (suc zero) added range fits = (refl, no_numbers order added fits)
-kind_numbers order format (suc (suc zero)) added range fits = (refl, two_numbers order 8 (offset_size format) added fits)
-kind_numbers order format (suc (suc (suc zero))) added range fits = (refl, no_numbers order added fits)
-kind_numbers order format (suc (suc (suc (suc zero)))) added range fits = (refl, one_number order 8 added fits)
-kind_numbers order format (suc (suc (suc (suc (suc n))))) added range fits = absurd (omega (arith, range.1))
-
--- the fields of the header that fields make
-pub kind_there : (format : Format) (order : Order) (x : Fields) → (fields order format).Fits x → fields_of (header_from order format x) ≡ x
-kind_there format order x fits =
-    let k = kind_numbers order format x.1.0 x.1.1.1.1 (type_range x.1.0 fits.1.0.1) fits.1.1.1.1 in
-    let five : x.0 ≡ 5 = version_is x.0 fits.0.1 in
-    rw (k.0, k.1, ← five) refl
-
 module _ (order : Order) (section bytes : List ℕ) (format : Format) (n : ℕ) (x : Fields) (rest : List ℕ) (headed : Headed order bytes format n x rest) where
   pub entries_answer : (t : Table) → TableAt section (table_offset x) t → (o : Outcome (Tree × List ℕ)) → EntriesSay (header_of order format x) t rest (n - length (field_bytes order format x)) o
       → AnswerSays order section bytes (answer_entries (header_from order format x) (length (len_bytes order format n) + length (field_bytes order format x)) o)
@@ -289,19 +234,6 @@ unfolding read_unit
 unit_says order section bytes fit_s fit = length_answer order section bytes fit_s fit (read_length order 0 bytes length_limit) ((initial_length_decides order 0).says bytes length_limit fit)
 
 -- ---- breaks that stay
-
-pub header_stays : (order : Order) (bytes tail : List ℕ) (offset : ℕ) (reason : Reason) → reason ≢ Truncated → HeaderBreaks order bytes offset reason → HeaderBreaks order (bytes ++ tail) offset reason
-header_stays order bytes tail offset reason ne (inl one) = inl (initial_length_stays order 0 bytes tail length_limit offset reason ne one)
-header_stays order bytes tail offset reason ne (inr (format, n, rest, own, fits, split, sum, breaks)) =
-    inr (format, n, rest ++ tail, own, fits, ap (λ (b : List ℕ). b ++ tail) split ∙ append_assoc (len_bytes order format n) rest tail, sum, fields_stays order format rest tail n own reason ne breaks)
-
-headed_stays : (order : Order) (bytes tail : List ℕ) (format : Format) (n : ℕ) (x : Fields) (rest : List ℕ) → Headed order bytes format n x rest → Headed order (bytes ++ tail) format n x (rest ++ tail)
-headed_stays order bytes tail format n x rest h = record {
-  length_fits = h.length_fits;
-  fields_fit = h.fields_fit;
-  within = h.within;
-  split = ap (λ (b : List ℕ). b ++ tail) h.split ∙ append_assoc (len_bytes order format n) (field_bytes order format x ++ rest) tail ∙ ap (λ (b : List ℕ). len_bytes order format n ++ b) (append_assoc (field_bytes order format x) rest tail);
-}
 
 body_stays : (order : Order) (IsTable : ℕ → Table → Type 0) (bytes tail : List ℕ) (offset : ℕ) (reason : Reason) → reason ≢ Truncated → BodyBreaks order IsTable bytes offset reason → BodyBreaks order IsTable (bytes ++ tail) offset reason
 body_stays order IsTable bytes tail offset reason ne (format, n, x, rest, t, own, headed, is_table, sum, breaks) =

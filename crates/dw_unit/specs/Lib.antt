@@ -1,14 +1,8 @@
-pub mod Header
 pub mod Unit
 pub mod ReadUnit
 pub mod Laws
-pub mod DecideHeader
 pub mod DecideUnit
 pub mod Told
-pub mod HeaderFields
-pub mod HeaderLemmas
-pub mod HeadRead
-pub mod HeadLaws
 pub mod Entries
 pub mod WholeUnit
 pub mod BodyView

@@ -1,48 +1,21 @@
 -- Units read by a plain, slow reader.
-use Rattle.std.specs.Prelude.{ℕ, suc, ◌+◌, ◌-◌, List, [], ◌∷◌, length, drop, ◌==◌, if◌then◌else◌}
+use Rattle.std.specs.Prelude.{ℕ, suc, ◌+◌, ◌-◌, List, length, drop}
 use Rattle.dw_leb.specs.declared.errors.Reason.{Reason}
 use Rattle.dw_leb.specs.declared.order.Order.{Order}
 use Rattle.dw_leb.specs.declared.order.Format.{Format}
-use Rattle.dw_leb.specs.Number.{offset_size, length_limit}
+use Rattle.dw_leb.specs.Number.{length_limit}
 use Rattle.dw_leb.specs.declared.errors.Section.{Section}
 use Rattle.dw_leb.specs.declared.errors.Section.TheVariants.{Info, Abbrev}
-use Rattle.dw_leb.specs.Reader.{Outcome, Found, Broken, Reader, made, checked, returned, ◌and_then◌}
-use Rattle.dw_leb.specs.ReadNumber.{read_fixed, read_length}
+use Rattle.dw_leb.specs.Reader.{Outcome, Found, Broken, Reader, ◌and_then◌}
+use Rattle.dw_leb.specs.ReadNumber.{read_length}
 use Rattle.dw_form.specs.declared.shape.Ctx.{Ctx}
 use Rattle.dw_abbrev.specs.Table.{Table}
 use Rattle.dw_abbrev.specs.ReadTable.{read_table_at}
-use Rattle.dw_unit.specs.declared.kind.Kind.{Kind}
-use Rattle.dw_unit.specs.declared.kind.Kind.TheVariants.{Compile, Partial, TypeUnit, Skeleton}
-use Rattle.dw_unit.specs.Header.{Header, added_sizes, bad_version, bad_type, bad_address_size, Fields}
+use Rattle.dw_header.specs.Header.{Header, Fields}
+use Rattle.dw_header.specs.ReadHeader.{read_fields, header_from}
 use Rattle.dw_tree.specs.ReadTree.{read_tree, read_padding}
 use Rattle.dw_tree.specs.Tree.{Tree, nesting}
 use Rattle.dw_unit.specs.Unit.{Contents, header_of}
-
-abbrev pub read_numbers : Order → List ℕ → Reader (List ℕ)
-read_numbers order [] = returned []
-read_numbers order (n ∷ ns) = made (λ x. x.0 ∷ x.1) (read_fixed order n and_then λ _. read_numbers order ns)
-
-unfoldable pub read_fields : Order → Format → Reader Fields
-read_fields order format =
-    checked (read_fixed order 2) bad_version
-    and_then λ _. checked (read_fixed order 1) bad_type
-    and_then λ kind. checked (read_fixed order 1) bad_address_size
-    and_then λ _. read_fixed order (offset_size format)
-    and_then λ _. read_numbers order (added_sizes format kind)
-
-abbrev pub first_number : List ℕ → ℕ
-first_number [] = 0
-first_number (x ∷ xs) = x
-
-abbrev pub second_number : List ℕ → ℕ
-second_number [] = 0
-second_number (x ∷ xs) = first_number xs
-
-abbrev pub kind_from : ℕ → List ℕ → Kind
-kind_from kind added = if kind == 1 then Compile else (if kind == 2 then TypeUnit (first_number added) (second_number added) else (if kind == 3 then Partial else Skeleton (first_number added)))
-
-abbrev pub header_from : Order → Format → Fields → Header
-header_from order format x = record { order = order; format = format; kind = kind_from x.1.0 x.1.1.1.1; address_size = x.1.1.0; abbrev_offset = x.1.1.1.0 }
 
 -- what reading a unit gives
 pub data Answer : Type 0 where

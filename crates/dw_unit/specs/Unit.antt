@@ -1,15 +1,16 @@
 -- Units, their breaks, and the first fault (section 7.5).
-use Rattle.std.specs.Prelude.{◌≡◌, ℕ, ◌+◌, ◌-◌, ◌≤◌, List, ◌++◌, length, ◌⊎◌}
+use Rattle.std.specs.Prelude.{◌≡◌, ℕ, ◌+◌, ◌-◌, List, ◌++◌, length, ◌⊎◌}
 use Rattle.dw_leb.specs.declared.errors.Reason.{Reason}
 use Rattle.dw_leb.specs.Part.{Breaks, After}
 use Rattle.dw_leb.specs.declared.order.Order.{Order}
 use Rattle.dw_leb.specs.declared.order.Format.{Format}
-use Rattle.dw_leb.specs.Number.{initial_length, length_limit}
+use Rattle.dw_leb.specs.Number.{initial_length}
 use Rattle.dw_leb.specs.declared.errors.Section.{Section}
 use Rattle.dw_leb.specs.declared.errors.Section.TheVariants.{Info, Abbrev}
 use Rattle.dw_form.specs.declared.shape.Ctx.{Ctx}
 use Rattle.dw_abbrev.specs.Table.{Table, TableAt, TableBreaks}
-use Rattle.dw_unit.specs.Header.{Header, Fields, fields, fields_of, context_of}
+use Rattle.dw_header.specs.Header.{Header, Fields, fields, fields_of, context_of}
+use Rattle.dw_header.specs.Headed.{Headed, HeaderBreaks}
 use Rattle.dw_tree.specs.Tree.{Tree, tree, nesting, nulls, AreNulls, PaddingBreaks}
 
 pub record Contents : Type 0 where
@@ -39,19 +40,6 @@ header_of order format x = record { order = order; format = format; address_size
 -- the offset of the table that the fields name
 abbrev pub table_offset : Fields → ℕ
 table_offset x = x.1.1.1.0
-
--- A header is spelled at the front: an initial length n, and the fields within it.
-pub record Headed (order : Order) (bytes : List ℕ) (format : Format) (n : ℕ) (x : Fields) (rest : List ℕ) : Type 0 where
-  pub length_fits : (initial_length order 0).Fits (format, n)
-  pub fields_fit : (fields order format).Fits x
-  pub split : bytes ≡ (initial_length order 0).spell (format, n) ++ ((fields order format).spell x ++ rest)
-  pub within : length ((fields order format).spell x) ≤ n
-
--- the header breaks in its initial length, or behind it in its fields, with lim the length read
-abbrev pub HeaderBreaks : Order → List ℕ → ℕ → Reason → Type 0
-HeaderBreaks order bytes offset reason = (initial_length order 0).Break bytes length_limit offset reason
-    ⊎ ((format : Format) × (n : ℕ) × (rest : List ℕ) × (own : ℕ) × (initial_length order 0).Fits (format, n) × (bytes ≡ (initial_length order 0).spell (format, n) ++ rest)
-    × (offset ≡ length ((initial_length order 0).spell (format, n)) + own) × (fields order format).Break rest n own reason)
 
 -- behind its header a unit breaks in its root, or behind a root that is spelled in its padding
 abbrev pub EntriesBreak : Ctx → Table → Breaks

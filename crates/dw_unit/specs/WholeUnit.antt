@@ -8,16 +8,16 @@ use Rattle.dw_leb.specs.declared.order.Format.{Format}
 use Rattle.dw_leb.specs.declared.errors.ReadError.{ReadError}
 use Rattle.dw_leb.specs.declared.errors.ReadError.TheVariants as reads
 use Rattle.dw_leb.specs.declared.errors.Section.TheVariants.{Info}
-use Rattle.dw_leb.specs.Number.{length_size}
 use Rattle.dw_abbrev.specs.Table.{Table, TableAt}
 use Rattle.dw_tree.specs.Tree.{Tree}
 use Rattle.dw_tree.specs.Codes.{order_code, format_code, table_code, tree_code}
 use Rattle.dw_tree.specs.Steps.{TreeAt}
 use Rattle.dw_unit.specs.declared.bad.BodyError.{BodyError}
 use Rattle.dw_unit.specs.declared.bad.BodyError.TheVariants as errors
-use Rattle.dw_unit.specs.declared.kind.Kind.{Kind}
-use Rattle.dw_unit.specs.declared.kind.Kind.TheVariants.{Compile, Partial, TypeUnit, Skeleton}
-use Rattle.dw_unit.specs.Header.{Header, fields, fields_of, context_of}
+use Rattle.dw_header.specs.declared.kind.Kind.{Kind}
+use Rattle.dw_header.specs.declared.kind.Kind.TheVariants.{Compile, Partial, TypeUnit, Skeleton}
+use Rattle.dw_header.specs.Header.{Header, context_of}
+use Rattle.dw_header.specs.Headed.{header_size}
 use Rattle.dw_unit.specs.Unit.{Contents, UnitFits, unit_bytes, Fails}
 
 -- a header, the table at its abbreviation offset, the root with all entries below it, and the widths of the nulls after it
@@ -53,10 +53,6 @@ TellsFault section order bytes (reads.Io kind) = ⊥
 abbrev pub unit_error_of : ℕ → BodyError → ReadError
 unit_error_of at (errors.Bad e) = reads.Fault (record { section = Info; offset = at + e.offset; reason = e.reason })
 unit_error_of at errors.NoMemory = reads.NoMemory
-
--- the bytes of a header, its length field included
-abbrev pub header_size : Header → ℕ
-header_size h = length_size h.format + length ((fields h.order h.format).spell (fields_of h))
 
 -- the tree of a unit: the root stands behind the header
 abbrev pub tree_of : WholeUnit → TreeAt

@@ -10,11 +10,11 @@ ghost use Rattle.dw_unit.specs.Build.{opened, closed, padded, whole_of, is_known
 
 use crate::draft::{Draft, size_limit};
 use crate::given::{is_longer, put_entry, values_fit};
-use crate::header::Header;
 use crate::refusal::Refusal;
 use crate::unit::Unit;
 use dw_abbrev::Table;
 use dw_form::AttrValue;
+use dw_header::Header;
 use dw_leb::Uleb;
 use std::alloc::Global;
 use std::marker::Model;

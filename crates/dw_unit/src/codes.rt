@@ -7,11 +7,12 @@ ghost use Rattle.dw_leb.specs.ReadNumber.{read_uleb};
 ghost use Rattle.dw_tree.specs.Tree.{bad_root, not_null};
 ghost use Rattle.dw_tree.specs.ReadTree.{read_padding};
 ghost use Rattle.dw_unit.specs.Entries.{code_reader};
-ghost use Rattle.dw_unit.specs.Told.{told, told_code, Tells, IsNear};
+ghost use Rattle.dw_leb.specs.Told.{told};
+ghost use Rattle.dw_unit.specs.Told.{told_code, Tells, IsNear};
 
-use crate::bad::{Bad, BodyError};
+use crate::bad::BodyError;
 use dw_abbrev::Table;
-use dw_leb::{Reason, Uleb};
+use dw_leb::{Bad, Reason, Uleb};
 use std::alloc::Global;
 
 /// The code of the root entry at the front of `b`, of which `lim` bytes are left to the unit's end.

@@ -9,18 +9,17 @@ ghost use Rattle.dw_tree.specs.Tree.{nesting};
 ghost use Rattle.dw_tree.specs.Held.{held_in};
 ghost use Rattle.dw_tree.specs.Standing.{is_bare};
 ghost use Rattle.dw_tree.specs.Steps.{begun_in, NextFits, next_pair};
-ghost use Rattle.dw_unit.specs.Header.{context_of};
+ghost use Rattle.dw_header.specs.Header.{context_of};
 ghost use Rattle.dw_unit.specs.Unit.{UnitFits};
-ghost use Rattle.dw_unit.specs.WholeUnit.{header_size, contents_of};
+ghost use Rattle.dw_header.specs.Headed.{header_size};
+ghost use Rattle.dw_unit.specs.WholeUnit.{contents_of};
 ghost use Rattle.dw_unit.specs.Draft.{drafted_size, empty, begun, given, started, extended, ended, closed, padded, undone, finished, size_limit as limit_of, passes_limit, IsOnlyRoot, value_bytes, begun_of, BegunFits, BegunShort};
 
 use crate::body::Body;
-use crate::head::length_bytes;
-use crate::header::Header;
 use crate::unit::Unit;
-use crate::writer::field_bytes;
 use dw_abbrev::{Pair, Table};
 use dw_form::{AttrValue, size_of};
+use dw_header::Header;
 use dw_leb::{Format, Uleb};
 use dw_tree::TreeDraft;
 use std::alloc::{AllocError, Global};
@@ -61,10 +60,9 @@ impl Draft {
     pub fn new(alloc: Global, header: Header, table: Rc<Table>) -> Draft
         ensures { result ≡ empty header table.value }
     {
-        let start = header_bytes(header);
         Draft {
             header,
-            tree: TreeDraft::new(alloc, header.context(), table, start),
+            tree: TreeDraft::new(alloc, header.context(), table, header.size()),
             padding: Vec::new(alloc),
             padded: 0,
         }
@@ -299,14 +297,6 @@ pub(crate) fn size_limit(format: Format) -> u64
         Format::Dwarf32 => 4 + 0xffff_fff0,
         Format::Dwarf64 => 1 << 63,
     }
-}
-
-/// The count of bytes of a header, its initial length included.
-fn header_bytes(header: Header) -> u64
-    ensures size { result ≡ header_size header }
-    ensures small { result ≤ 44 }
-{
-    (length_bytes(header.format()) + field_bytes(header).len()) as u64
 }
 
 /// A null of so many bytes.

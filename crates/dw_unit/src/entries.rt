@@ -16,11 +16,11 @@ ghost use Rattle.dw_tree.specs.Steps.{end_of};
 ghost use Rattle.dw_unit.specs.Entries.{TellsEntry, TellsForest, TellsRoot, TellsTree};
 ghost use Rattle.dw_unit.specs.Told.{IsNear};
 
-use crate::bad::{Bad, BodyError};
+use crate::bad::BodyError;
 use crate::codes::{child_code, root_code};
 use dw_abbrev::{Pair, Table};
 use dw_form::{AttrValue, Ctx, lend_value};
-use dw_leb::Uleb;
+use dw_leb::{Bad, Uleb};
 use dw_tree::{EntryTree, TreeDraft};
 use std::alloc::Global;
 use std::rc::Rc;

@@ -7,7 +7,7 @@ ghost use Rattle.dw_abbrev.specs.PairView.{pair_of};
 ghost use Rattle.dw_abbrev.specs.Table.{declared};
 ghost use Rattle.dw_tree.specs.Tree.{nesting, pairs_of, values as value_parts};
 ghost use Rattle.dw_tree.specs.Steps.{settle};
-ghost use Rattle.dw_unit.specs.Header.{context_of};
+ghost use Rattle.dw_header.specs.Header.{context_of};
 ghost use Rattle.dw_unit.specs.Draft.{with_place, passes_limit, IsOnlyRoot};
 
 use crate::draft::Draft;

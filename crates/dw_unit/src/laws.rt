@@ -1,41 +1,17 @@
-//! Laws of the definitions of headers, trees and units. They call nothing.
-ghost use Rattle.std.specs.Prelude.{ℕ, List};
+//! Laws of the definitions of trees and units. They call nothing.
+ghost use Rattle.std.specs.Prelude.{ℕ};
 ghost use Rattle.dw_leb.specs.Laws.{NoneBegins, OneAnswer};
 ghost use Rattle.dw_leb.specs.Stay.{Stays};
-ghost use Rattle.dw_leb.specs.declared.order.Order.{Order};
-ghost use Rattle.dw_leb.specs.declared.order.Format.{Format};
 ghost use Rattle.dw_form.specs.declared.shape.Ctx.{Ctx};
 ghost use Rattle.dw_abbrev.specs.Table.{Table};
-ghost use Rattle.dw_unit.specs.Header.{fields};
 ghost use Rattle.dw_tree.specs.Tree.{tree};
-ghost use Rattle.dw_unit.specs.HeadLaws.{NoHeaderBegins, HeadersAreSpelled, SpelledHeadersStand, OneHeaderBreak, NoHeaderAndBreak, HeaderOrBreak, HeaderBreaksStay};
 ghost use Rattle.dw_unit.specs.Laws.{OneUnit, OneFault, NotBoth, SomeAnswer, BreaksStay, OneOffset, FaultsStay, FrontsAreCut, WrittenThenRead, WrittenIsRead, ReadThenWritten};
 
-/// One spelling: no spelling of a header's fields begins another, nor that of a tree of entries, and
-/// bytes have at most one unit at the front.
+/// One spelling: no spelling of a tree of entries begins another, and bytes have at most one unit at
+/// the front.
 pub fn one_spelling()
-    ensures headers { (order : Order) (format : Format) → NoneBegins (fields order format) }
     ensures trees { (k : Ctx) (t : Table) (room : ℕ) → NoneBegins (tree k t room) }
     ensures units { OneUnit }
-{}
-
-/// Headers with their initial lengths (sections 7.2.2 and 7.5.1): no header's spelling begins
-/// another's in one byte order, so each header with its unit_length has one spelling, and a header
-/// stands at the front exactly where that spelling does.
-pub fn one_spelling_of_headers()
-    ensures none_begins { NoHeaderBegins }
-    ensures spelled { HeadersAreSpelled }
-    ensures stand { SpelledHeadersStand }
-{}
-
-/// Headers with their initial lengths: bytes have exactly one of a header at the front and a break,
-/// that break at one place for one reason; and a break whose reason isn't `Truncated` stays whatever
-/// bytes follow.
-pub fn one_outcome_of_headers()
-    ensures one_break { OneHeaderBreak }
-    ensures not_both { NoHeaderAndBreak }
-    ensures some { HeaderOrBreak }
-    ensures stays { HeaderBreaksStay }
 {}
 
 /// One outcome: bytes have exactly one of a unit at the front and a first fault, and that fault in
@@ -50,7 +26,6 @@ pub fn one_outcome()
 /// Outcomes are stable: a fault whose reason isn't `Truncated` stays whatever bytes follow, and a
 /// proper front of a unit is `Truncated`.
 pub fn outcomes_are_stable()
-    ensures headers { (order : Order) (format : Format) → Stays (fields order format).Break }
     ensures trees { (k : Ctx) (t : Table) (room : ℕ) → Stays (tree k t room).Break }
     ensures breaks { BreaksStay }
     ensures faults { FaultsStay }

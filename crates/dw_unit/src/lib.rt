@@ -1,4 +1,4 @@
-//! Units of DWARF 5: headers, entries, and their reader and writer (section 7.5).
+//! Units of DWARF 5, read, built and written (section 7.5).
 #![tactic(auto)]
 
 mod bad;
@@ -15,13 +15,9 @@ mod draft_tests;
 mod entries;
 #[cfg(test)]
 mod entry_tests;
-mod fields;
 mod given;
-mod head;
-mod header;
 #[cfg(test)]
-mod header_tests;
-mod kind;
+mod kind_tests;
 pub mod laws;
 mod reader;
 mod refusal;
@@ -34,10 +30,8 @@ mod writer;
 
 pub use builder::UnitBuilder;
 pub use draft::Draft;
+pub use dw_header::{Header, Kind, read_header};
 pub use dw_tree::{AttrRef, Attrs, Children, Entries, EntryRef};
-pub use head::read_header;
-pub use header::Header;
-pub use kind::Kind;
 pub use reader::read_unit;
 pub use refusal::Refusal;
 pub use unit::Unit;

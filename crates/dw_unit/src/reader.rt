@@ -5,10 +5,10 @@ ghost use Rattle.dw_unit.specs.Told.{IsNear};
 
 use crate::bad::BodyError;
 use crate::body::body_at;
-use crate::head::{head_at, info_fault};
 use crate::unit::Unit;
 use dw_abbrev::Tables;
-use dw_leb::{Order, ReadError};
+use dw_header::read_header;
+use dw_leb::{Fault, Order, ReadError, Section};
 use std::alloc::Global;
 
 /// The unit at the front of `b`, and the count of its bytes: exactly the length field and the
@@ -30,17 +30,20 @@ pub fn read_unit(
     ensures tables { tables.new ≡ tables.old }
     ensures room { IfOk result (λ x. x.1 ≤ length b.now) }
 {
-    let ((header, _, left), at) = match head_at(order, b) {
+    let (header, unit_length) = match read_header(order, b) {
         Ok(found) => found,
-        Err(e) => return Err(ReadError::Fault(info_fault(e))),
+        Err(fault) => return Err(ReadError::Fault(fault)),
     };
     let table = tables.get(header.abbrev_offset())?;
-    match body_at(alloc, header.context(), table, at as u64, &b[at..], left) {
+    let at = header.size();
+    let left = unit_length - (at - header.format().length_size() as u64);
+    let rest = &b[at as usize..];
+    match body_at(alloc, header.context(), table, at, rest, left) {
         Ok((body, more)) => {
-            let size = at + more;
-            Ok((Unit::of(header, body, size as u64), size))
+            let size = at + more as u64;
+            Ok((Unit::of(header, body, size), size as usize))
         }
-        Err(e) => Err(unit_error(at, e)),
+        Err(e) => Err(unit_error(at as usize, e)),
     }
 }
 
@@ -50,7 +53,11 @@ fn unit_error(at: usize, e: BodyError) -> ReadError
     ensures { result ≡ unit_error_of at e }
 {
     match e {
-        BodyError::Bad(e) => ReadError::Fault(info_fault(e.behind(at))),
+        BodyError::Bad(e) => ReadError::Fault(Fault {
+            section: Section::Info,
+            offset: (at + e.offset) as u64,
+            reason: e.reason,
+        }),
         BodyError::NoMemory => ReadError::NoMemory,
     }
 }

@@ -1,6 +1,6 @@
 //! What no clause says: units whose values are known from the standard, each call once with memory
 //! to spare, and writers that take little or fail.
-use crate::{AttrRef, Header, Kind, Unit, read_header, read_unit, write_unit};
+use crate::{AttrRef, Kind, Unit, read_header, read_unit, write_unit};
 use dw_abbrev::Tables;
 use dw_form::Value;
 use dw_leb::devices::Stepped;
@@ -118,20 +118,6 @@ fn reads_the_fifteen_bytes(rt: HostRuntime) -> Result<(), Fail> {
     assert_eq!(rt; text_of(&name), Some([0x61].as_slice()));
     assert!(rt; attrs.next().is_none());
     assert_eq!(rt; written(rt.alloc(), &unit)?.as_slice(), FIFTEEN.as_slice());
-    Ok(())
-}
-
-#[test]
-fn reads_a_header_alone(rt: HostRuntime) -> Result<(), Fail> {
-    let (header, unit_length) = read_header(Order::Little, &FIFTEEN).map_err(ReadError::Fault)?;
-    assert_eq!(rt; unit_length, 11);
-    let same = Header::new(Order::Little, Format::Dwarf32, Kind::Compile, 8, 0);
-    assert_eq!(rt; Some(header), same);
-    // The unit_length is no claim about the bytes that are there.
-    let (cut, unit_length) = read_header(Order::Little, &FIFTEEN[..12]).map_err(ReadError::Fault)?;
-    assert_eq!(rt; (cut, unit_length), (header, 11));
-    let fault = read_header(Order::Little, &FIFTEEN[..11]).err();
-    assert_eq!(rt; fault, in_info(8, Reason::Truncated));
     Ok(())
 }
 
@@ -398,33 +384,6 @@ fn fault_of_the_third_value(rt: HostRuntime) -> Result<(), Fail> {
     let fault = refusal(alloc, Order::Little, &section, bytes.as_slice());
     assert_eq!(rt; fault, in_info(16, Reason::PastUnit));
     Ok(())
-}
-
-fn is_header(format: Format, kind: Kind, address_size: u8, abbrev_offset: u64) -> bool {
-    Header::new(Order::Little, format, kind, address_size, abbrev_offset).is_some()
-}
-
-#[test]
-fn headers_that_fit(rt: HostRuntime) {
-    let above = 1 << 32;
-    for (address_size, fits) in [(0, false), (1, true), (4, true), (8, true), (9, false)] {
-        let header = is_header(Format::Dwarf32, Kind::Compile, address_size, 0);
-        assert_eq!(rt; header, fits, "of address size {address_size}");
-    }
-    assert_eq!(rt;
-        is_header(Format::Dwarf32, Kind::Partial, 8, above - 1),
-        true
-    );
-    assert_eq!(rt; is_header(Format::Dwarf32, Kind::Partial, 8, above), false);
-    assert_eq!(rt; is_header(Format::Dwarf64, Kind::Partial, 8, above), true);
-    for (type_offset, fits) in [(above - 1, true), (above, false)] {
-        let kind = Kind::TypeUnit {
-            signature: u64::MAX,
-            type_offset,
-        };
-        assert_eq!(rt; is_header(Format::Dwarf32, kind, 8, 0), fits);
-        assert_eq!(rt; is_header(Format::Dwarf64, kind, 8, 0), true);
-    }
 }
 
 #[test]

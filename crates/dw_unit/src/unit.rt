@@ -5,7 +5,7 @@ ghost use Rattle.dw_tree.specs.Lent.{EntryAt, root_of, entries_of, find_at};
 ghost use Rattle.dw_unit.specs.WholeUnit.{IsUnit, bytes_of, tree_of};
 
 use crate::body::Body;
-use crate::header::Header;
+use dw_header::Header;
 use dw_tree::{Entries, EntryRef, EntryTree};
 use std::marker::Model;
 

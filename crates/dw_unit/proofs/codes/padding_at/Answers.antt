@@ -3,7 +3,7 @@ use Rattle.std.proofs.lemmas.List.{take_all, drop-drop}
 use Rattle.dw_leb.specs.View.{uleb_of}
 use Rattle.dw_leb.specs.Reader.{checked, Found, Broken}
 use Rattle.dw_leb.specs.ReadNumber.{read_uleb}
-use Rattle.dw_unit.specs.declared.bad.Bad.{Bad}
+use Rattle.dw_leb.specs.declared.errors.Bad.{Bad}
 use Rattle.dw_tree.specs.Tree.{not_null}
 use Rattle.dw_tree.specs.ReadTree.{read_padding}
 use Rattle.dw_unit.specs.Entries.{put_front}

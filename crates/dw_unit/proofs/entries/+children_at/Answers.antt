@@ -13,7 +13,7 @@ use Rattle.dw_tree.specs.ReadTree.{nodes_from, read_values, read_children}
 use Rattle.dw_tree.specs.Place.{Frame}
 use Rattle.dw_tree.specs.Steps.{Growing, closed_at, end_of}
 use Rattle.dw_tree.specs.Ends.{closed_end}
-use Rattle.dw_unit.specs.declared.bad.Bad.{Bad}
+use Rattle.dw_leb.specs.declared.errors.Bad.{Bad}
 use Rattle.dw_unit.specs.declared.bad.BodyError.{BodyError}
 use Rattle.dw_unit.specs.declared.bad.BodyError.TheVariants as errors
 use Rattle.dw_unit.specs.Entries.{placed, code_reader, body_reader, TellsError}

@@ -7,7 +7,7 @@ use Rattle.dw_form.specs.Lent.{attribute_of}
 use Rattle.dw_abbrev.specs.Table.{declared}
 use Rattle.dw_tree.specs.Tree.{values, pairs_of}
 use Rattle.dw_tree.specs.Steps.{settle}
-use Rattle.dw_unit.specs.Header.{context_of}
+use Rattle.dw_header.specs.Header.{context_of}
 use Rattle.dw_unit.specs.Draft.{Drafted, drafted_size, size_limit, value_bytes, undone, with_place}
 use Rattle.dw_unit.proofs.EntryLemmas.{drop_past}
 use Rattle.dw_unit.proofs.PutValues.{none_begun, Parted, parted, next_of, next_fits, next_size, with_is, undone_is}

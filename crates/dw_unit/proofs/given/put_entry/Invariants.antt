@@ -6,7 +6,7 @@ use Rattle.dw_form.specs.Lent.{attribute_of}
 use Rattle.dw_abbrev.specs.Table.{declared}
 use Rattle.dw_tree.specs.Tree.{values, pairs_of}
 use Rattle.dw_tree.specs.Steps.{settle}
-use Rattle.dw_unit.specs.Header.{context_of}
+use Rattle.dw_header.specs.Header.{context_of}
 use Rattle.dw_unit.specs.Draft.{drafted_size, with_place}
 use Rattle.dw_unit.proofs.given.put_entry.Given as goal
 

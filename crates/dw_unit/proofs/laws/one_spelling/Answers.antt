@@ -1,15 +1,11 @@
 use Rattle.std.proofs.Common.{sym, ap, ◌∙◌}
 use Rattle.dw_leb.specs.declared.order.Order.{Order}
 use Rattle.dw_leb.specs.Stay.{one_front}
-use Rattle.dw_unit.specs.DecideHeader.{fields_decides}
 use Rattle.dw_tree.specs.DecideTree.{tree_decides}
 use Rattle.dw_unit.specs.DecideUnit.{unit_take}
 use Rattle.dw_unit.specs.ReadUnit.{read_unit}
 use Rattle.dw_unit.proofs.RoundTrip.{same_contents}
 use Rattle.dw_unit.proofs.laws.one_spelling.Goals as goal
-
-pub returns-clause-headers : goal.returns-clause-headers
-returns-clause-headers c = λ order format. one_front _ _ (fields_decides order format)
 
 pub returns-clause-trees : goal.returns-clause-trees
 returns-clause-trees c = λ k t room. one_front _ _ (tree_decides k t room)

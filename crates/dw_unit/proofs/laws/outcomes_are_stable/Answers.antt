@@ -1,11 +1,7 @@
-use Rattle.dw_unit.specs.DecideHeader.{fields_stays}
 use Rattle.dw_tree.specs.DecideTree.{tree_stays}
 use Rattle.dw_unit.specs.DecideUnit.{unit_stays, fault_stays, front_cut, unit_says}
 use Rattle.dw_unit.specs.ReadUnit.{read_unit}
 use Rattle.dw_unit.proofs.laws.outcomes_are_stable.Goals as goal
-
-pub returns-clause-headers : goal.returns-clause-headers
-returns-clause-headers c = fields_stays
 
 pub returns-clause-trees : goal.returns-clause-trees
 returns-clause-trees c = tree_stays

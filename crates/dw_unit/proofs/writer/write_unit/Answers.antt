@@ -10,44 +10,44 @@ use Rattle.dw_unit.specs.WholeUnit.{WholeUnit, bytes_of, contents_of}
 use Rattle.dw_unit.proofs.UnitWritten.{counted, parted, head_bytes, root_bytes}
 use Rattle.dw_unit.proofs.writer.write_unit.Goals as goal
 
-pub returns-in_err-write_head-clause-written : goal.returns-in_err-write_head-clause-written
-returns-in_err-write_head-clause-written g c =
+pub returns-in_err-write_header-clause-written : goal.returns-in_err-write_header-clause-written
+returns-in_err-write_header-clause-written g c =
     let i = c.unit.inside in
     let u : WholeUnit = record { header = i.header; table = i.tree.table; root = i.tree.root; padding = i.padding.items } in
-    let n = i.size - c.length_bytes.result in
-    let n_is : n ≡ length (body_bytes u.table (contents_of u)) = ap (λ (m : ℕ). i.size - m) (c.length_bytes.ensures ∙ ap length_size c.format.ensures) ∙ counted u i.size c.unit.invariant.sized in
+    let n = i.size - c.length_size.result in
+    let n_is : n ≡ length (body_bytes u.table (contents_of u)) = ap (λ (m : ℕ). i.size - m) (c.length_size.ensures ∙ ap length_size c.format.ensures) ∙ counted u i.size c.unit.invariant.sized in
     let same : (head_bytes u n) ++ (root_bytes u ++ nulls u.padding) ≡ bytes_of c.args.unit.now = parted u n n_is ∙ ap bytes_of c.unit.view_is in
     let a = g.W.Write.contents (inner_of c.args.writer.now) in
-    let b = g.W.Write.contents (inner_of c.write_head.new.writer) in
+    let b = g.W.Write.contents (inner_of c.write_header.new.writer) in
     subst (λ (bytes : List ℕ). Wrote a b bytes c.from_residual.result) same
-    (wrote_err a b (head_bytes u n) (root_bytes u ++ nulls u.padding) c.from_residual.result c.from_residual.ensures.0 c.in_err-write_head.ensures.written)
+    (wrote_err a b (head_bytes u n) (root_bytes u ++ nulls u.padding) c.from_residual.result c.from_residual.ensures.0 c.in_err-write_header.ensures.written)
 
 pub returns-in_err-write-clause-written : goal.returns-in_err-write-clause-written
 returns-in_err-write-clause-written g c =
     let i = c.unit.inside in
     let u : WholeUnit = record { header = i.header; table = i.tree.table; root = i.tree.root; padding = i.padding.items } in
-    let n = i.size - c.length_bytes.result in
-    let n_is : n ≡ length (body_bytes u.table (contents_of u)) = ap (λ (m : ℕ). i.size - m) (c.length_bytes.ensures ∙ ap length_size c.format.ensures) ∙ counted u i.size c.unit.invariant.sized in
+    let n = i.size - c.length_size.result in
+    let n_is : n ≡ length (body_bytes u.table (contents_of u)) = ap (λ (m : ℕ). i.size - m) (c.length_size.ensures ∙ ap length_size c.format.ensures) ∙ counted u i.size c.unit.invariant.sized in
     let same : (head_bytes u n) ++ (root_bytes u ++ nulls u.padding) ≡ bytes_of c.args.unit.now = parted u n n_is ∙ ap bytes_of c.unit.view_is in
     let a = g.W.Write.contents (inner_of c.args.writer.now) in
-    let b = g.W.Write.contents (inner_of c.write_head.new.writer) in
+    let b = g.W.Write.contents (inner_of c.write_header.new.writer) in
     let d = g.W.Write.contents (inner_of c.write.new.writer) in
     let root_is : (tree i.tree.context i.tree.table (nesting - 1)).spell i.tree.root ≡ root_bytes u = ap (λ (w : TreeAt). (tree w.context w.table (nesting - 1)).spell w.root) c.unit.invariant.tree_is in
     let r = c.from_residual-in_err-write.result in
     let front : AppendsFront b d (root_bytes u) = subst (λ (bytes : List ℕ). AppendsFront b d bytes) root_is c.in_err-write.ensures.written in
     subst (λ (bytes : List ℕ). Wrote a d bytes r) same
-    (wrote_then a b d (head_bytes u n) (root_bytes u ++ nulls u.padding) r c.in_ok-write_head.ensures.written
+    (wrote_then a b d (head_bytes u n) (root_bytes u ++ nulls u.padding) r c.in_ok-write_header.ensures.written
     (wrote_err b d (root_bytes u) (nulls u.padding) r c.from_residual-in_err-write.ensures.0 front))
 
 pub returns-clause-written : goal.returns-clause-written
 returns-clause-written g c =
     let i = c.unit.inside in
     let u : WholeUnit = record { header = i.header; table = i.tree.table; root = i.tree.root; padding = i.padding.items } in
-    let n = i.size - c.length_bytes.result in
-    let n_is : n ≡ length (body_bytes u.table (contents_of u)) = ap (λ (m : ℕ). i.size - m) (c.length_bytes.ensures ∙ ap length_size c.format.ensures) ∙ counted u i.size c.unit.invariant.sized in
+    let n = i.size - c.length_size.result in
+    let n_is : n ≡ length (body_bytes u.table (contents_of u)) = ap (λ (m : ℕ). i.size - m) (c.length_size.ensures ∙ ap length_size c.format.ensures) ∙ counted u i.size c.unit.invariant.sized in
     let same : (head_bytes u n) ++ (root_bytes u ++ nulls u.padding) ≡ bytes_of c.args.unit.now = parted u n n_is ∙ ap bytes_of c.unit.view_is in
     let a = g.W.Write.contents (inner_of c.args.writer.now) in
-    let b = g.W.Write.contents (inner_of c.write_head.new.writer) in
+    let b = g.W.Write.contents (inner_of c.write_header.new.writer) in
     let d = g.W.Write.contents (inner_of c.write.new.writer) in
     let root_is : (tree i.tree.context i.tree.table (nesting - 1)).spell i.tree.root ≡ root_bytes u = ap (λ (w : TreeAt). (tree w.context w.table (nesting - 1)).spell w.root) c.unit.invariant.tree_is in
     let e = g.W.Write.contents (inner_of c.write_nulls.new.writer) in
@@ -55,5 +55,5 @@ returns-clause-written g c =
     let second : Appends b d (root_bytes u) = subst (λ (bytes : List ℕ). Appends b d bytes) root_is c.in_ok-write.ensures.written in
     let third : Wrote d e (nulls u.padding) r = subst (λ (ws : List ℕ). Wrote d e (nulls ws) r) c.as_slice.ensures.value c.write_nulls.ensures.written in
     subst (λ (bytes : List ℕ). Wrote a e bytes r) same
-    (wrote_then a b e (head_bytes u n) (root_bytes u ++ nulls u.padding) r c.in_ok-write_head.ensures.written
+    (wrote_then a b e (head_bytes u n) (root_bytes u ++ nulls u.padding) r c.in_ok-write_header.ensures.written
     (wrote_then b d e (root_bytes u) (nulls u.padding) r second third))

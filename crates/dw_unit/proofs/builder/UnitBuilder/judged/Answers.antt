@@ -9,7 +9,7 @@ use Rattle.dw_abbrev.specs.PairView.{pair_of}
 use Rattle.dw_abbrev.specs.Table.{Pair, Table, declared}
 use Rattle.dw_tree.specs.Tree.{values, pairs_of}
 use Rattle.dw_unit.specs.declared.refusal.Refusal.TheVariants.{TooLong}
-use Rattle.dw_unit.specs.Header.{context_of}
+use Rattle.dw_header.specs.Header.{context_of}
 use Rattle.dw_unit.specs.Draft.{Drafted, drafted_size, size_limit}
 use Rattle.dw_unit.specs.Build.{Building, draft_of, building_of, is_known, is_too_long, entry_size, ValuesFit, EntryRefused}
 use Rattle.dw_unit.proofs.DraftLemmas.{not_long}

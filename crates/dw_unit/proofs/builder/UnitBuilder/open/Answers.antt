@@ -4,7 +4,7 @@ use Rattle.dw_leb.specs.View.{uleb_of}
 use Rattle.dw_form.specs.Lent.{attribute_of}
 use Rattle.dw_abbrev.specs.Table.{declared}
 use Rattle.dw_tree.specs.Tree.{pairs_of}
-use Rattle.dw_unit.specs.Header.{context_of}
+use Rattle.dw_header.specs.Header.{context_of}
 use Rattle.dw_unit.specs.Draft.{Drafted, passes_limit}
 use Rattle.dw_unit.specs.Build.{Building, draft_of, building_of, is_known, is_too_long, entry_size, opened, place_refusal, ValuesFit}
 use Rattle.dw_unit.proofs.EntryLemmas.{no_error}

@@ -7,7 +7,7 @@ use Rattle.dw_form.specs.Pieces.{HasSpelling, spelling, has_spelling}
 use Rattle.dw_abbrev.specs.PairView.{pair_of}
 use Rattle.dw_tree.specs.Steps.{NextFits}
 use Rattle.dw_tree.specs.Next.{next_is, next_some}
-use Rattle.dw_unit.specs.Header.{context_of}
+use Rattle.dw_header.specs.Header.{context_of}
 use Rattle.dw_unit.specs.Draft.{Drafted, begun_of, value_bytes}
 use Rattle.dw_unit.proofs.draft.Draft.begun_size.Goals as goal
 

@@ -2,7 +2,7 @@ use Rattle.std.proofs.Common.{◌≡◌, Option, false, length, sym, ap, subst, 
 use Rattle.std.specs.Prelude.{IfSome}
 use Rattle.dw_form.specs.Form.{Attribute}
 use Rattle.dw_tree.specs.Steps.{Growing, NextFits}
-use Rattle.dw_unit.specs.Header.{context_of}
+use Rattle.dw_header.specs.Header.{context_of}
 use Rattle.dw_unit.specs.Draft.{Drafted, passes_limit, begun_of, value_bytes}
 use Rattle.dw_unit.proofs.DraftLemmas.{begun_some, ended_value, value_kept}
 use Rattle.dw_unit.proofs.draft.Draft.end_value.Goals as goal

@@ -2,7 +2,7 @@ use Rattle.std.proofs.Common.{◌≡◌, ◌+◌, length, false, sym, ap, subst,
 use Rattle.dw_form.specs.Form.{Attribute}
 use Rattle.dw_form.specs.Lent.{attribute_of}
 use Rattle.dw_tree.specs.Steps.{Growing, with_value, NextFits}
-use Rattle.dw_unit.specs.Header.{context_of}
+use Rattle.dw_header.specs.Header.{context_of}
 use Rattle.dw_unit.specs.Draft.{Drafted, drafted_size, passes_limit, value_bytes}
 use Rattle.dw_unit.proofs.DraftLemmas.{either_way, on_ok, same_kept, value_place, new_is, value_kept, given_size}
 use Rattle.dw_unit.proofs.draft.Draft.put.Goals as goal

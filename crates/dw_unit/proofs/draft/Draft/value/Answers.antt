@@ -5,7 +5,7 @@ use Rattle.dw_form.specs.declared.shape.Ctx.{Ctx}
 use Rattle.dw_form.specs.Pieces.{HasSpelling, spelling, has_spelling}
 use Rattle.dw_abbrev.specs.PairView.{pair_of}
 use Rattle.dw_tree.specs.Next.{next_is, next_some}
-use Rattle.dw_unit.specs.Header.{context_of}
+use Rattle.dw_header.specs.Header.{context_of}
 use Rattle.dw_unit.specs.Draft.{Drafted, passes_limit}
 use Rattle.dw_unit.proofs.draft.Draft.value.Goals as goal
 

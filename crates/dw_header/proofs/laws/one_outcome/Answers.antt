@@ -1,0 +1,11 @@
+use Rattle.dw_header.specs.HeadLaws.{one_header_break, no_header_and_break, header_or_break}
+use Rattle.dw_header.proofs.laws.one_outcome.Goals as goal
+
+pub returns-clause-one_break : goal.returns-clause-one_break
+returns-clause-one_break c = one_header_break
+
+pub returns-clause-not_both : goal.returns-clause-not_both
+returns-clause-not_both c = no_header_and_break
+
+pub returns-clause-some : goal.returns-clause-some
+returns-clause-some c = header_or_break

@@ -1,0 +1,16 @@
+use Rattle.dw_leb.specs.Stay.{one_front}
+use Rattle.dw_header.specs.DecideHeader.{fields_decides}
+use Rattle.dw_header.specs.HeadLaws.{no_header_begins, headers_are_spelled, spelled_headers_stand}
+use Rattle.dw_header.proofs.laws.one_spelling.Goals as goal
+
+pub returns-clause-fields : goal.returns-clause-fields
+returns-clause-fields c = λ order format. one_front _ _ (fields_decides order format)
+
+pub returns-clause-none_begins : goal.returns-clause-none_begins
+returns-clause-none_begins c = no_header_begins
+
+pub returns-clause-spelled : goal.returns-clause-spelled
+returns-clause-spelled c = headers_are_spelled
+
+pub returns-clause-stand : goal.returns-clause-stand
+returns-clause-stand c = spelled_headers_stand

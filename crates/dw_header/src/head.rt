@@ -1,0 +1,65 @@
+//! Reading a header and its unit_length.
+ghost use Rattle.std.specs.Prelude.{◌≡◌, ◌≤◌, ◌<◌, ◌+◌, ◌^◌, ℕ, length, IfOk, IfErr, IsOkAnd, Ok, Err};
+ghost use Rattle.dw_leb.specs.declared.errors.Fault.{Fault as TheFault};
+ghost use Rattle.dw_leb.specs.declared.errors.Section.TheVariants.{Info};
+ghost use Rattle.dw_header.specs.Header.{Header as TheHeader};
+ghost use Rattle.dw_leb.specs.Number.{length_size};
+ghost use Rattle.dw_header.specs.Headed.{HeaderAt, HeaderFault, header_size};
+ghost use Rattle.dw_header.specs.ReadHeader.{read_head};
+ghost use Rattle.dw_leb.specs.Told.{told};
+
+use crate::fields::header_fields;
+use crate::header::Header;
+use dw_leb::{Bad, Fault, Order, Section, read_length};
+
+/// The header at the front of `b`, and the unit_length: the count of bytes that the unit has after
+/// its initial length. No memory is taken.
+///
+/// The fault is that of the first bad field, in `.debug_info`, its offset from the first byte of
+/// `b`. The unit_length is never compared with the count of bytes in `b`: a field past the unit's
+/// end is `PastUnit`, before it could be `Truncated`.
+pub fn read_header(order: Order, b: &[u8]) -> Result<(Header, u64), Fault>
+    ensures found { IfOk result (λ x. HeaderAt order b.now x.0 x.1) }
+    ensures room { IfOk result (λ x. header_size x.0 ≤ length b.now) }
+    ensures within { IfOk result (λ x. header_size x.0 ≤ length_size x.0.format + x.1) }
+    ensures end { IfOk result (λ x. length_size x.0.format + x.1 < 2 ^ 63) }
+    ensures only { (h : TheHeader) (n : ℕ) → HeaderAt order b.now h n → IsOkAnd result (λ x. (x.0 ≡ h) × (x.1 ≡ n)) }
+    ensures broken { IfErr result (HeaderFault order b.now) }
+    ensures first { (f : TheFault) → HeaderFault order b.now f → result ≡ Err f }
+{
+    match head_at(order, b) {
+        Ok((head, _)) => Ok(head),
+        Err(e) => Err(info_fault(e)),
+    }
+}
+
+/// The fault of a field of `.debug_info`.
+fn info_fault(e: Bad) -> Fault
+    ensures { result ≡ record { section = Info; offset = e.offset; reason = e.reason } }
+{
+    Fault {
+        section: Section::Info,
+        offset: e.offset as u64,
+        reason: e.reason,
+    }
+}
+
+/// The header with its unit_length, and the count of the bytes of both.
+fn head_at(order: Order, b: &[u8]) -> Result<((Header, u64), usize), Bad>
+    ensures exact { read_head order b.now ≡ told (λ x. x) result }
+    ensures room { IfOk result (λ x. x.1 ≤ length b.now) }
+    ensures near { IfErr result (λ e. e.offset ≤ 32) }
+{
+    let (format, unit_length) = match read_length(order, 0, b) {
+        Ok(found) => found,
+        Err(reason) => return Err(Bad::here(reason)),
+    };
+    let size = format.length_size() as usize;
+    match header_fields(order, format, &b[size..], unit_length) {
+        Ok((fields, more)) => {
+            let header = Header::of(order, format, fields);
+            Ok(((header, unit_length), size + more))
+        }
+        Err(e) => Err(e.behind(size)),
+    }
+}

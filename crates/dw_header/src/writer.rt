@@ -1,0 +1,81 @@
+//! Writing a header and its unit_length.
+ghost use Rattle.std.specs.Prelude.{◌≡◌, ◌≤◌, ◌++◌, None};
+ghost use Rattle.dw_leb.specs.Watch.{inner_of, fault_of, told_by_write, Wrote};
+ghost use Rattle.dw_leb.specs.Number.{FitsLength};
+ghost use Rattle.dw_header.specs.Header.{fields, fields_of, numbers, added_sizes, kind_number, kind_fields, KindFits};
+ghost use Rattle.dw_header.specs.Headed.{header_bytes};
+
+use crate::header::Header;
+use crate::kind::Kind;
+use arrayvec::ArrayVec;
+use dw_leb::{Format, Order, Watched, WriteError, write_all, write_fixed, write_length};
+use std::io::Write;
+
+/// Writes the header behind its initial length, that of a unit_length: exactly their one spelling. It
+/// takes no memory. After an error a beginning of it was written (sections 7.4 and 7.5.1).
+///
+/// Errors: `Io` with the kind of the writer's failure, `WriteZero` where it took no byte of some.
+pub fn write_header<W: Write>(
+    header: Header,
+    unit_length: u64,
+    writer: &mut Watched<W>,
+) -> Result<(), WriteError>
+    requires fits { FitsLength header.format unit_length }
+    requires clear { fault_of writer.old ≡ None }
+    ensures written { Wrote (W.contents (inner_of writer.old)) (W.contents (inner_of writer.new)) (header_bytes header unit_length) result }
+    ensures fault { fault_of writer.new ≡ told_by_write result }
+{
+    write_all(
+        writer,
+        write_length(header.order(), header.format(), unit_length).as_slice(),
+    )?;
+    write_all(writer, field_bytes(header).as_slice())
+}
+
+/// The fields of a header.
+pub(crate) fn field_bytes(header: Header) -> ArrayVec<u8, 32>
+    ensures spelling { result.items ≡ (fields header.order header.format).spell (fields_of header) }
+{
+    let (order, format) = (header.order(), header.format());
+    let context = header.context();
+    let mut bytes = ArrayVec::new();
+    let _fits = bytes.try_extend_from_slice(write_fixed(order, 2, 5).as_slice());
+    let _fits = bytes.try_extend_from_slice(&[unit_type(header.kind()), context.address_size]);
+    let offset = write_fixed(order, format.offset_size(), header.abbrev_offset() as u128);
+    let _fits = bytes.try_extend_from_slice(offset.as_slice());
+    let _fits = bytes.try_extend_from_slice(added_bytes(order, format, header.kind()).as_slice());
+    bytes
+}
+
+/// The number of a kind (section 7.5.1).
+fn unit_type(kind: Kind) -> u8
+    ensures number { result ≡ kind_number kind }
+    ensures small { result ≤ 4 }
+{
+    match kind {
+        Kind::Compile => 1,
+        Kind::TypeUnit { .. } => 2,
+        Kind::Partial => 3,
+        Kind::Skeleton { .. } => 4,
+    }
+}
+
+/// What the unit type adds to a header.
+fn added_bytes(order: Order, format: Format, kind: Kind) -> ArrayVec<u8, 16>
+    requires { KindFits format kind }
+    ensures spelling { result.items ≡ (numbers order (added_sizes format (kind_number kind))).spell (kind_fields kind) }
+{
+    match kind {
+        Kind::Compile | Kind::Partial => ArrayVec::new(),
+        Kind::TypeUnit {
+            signature,
+            type_offset,
+        } => {
+            let mut bytes = write_fixed(order, 8, signature as u128);
+            let offset = write_fixed(order, format.offset_size(), type_offset as u128);
+            let _fits = bytes.try_extend_from_slice(offset.as_slice());
+            bytes
+        }
+        Kind::Skeleton { dwo_id } => write_fixed(order, 8, dwo_id as u128),
+    }
+}
