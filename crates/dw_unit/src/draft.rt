@@ -101,23 +101,10 @@ impl Draft {
         match self.next_pair() {
             Some(pair) => {
                 let size = size_of(self.header.context(), pair.form.value, value);
-                self.put(value, size)
+                self.tree.value(value, size)
             }
             None => unreachable!(),
         }
-    }
-
-    /// The same with a value that was measured: it has `size` bytes.
-    pub(crate) fn put(&mut self, value: &AttrValue<'_>, size: u64) -> Result<(), AllocError>
-        requires between { begun_in self.old.place.reading ≡ None }
-        requires fits { NextFits (context_of self.old.header) self.old.table self.old.place.reading (attribute_of value.now) }
-        requires size { size ≡ length (value_bytes self.old (attribute_of value.now)) }
-        requires short { passes_limit self.old size ≡ false }
-        ensures ok { OnOk result (self.new ≡ given (attribute_of value.now) self.old) }
-        ensures size { OnOk result (drafted_size self.new ≡ drafted_size self.old + length (value_bytes self.old (attribute_of value.now))) }
-        ensures err { OnErr result (self.new ≡ self.old) }
-    {
-        self.tree.value(value, size)
     }
 
     /// A text, or a block whose length field has `width` bytes, begins as the next value of the entry
