@@ -24,7 +24,7 @@ use Rattle.dw_unit.specs.Header.{fields, fields_of, context_of}
 use Rattle.dw_unit.specs.HeaderLemmas.{fields_fit}
 use Rattle.dw_unit.specs.Unit.{body_bytes}
 use Rattle.dw_unit.specs.WholeUnit.{WholeUnit, contents_of, header_size, IsUnit}
-use Rattle.dw_unit.specs.Draft.{Drafted, tree_in, drafted_size, with_place, begun, given, closed, padded, undone, size_limit, passes_limit, IsOnlyRoot, value_bytes, AtMostOne, NoneBefore, HasOneRoot, IsUnread, IsDrafted}
+use Rattle.dw_unit.specs.Draft.{Drafted, tree_in, drafted_size, with_place, begun, given, closed, padded, undone, size_limit, passes_limit, IsOnlyRoot, value_bytes, begun_of, BegunFits, AtMostOne, NoneBefore, HasOneRoot, IsUnread, IsDrafted}
 use Rattle.dw_unit.proofs.EntryLemmas.{prefix_more}
 
 -- ---- calls that may fail
@@ -233,6 +233,16 @@ module _ (d : Drafted) (tree : Growing) (padded_by : ℕ) (i : IsDrafted d tree 
     value_kept new e short =
         let w = within d (length (value_bytes d v)) short in
         place_kept (given v d).place new (new_is (with_value v) new e ∙ value_place d v) given_is.1.0 given_is.1.1 (omega (arith, w, given_size))
+
+  pub ended_size : (new : Growing) → new ≡ ended_at tree → BegunFits d → IfSome (begun_of d) (λ v. drafted_size (record { header = d.header; table = new.table; place = new.place; padding = d.padding }) ≡ drafted_size d + length (value_bytes d v))
+  ended_size new e fits = by (begun_of d) refl fits
+    where
+      by : (o : Option Attribute) → begun_of d ≡ o → IfSome o (λ v. NextFits (context_of d.header) d.table d.place.reading v)
+          → IfSome o (λ v. drafted_size (record { header = d.header; table = new.table; place = new.place; padding = d.padding }) ≡ drafted_size d + length (value_bytes d v))
+      by None h f = tt
+      by (Some v) h f =
+          let given_new : new ≡ tree_in (given v d) = new_is ended_at new e ∙ (ended_value (tree_in d) v h ∙ value_place d v) in
+          ap (λ (g : Growing). drafted_size (record { header = d.header; table = g.table; place = g.place; padding = d.padding })) given_new ∙ given_size v f
 
   pub close_kept : (w : ℕ) (new : Growing) → new ≡ closed_at w tree → d.place.spot.above ≢ [] → d.place.reading ≡ None → passes_limit d w ≡ false
       → IsDrafted (record { header = d.header; table = new.table; place = new.place; padding = d.padding }) new padded_by
