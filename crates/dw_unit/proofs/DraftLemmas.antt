@@ -1,5 +1,5 @@
 -- Units under construction, step by step: what each call keeps.
-use Rattle.std.proofs.Common.{◌≡◌, ◌≢◌, ◌<◌, ◌+◌, ◌-◌, ◌^◌, ◌++◌, ◌∷◌, [], ℕ, List, Bool, true, false, Option, Some, None, length, refl, sym, ap, subst, ◌∙◌, arith, length-append, append-nil}
+use Rattle.std.proofs.Common.{◌≡◌, ◌≢◌, ◌≤◌, ◌<◌, ◌+◌, ◌-◌, ◌^◌, ◌++◌, ◌∷◌, [], ℕ, List, Bool, true, false, Option, Some, None, length, refl, sym, ap, subst, ◌∙◌, arith, length-append, append-nil}
 use Rattle.std.proofs.Math.Nat.{one-le-pow}
 use Rattle.std.specs.Prelude.{nat_le, nat_lt, ◌==◌, is_some, IsSome, IfSome, Result, Ok, Err, OnOk, OnErr, ◌↔◌, option_map}
 use Rattle.std.proofs.lemmas.Bool.{leb-true, leb-false, le-leb, lt-ltb, ne_eqb, and_parts}
@@ -10,20 +10,22 @@ use Rattle.dw_leb.specs.declared.order.Order.{Order}
 use Rattle.dw_leb.specs.declared.order.Format.{Format}
 use Rattle.dw_leb.specs.declared.order.Format.TheVariants.{Dwarf32, Dwarf64}
 use Rattle.dw_form.specs.Form.{Attribute}
+use Rattle.dw_form.specs.Pieces.{HasSpelling, spelling, has_spelling}
 use Rattle.dw_abbrev.specs.Build.{is_width}
-use Rattle.dw_abbrev.specs.Table.{Declaration, Table, declared, zero_of}
+use Rattle.dw_abbrev.specs.Table.{Pair, Declaration, Table, declared, zero_of}
 use Rattle.dw_form.specs.declared.shape.Ctx.{Ctx}
 use Rattle.dw_tree.specs.Tree.{Tree, Forest, none, more, leaf, branch, pairs_of, nulls, AreNulls, nesting, tree as part}
 use Rattle.dw_tree.specs.Row.{push}
 use Rattle.dw_tree.specs.Place.{Frame, Spot, leave_from, Begun, Unread, Place}
-use Rattle.dw_tree.specs.Steps.{Growing, TreeAt, settled, settle_by, settle, begun_at, value_at, with_value, begun_in, begun_value, ended_by, ended as ended_at, closed_at, undone as undone_at, end_of, finished as finished_at, whole_tree, FirstsFit, NextFits}
+use Rattle.dw_tree.specs.Steps.{Growing, TreeAt, settled, settle_by, settle, begun_at, value_at, with_value, begun_in, begun_value, ended_by, ended as ended_at, closed_at, undone as undone_at, end_of, finished as finished_at, whole_tree, FirstsFit, NextFits, next_pair}
+use Rattle.dw_tree.specs.Next.{next_is}
 use Rattle.dw_tree.specs.Ends.{begun_end, value_end, closed_end}
 use Rattle.dw_header.specs.Header.{fields, fields_of, context_of}
 use Rattle.dw_header.specs.HeaderLemmas.{fields_fit}
 use Rattle.dw_unit.specs.Unit.{body_bytes}
 use Rattle.dw_unit.specs.WholeUnit.{WholeUnit, contents_of, IsUnit}
 use Rattle.dw_header.specs.Headed.{header_size}
-use Rattle.dw_unit.specs.Draft.{Drafted, tree_in, drafted_size, with_place, begun, given, closed, padded, undone, size_limit, passes_limit, IsOnlyRoot, value_bytes, AtMostOne, NoneBefore, HasOneRoot, IsUnread, IsDrafted}
+use Rattle.dw_unit.specs.Draft.{Drafted, tree_in, drafted_size, with_place, begun, given, closed, padded, undone, size_limit, passes_limit, IsOnlyRoot, value_bytes, begun_of, BegunFits, AtMostOne, NoneBefore, HasOneRoot, IsUnread, IsDrafted}
 use Rattle.dw_unit.proofs.EntryLemmas.{prefix_more}
 
 -- ---- calls that may fail
@@ -92,6 +94,14 @@ within d n e = let h = leb-false (size_limit d.header.format) (drafted_size d + 
 pub not_long : (d : Drafted) (n : ℕ) → drafted_size d + n < size_limit d.header.format → passes_limit d n ≡ false
 not_long d n h = not_le (size_limit d.header.format) (drafted_size d + n) h
 
+limit_near : (f : Format) → size_limit f ≤ 2 ^ 63
+limit_near Dwarf32 = omega arith
+limit_near Dwarf64 = omega arith
+
+-- it is not too long, so its tree ends below 2 ^ 63
+pub short_near : (d : Drafted) (n : ℕ) → passes_limit d n ≡ false → end_of (tree_in d) + n < 2 ^ 63
+short_near d n e = let w = within d n e in let m = limit_near d.header.format in omega (arith, w, m)
+
 pub inside : (fs : List Frame) (n : ℕ) → n ≡ length fs → n ≢ 0 → fs ≢ []
 inside [] n e some same = absurd (some e)
 inside (f ∷ fs) n e some same = absurd cc
@@ -143,6 +153,14 @@ value_place d v = by d.place.reading
     by : (o : Option Unread) → value_at v (tree_in d) o ≡ tree_in (with_place (value_at v (tree_in d) o).place d)
     by None = refl
     by (Some r) = refl
+
+-- the next value as it is measured by its pair: it has a spelling, of as many bytes
+pub next_sized : (d : Drafted) (k : Ctx) (v : Attribute) (p : Pair) → k ≡ context_of d.header → next_pair d.table d.place.reading ≡ Some p → NextFits (context_of d.header) d.table d.place.reading v
+    → HasSpelling k p.form.value v × (length (spelling k p.form.value v) ≡ length (value_bytes d v))
+next_sized d k v p same pair fits =
+    let w = next_is (context_of d.header) v d.table d.place.reading p pair fits in
+    let whole = has_spelling (context_of d.header) p.form.value p.constant v w.0 in
+    subst (λ (x : Ctx). HasSpelling x p.form.value v × (length (spelling x p.form.value v) ≡ length (value_bytes d v))) (sym same) (whole.0, ap length (whole.1 ∙ sym w.1))
 
 -- a text or block that has begun is given as a value
 pub begun_some : {X Y : Type 0} (f : X → Y) (o : Option X) (y : Y) → Some y ≡ option_map f o → (x : X) × (o ≡ Some x) × (y ≡ f x)
@@ -216,6 +234,16 @@ module _ (d : Drafted) (tree : Growing) (padded_by : ℕ) (i : IsDrafted d tree 
     value_kept new e short =
         let w = within d (length (value_bytes d v)) short in
         place_kept (given v d).place new (new_is (with_value v) new e ∙ value_place d v) given_is.1.0 given_is.1.1 (omega (arith, w, given_size))
+
+  pub ended_size : (new : Growing) → new ≡ ended_at tree → BegunFits d → IfSome (begun_of d) (λ v. drafted_size (record { header = d.header; table = new.table; place = new.place; padding = d.padding }) ≡ drafted_size d + length (value_bytes d v))
+  ended_size new e fits = by (begun_of d) refl fits
+    where
+      by : (o : Option Attribute) → begun_of d ≡ o → IfSome o (λ v. NextFits (context_of d.header) d.table d.place.reading v)
+          → IfSome o (λ v. drafted_size (record { header = d.header; table = new.table; place = new.place; padding = d.padding }) ≡ drafted_size d + length (value_bytes d v))
+      by None h f = tt
+      by (Some v) h f =
+          let given_new : new ≡ tree_in (given v d) = new_is ended_at new e ∙ (ended_value (tree_in d) v h ∙ value_place d v) in
+          ap (λ (g : Growing). drafted_size (record { header = d.header; table = g.table; place = g.place; padding = d.padding })) given_new ∙ given_size v f
 
   pub close_kept : (w : ℕ) (new : Growing) → new ≡ closed_at w tree → d.place.spot.above ≢ [] → d.place.reading ≡ None → passes_limit d w ≡ false
       → IsDrafted (record { header = d.header; table = new.table; place = new.place; padding = d.padding }) new padded_by

@@ -32,7 +32,7 @@ drafted_code = code_by (Header × (Table × (Place × List ℕ))) (coded× heade
 abbrev pub tree_in : Drafted → Growing
 tree_in d = record { context = context_of d.header; table = d.table; start = header_size d.header; place = d.place }
 
--- the count of its bytes: header, entries and nulls, and what the entry that is read has so far
+-- the count of its bytes: header, entries and nulls, and what the entry that is read has so far; those of a value that has begun aside
 abbrev pub drafted_size : Drafted → ℕ
 drafted_size d = end_of (tree_in d) + length (nulls d.padding)
 

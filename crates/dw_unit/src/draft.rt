@@ -1,5 +1,5 @@
 //! Units under construction, step by step (sections 2.3 and 7.5).
-ghost use Rattle.std.specs.Prelude.{◌≡◌, ◌≢◌, ◌≤◌, ◌<◌, ◌+◌, [], length, true, false, None, Some, is_some, IsSome, option_map, OnOk, OnErr};
+ghost use Rattle.std.specs.Prelude.{◌≡◌, ◌≢◌, ◌≤◌, ◌<◌, ◌+◌, [], length, true, false, None, Some, is_some, IsSome, IfSome, option_map, OnOk, OnErr};
 ghost use Rattle.dw_leb.specs.View.{uleb_of};
 ghost use Rattle.dw_form.specs.Lent.{attribute_of};
 ghost use Rattle.dw_abbrev.specs.Build.{is_width};
@@ -99,23 +99,10 @@ impl Draft {
         match self.next_pair() {
             Some(pair) => {
                 let size = size_of(self.header.context(), pair.form.value, value);
-                self.put(value, size)
+                self.tree.value(value, size)
             }
             None => unreachable!(),
         }
-    }
-
-    /// The same with a value that was measured: it has `size` bytes.
-    pub(crate) fn put(&mut self, value: &AttrValue<'_>, size: u64) -> Result<(), AllocError>
-        requires between { begun_in self.old.place.reading ≡ None }
-        requires fits { NextFits (context_of self.old.header) self.old.table self.old.place.reading (attribute_of value.now) }
-        requires size { size ≡ length (value_bytes self.old (attribute_of value.now)) }
-        requires short { passes_limit self.old size ≡ false }
-        ensures ok { OnOk result (self.new ≡ given (attribute_of value.now) self.old) }
-        ensures size { OnOk result (drafted_size self.new ≡ drafted_size self.old + length (value_bytes self.old (attribute_of value.now))) }
-        ensures err { OnErr result (self.new ≡ self.old) }
-    {
-        self.tree.value(value, size)
     }
 
     /// A text, or a block whose length field has `width` bytes, begins as the next value of the entry
@@ -126,6 +113,7 @@ impl Draft {
         requires reading { IsSome self.old.place.reading }
         requires between { begun_in self.old.place.reading ≡ None }
         ensures ok { OnOk result (self.new ≡ started (option_map uleb_of via) width self.old) }
+        ensures size { OnOk result (drafted_size self.new ≡ drafted_size self.old) }
         ensures err { OnErr result (self.new ≡ self.old) }
     {
         self.tree.start(via, width)
@@ -136,6 +124,7 @@ impl Draft {
     pub fn bytes(&mut self, piece: &[u8]) -> Result<(), AllocError>
         requires begun { IsSome (begun_in self.old.place.reading) }
         ensures ok { OnOk result (self.new ≡ extended piece.now self.old) }
+        ensures size { OnOk result (drafted_size self.new ≡ drafted_size self.old) }
         ensures err { OnErr result (self.new ≡ self.old) }
     {
         self.tree.bytes(piece)
@@ -145,7 +134,8 @@ impl Draft {
     pub fn end_value(&mut self)
         requires fits { BegunFits self.old }
         requires short { BegunShort self.old }
-        ensures { self.new ≡ ended self.old }
+        ensures ended { self.new ≡ ended self.old }
+        ensures size { IfSome (begun_of self.old) (λ v. drafted_size self.new ≡ drafted_size self.old + length (value_bytes self.old v)) }
     {
         if let Some(size) = self.begun_size() {
             self.tree.end_value(size);
@@ -233,8 +223,9 @@ impl Draft {
         self.tree.table()
     }
 
-    /// The count of its bytes so far, with those of the initial length and of the entry that is read.
-    /// It is less than 2^32 - 12 in the 32-bit format, and less than 2^63 in the 64-bit format.
+    /// The count of its bytes so far, with those of the initial length and of the entry that is read,
+    /// but not those of a value that has begun. It is less than 2^32 - 12 in the 32-bit format, and less
+    /// than 2^63 in the 64-bit format.
     pub fn size(&self) -> u64
         ensures size { result ≡ drafted_size self.now }
         ensures short { result < limit_of self.now.header.format }

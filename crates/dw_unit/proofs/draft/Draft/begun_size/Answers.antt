@@ -2,13 +2,12 @@ use Rattle.std.proofs.Common.{◌≡◌, Option, Some, length, sym, ap, subst, �
 use Rattle.std.specs.Prelude.{IfSome}
 use Rattle.dw_form.specs.Form.{Attribute}
 use Rattle.dw_form.specs.Lent.{attribute_of}
-use Rattle.dw_form.specs.declared.shape.Ctx.{Ctx}
-use Rattle.dw_form.specs.Pieces.{HasSpelling, spelling, has_spelling}
 use Rattle.dw_abbrev.specs.PairView.{pair_of}
 use Rattle.dw_tree.specs.Steps.{NextFits}
-use Rattle.dw_tree.specs.Next.{next_is, next_some}
+use Rattle.dw_tree.specs.Next.{next_some}
 use Rattle.dw_header.specs.Header.{context_of}
 use Rattle.dw_unit.specs.Draft.{Drafted, begun_of, value_bytes}
+use Rattle.dw_unit.proofs.DraftLemmas.{next_sized}
 use Rattle.dw_unit.proofs.draft.Draft.begun_size.Goals as goal
 
 pub size_of-requires-clause-spelled : goal.size_of-requires-clause-spelled
@@ -16,13 +15,10 @@ size_of-requires-clause-spelled c =
     let d : Drafted = c.args.self.now in
     let v : Attribute = attribute_of c.in_ok-begun.begun in
     let k = context_of d.header in
-    let p = pair_of c.in-Some.pair in
     let same : c.context.result ≡ k = c.context.ensures.context ∙ ap (λ (x : Drafted). context_of x.header) c.self.view_is in
     let has : begun_of d ≡ Some v = sym c.in_ok-begun.ensures in
     let fits : NextFits k d.table d.place.reading v = subst (λ (o : Option Attribute). IfSome o (λ a. NextFits k d.table d.place.reading a)) has c.requires in
-    let w = next_is k v d.table d.place.reading p (sym c.in-Some.ensures.pair) fits in
-    let whole = has_spelling k p.form.value p.constant v w.0 in
-    subst (λ (x : Ctx). HasSpelling x p.form.value v) (sym same) whole.0
+    (next_sized d c.context.result v (pair_of c.in-Some.pair) same (sym c.in-Some.ensures.pair) fits).0
 
 pub unreachable-requires : goal.unreachable-requires
 unreachable-requires c =
@@ -38,11 +34,8 @@ returns c =
     let d : Drafted = c.args.self.now in
     let v : Attribute = attribute_of c.in_ok-begun.begun in
     let k = context_of d.header in
-    let p = pair_of c.in-Some.pair in
     let same : c.context.result ≡ k = c.context.ensures.context ∙ ap (λ (x : Drafted). context_of x.header) c.self.view_is in
     let has : begun_of d ≡ Some v = sym c.in_ok-begun.ensures in
     let fits : NextFits k d.table d.place.reading v = subst (λ (o : Option Attribute). IfSome o (λ a. NextFits k d.table d.place.reading a)) has c.requires in
-    let w = next_is k v d.table d.place.reading p (sym c.in-Some.ensures.pair) fits in
-    let whole = has_spelling k p.form.value p.constant v w.0 in
-    ap Some (c.size_of.ensures ∙ (ap (λ (x : Ctx). length (spelling x p.form.value v)) same ∙ ap length (whole.1 ∙ sym w.1)))
+    ap Some (c.size_of.ensures ∙ (next_sized d c.context.result v (pair_of c.in-Some.pair) same (sym c.in-Some.ensures.pair) fits).1)
     ∙ ap (option_map (λ (a : Attribute). length (value_bytes d a))) (sym has)
