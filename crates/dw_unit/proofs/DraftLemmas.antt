@@ -245,17 +245,23 @@ module _ (d : Drafted) (tree : Growing) (padded_by : ℕ) (i : IsDrafted d tree 
           let given_new : new ≡ tree_in (given v d) = new_is ended_at new e ∙ (ended_value (tree_in d) v h ∙ value_place d v) in
           ap (λ (g : Growing). drafted_size (record { header = d.header; table = g.table; place = g.place; padding = d.padding })) given_new ∙ given_size v f
 
+  pub closed_size : (w : ℕ) → d.place.spot.above ≢ [] → d.place.reading ≡ None → drafted_size (closed w d) ≡ drafted_size d + w
+  closed_size w inside free = let e = closed_end (tree_in d) w inside free in omega (arith, e)
+
   pub close_kept : (w : ℕ) (new : Growing) → new ≡ closed_at w tree → d.place.spot.above ≢ [] → d.place.reading ≡ None → passes_limit d w ≡ false
       → IsDrafted (record { header = d.header; table = new.table; place = new.place; padding = d.padding }) new padded_by
   close_kept w new e inside free short =
-      let ends = closed_end (tree_in d) w inside free in
+      let size = closed_size w inside free in
       let lt = within d w short in
-      place_kept (closed w d).place new (new_is (closed_at w) new e) (leave_one w d.place.spot.above d.place.spot.left i.one_root) tt (omega (arith, ends, lt))
+      place_kept (closed w d).place new (new_is (closed_at w) new e) (leave_one w d.place.spot.above d.place.spot.left i.one_root) tt (omega (arith, size, lt))
 
   pub undo_kept : (new : Growing) → new ≡ undone_at tree → IsDrafted (record { header = d.header; table = new.table; place = new.place; padding = d.padding }) new padded_by
   undo_kept new e =
       let short = i.short in
       place_kept (undone d).place new (new_is undone_at new e) i.one_root tt (omega (arith, short))
+
+  pub padded_size : (w : ℕ) → drafted_size (padded w d) ≡ drafted_size d + w
+  padded_size w = let n = nulls_push d.padding w in omega (arith, n)
 
   pub pad_kept : (w : ℕ) → is_width w ≡ true → passes_limit d w ≡ false → IsDrafted (padded w d) tree (padded_by + w)
   pad_kept w e short =

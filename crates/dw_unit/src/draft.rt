@@ -162,6 +162,7 @@ impl Draft {
         requires free { self.old.place.reading ≡ None }
         requires short { passes_limit self.old width ≡ false }
         ensures ok { OnOk result (self.new ≡ closed width self.old) }
+        ensures size { OnOk result (drafted_size self.new ≡ drafted_size self.old + width) }
         ensures err { OnErr result (self.new ≡ self.old) }
     {
         self.tree.close(null(width))
@@ -176,6 +177,7 @@ impl Draft {
         requires free { self.old.place.reading ≡ None }
         requires short { passes_limit self.old width ≡ false }
         ensures ok { OnOk result (self.new ≡ padded width self.old) }
+        ensures size { OnOk result (drafted_size self.new ≡ drafted_size self.old + width) }
         ensures err { OnErr result (self.new ≡ self.old) }
     {
         self.padding.push(width)?;
