@@ -11,8 +11,11 @@ use arrayvec::ArrayVec;
 use dw_leb::{Format, Order, Watched, WriteError, write_all, write_fixed, write_length};
 use std::io::Write;
 
-/// Writes the header behind its initial length, that of a unit_length: exactly their one spelling. It
-/// takes no memory. After an error a beginning of it was written (sections 7.4 and 7.5.1).
+/// Writes the header behind its initial length, that of a unit_length: exactly their bytes. It takes no
+/// memory. After an error a beginning of them was written (sections 7.4 and 7.5.1).
+///
+/// They are read back as this header where the header's fields lie within the unit_length, which isn't
+/// judged here.
 ///
 /// Errors: `Io` with the kind of the writer's failure, `WriteZero` where it took no byte of some.
 pub fn write_header<W: Write>(
