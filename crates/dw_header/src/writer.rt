@@ -14,8 +14,8 @@ use std::io::Write;
 /// Writes the header behind its initial length, that of a unit_length: exactly their bytes. It takes no
 /// memory. After an error a beginning of them was written (sections 7.4 and 7.5.1).
 ///
-/// They are read back as this header where the header's fields lie within the unit_length, which isn't
-/// judged here.
+/// They are read back as this header where its fields lie within the unit_length, and the unit's end
+/// below 2^63. Neither is judged here.
 ///
 /// Errors: `Io` with the kind of the writer's failure, `WriteZero` where it took no byte of some.
 pub fn write_header<W: Write>(
