@@ -1,4 +1,5 @@
 pub mod Tree
+pub mod Levels
 pub mod Spelling
 pub mod Offset
 pub mod ReadTree

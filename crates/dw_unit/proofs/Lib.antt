@@ -16,7 +16,6 @@ pub mod RoundTrip
 pub mod GivenValue
 pub mod Chain
 pub mod RootRead
-pub mod Levels
 pub mod DraftLemmas
 pub mod PutValues
 pub mod OpenLemmas

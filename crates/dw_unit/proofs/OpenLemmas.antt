@@ -18,7 +18,7 @@ use Rattle.dw_unit.specs.Draft.{Drafted, with_place, IsOnlyRoot}
 use Rattle.dw_unit.specs.Build.{Building, draft_of, building_of, with_entry, opened, is_known, place_refusal, entry_size, values_refusal, ValuesFit, EntryRefused}
 use Rattle.dw_unit.proofs.EntryLemmas.{settle_whole}
 use Rattle.dw_unit.proofs.DraftLemmas.{not_le}
-use Rattle.dw_unit.proofs.Levels.{nesting_is}
+use Rattle.dw_tree.specs.Levels.{nesting_is}
 use Rattle.dw_unit.proofs.PutValues.{the, as_many}
 
 -- ---- where it stands

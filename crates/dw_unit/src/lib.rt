@@ -2,29 +2,15 @@
 #![tactic(auto)]
 
 mod bad;
-#[cfg(test)]
-mod block_tests;
 mod body;
 mod builder;
-#[cfg(test)]
-mod builder_tests;
 mod codes;
 mod draft;
-#[cfg(test)]
-mod draft_tests;
 mod entries;
-#[cfg(test)]
-mod entry_tests;
 mod given;
-#[cfg(test)]
-mod kind_tests;
 pub mod laws;
 mod reader;
 mod refusal;
-#[cfg(test)]
-mod tests;
-#[cfg(test)]
-mod tree_tests;
 mod unit;
 mod writer;
 

@@ -14,7 +14,7 @@ use Rattle.dw_unit.specs.declared.bad.BodyError.{BodyError}
 use Rattle.dw_unit.specs.declared.bad.BodyError.TheVariants as errors
 use Rattle.dw_unit.specs.Entries.{placed, TellsError, Refuses}
 use Rattle.dw_unit.proofs.EntryLemmas.{no_error}
-use Rattle.dw_unit.proofs.Levels.{levels_is, nesting_is}
+use Rattle.dw_tree.specs.Levels.{levels_is, nesting_is}
 use Rattle.dw_unit.proofs.Chain.{values_long, leaf_put, entered, branch_put}
 use Rattle.dw_unit.proofs.RootRead.{values_break, leaf_read, kids_break, branch_read}
 use Rattle.dw_unit.proofs.entries.root_at.Goals as goal

@@ -8,7 +8,7 @@ use Rattle.dw_tree.specs.Steps.{NextFits}
 use Rattle.dw_header.specs.Header.{context_of}
 use Rattle.dw_unit.specs.Draft.{Drafted, passes_limit, value_bytes}
 use Rattle.dw_tree.specs.Next.{next_is, fits_next}
-use Rattle.dw_unit.proofs.draft_tests.given.Goals as goal
+use Rattle.dw_unit_tests.proofs.drafts.given.Goals as goal
 
 pub size_of-requires-clause-spelled : goal.size_of-requires-clause-spelled
 size_of-requires-clause-spelled c =

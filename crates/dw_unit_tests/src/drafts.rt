@@ -4,29 +4,17 @@
 ghost use Rattle.std.specs.Prelude.{IsTrue};
 ghost use Rattle.dw_unit.specs.Draft.{BegunFits, BegunShort};
 
-use crate::{Draft, Header, Kind, Unit, UnitBuilder, write_unit};
+use crate::common::{PADDED, TYPED, written};
 use dw_abbrev::{Table, Tables};
 use dw_form::{AttrValue, Value, fits, size_of};
-use dw_leb::{Format, Order, Uleb, Watched, WriteError};
+use dw_leb::{Format, Order, Uleb};
+use dw_unit::{Draft, Header, Kind, Unit, UnitBuilder};
 use std::alloc::Global;
 use std::rc::Rc;
 use std::test::Fail;
 
-/// Code 1, DW_TAG_compile_unit, children, DW_AT_name as DW_FORM_string; code 2, DW_TAG_base_type, no
-/// children, DW_AT_byte_size as DW_FORM_data1.
-const NESTED: [u8; 15] = [
-    0x01, 0x11, 1, 0x03, 0x08, 0, 0, 0x02, 0x24, 0, 0x0b, 0x0b, 0, 0, 0,
-];
-
-/// Over it a compile unit of the name "a", whose code is padded, with a base type of 4 bytes, a null of
-/// 2 bytes behind it, and nulls of 1 and 2 bytes behind the root.
-const PADDED: [u8; 23] = [
-    0x13, 0, 0, 0, 0x05, 0, 0x01, 0x08, 0, 0, 0, 0, 0x81, 0, 0x61, 0, 0x02, 0x04, 0x80, 0, 0, 0x80,
-    0,
-];
-
 fn table(alloc: Global) -> Result<Rc<Table>, Fail> {
-    Ok(Tables::new(alloc, &NESTED).get(0)?)
+    Ok(Tables::new(alloc, &TYPED).get(0)?)
 }
 
 fn header() -> Result<Header, Fail> {
@@ -48,7 +36,7 @@ fn four() -> AttrValue<'static> {
 }
 
 /// An entry of this code begins, where one can.
-#[tactic(auto, using(crate::proofs::Levels::nesting_is))]
+#[tactic(auto, using(dw_tree::specs::Levels::nesting_is))]
 fn begun(draft: &mut Draft, code: Uleb) -> Result<(), Fail> {
     if draft.next_pair().is_some() {
         return Err("an entry is read".into());
@@ -168,12 +156,6 @@ fn finished(draft: Draft) -> Result<Unit, Fail> {
         return Err("no closed root".into());
     }
     Ok(draft.finish())
-}
-
-fn written(alloc: Global, unit: &Unit) -> Result<Vec<u8>, WriteError> {
-    let mut writer = Watched::new(Vec::new(alloc));
-    write_unit(unit, &mut writer)?;
-    Ok(writer.into_inner())
 }
 
 /// The same unit by a builder.

@@ -1,19 +1,9 @@
 //! What no clause says: units of several entries whose bytes and offsets come from the standard,
 //! read with memory to spare.
-use crate::{Unit, read_unit, write_unit};
-use dw_abbrev::Tables;
-use dw_leb::{Fault, Order, ReadError, Reason, Section, Watched, WriteError};
+use crate::common::{BARE, TYPED, WITH_A_CHILD, in_info, little, refusal, written};
+use dw_leb::{Order, Reason};
 use std::alloc::{AllocError, Global};
 use std::test::Fail;
-
-/// Code 1: DW_TAG_compile_unit with children and a name as a string. Code 2: DW_TAG_base_type with
-/// a size in one byte.
-const TYPED: [u8; 15] = [
-    0x01, 0x11, 1, 0x03, 0x08, 0, 0, 0x02, 0x24, 0, 0x0b, 0x0b, 0, 0, 0,
-];
-
-/// Code 1: DW_TAG_compile_unit with children and no attributes.
-const NESTED: [u8; 6] = [0x01, 0x11, 1, 0, 0, 0];
 
 /// Code 1: DW_TAG_type_unit with children. Code 2: DW_TAG_base_type with a size in one byte.
 const SIGNED: [u8; 13] = [0x01, 0x41, 1, 0, 0, 0x02, 0x24, 0, 0x0b, 0x0b, 0, 0, 0];
@@ -24,40 +14,9 @@ fn headed(alloc: Global, length: [u8; 2]) -> Result<Vec<u8>, AllocError> {
     Vec::from_slice(alloc, &[low, high, 0, 0, 5, 0, 1, 8, 0, 0, 0, 0])
 }
 
-fn little(alloc: Global, section: &[u8], b: &[u8]) -> Result<(Unit, usize), ReadError> {
-    let mut tables = Tables::new(alloc, section);
-    read_unit(alloc, Order::Little, &mut tables, b)
-}
-
-fn refused(alloc: Global, section: &[u8], b: &[u8]) -> Option<(u64, Reason)> {
-    match little(alloc, section, b) {
-        Err(
-            ReadError::Fault(
-                Fault {
-                    section: Section::Info,
-                    offset,
-                    reason,
-                },
-            ),
-        ) => Some((offset, reason)),
-        _ => None,
-    }
-}
-
-fn written(alloc: Global, unit: &Unit) -> Result<Vec<u8>, WriteError> {
-    let mut writer = Watched::new(Vec::new(alloc));
-    write_unit(unit, &mut writer)?;
-    Ok(writer.into_inner())
-}
-
-/// The root "a" with a base type of 4 bytes below it.
-const PARENT: [u8; 18] = [
-    0x0e, 0, 0, 0, 5, 0, 1, 8, 0, 0, 0, 0, 0x01, 0x61, 0, 0x02, 0x04, 0,
-];
-
 #[test]
 fn reads_a_child(rt: HostRuntime) -> Result<(), Fail> {
-    let (unit, taken) = little(rt.alloc(), &TYPED, &PARENT)?;
+    let (unit, taken) = little(rt.alloc(), &TYPED, &WITH_A_CHILD)?;
     assert_eq!(rt; (taken, unit.size()), (18, 18));
     let root = unit.root();
     assert_eq!(rt;
@@ -76,24 +35,24 @@ fn reads_a_child(rt: HostRuntime) -> Result<(), Fail> {
 
 #[test]
 fn writes_a_child_back(rt: HostRuntime) -> Result<(), Fail> {
-    let (unit, _) = little(rt.alloc(), &TYPED, &PARENT)?;
+    let (unit, _) = little(rt.alloc(), &TYPED, &WITH_A_CHILD)?;
     let bytes = written(rt.alloc(), &unit)?;
-    assert_eq!(rt; bytes.as_slice(), PARENT.as_slice());
+    assert_eq!(rt; bytes.as_slice(), WITH_A_CHILD.as_slice());
     Ok(())
 }
 
 /// The null of the children is written in two bytes, and so is one after the root.
-const PADDED: [u8; 21] = [
+const WIDE_NULLS: [u8; 21] = [
     0x11, 0, 0, 0, 5, 0, 1, 8, 0, 0, 0, 0, 0x01, 0x61, 0, 0x02, 0x04, 0x80, 0, 0x80, 0,
 ];
 
 #[test]
 fn keeps_the_widths_of_nulls(rt: HostRuntime) -> Result<(), Fail> {
-    let (unit, _) = little(rt.alloc(), &TYPED, &PADDED)?;
+    let (unit, _) = little(rt.alloc(), &TYPED, &WIDE_NULLS)?;
     assert_eq!(rt; unit.padding(), [2].as_slice());
     assert_eq!(rt; unit.root().end_offset(), 19);
     let bytes = written(rt.alloc(), &unit)?;
-    assert_eq!(rt; bytes.as_slice(), PADDED.as_slice());
+    assert_eq!(rt; bytes.as_slice(), WIDE_NULLS.as_slice());
     Ok(())
 }
 
@@ -102,14 +61,14 @@ fn the_end_of_the_unit_closes_no_children(rt: HostRuntime) -> Result<(), Fail> {
     let mut bytes = headed(rt.alloc(), [0x0d, 0])?;
     bytes.extend_from_slice(&[0x01, 0x61, 0, 0x02, 0x04])?;
     assert_eq!(rt;
-        refused(rt.alloc(), &TYPED, &bytes),
-        Some((17, Reason::PastUnit))
+        refusal(rt.alloc(), Order::Little, &TYPED, &bytes),
+        in_info(17, Reason::PastUnit)
     );
     let mut cut = headed(rt.alloc(), [0x0e, 0])?;
     cut.extend_from_slice(&[0x01, 0x61, 0, 0x02, 0x04])?;
     assert_eq!(rt;
-        refused(rt.alloc(), &TYPED, &cut),
-        Some((17, Reason::Truncated))
+        refusal(rt.alloc(), Order::Little, &TYPED, &cut),
+        in_info(17, Reason::Truncated)
     );
     Ok(())
 }
@@ -119,14 +78,14 @@ fn refuses_in_a_child(rt: HostRuntime) -> Result<(), Fail> {
     let mut unknown = headed(rt.alloc(), [0x0e, 0])?;
     unknown.extend_from_slice(&[0x01, 0x61, 0, 0x07, 0x04, 0])?;
     assert_eq!(rt;
-        refused(rt.alloc(), &TYPED, &unknown),
-        Some((15, Reason::UnknownCode))
+        refusal(rt.alloc(), Order::Little, &TYPED, &unknown),
+        in_info(15, Reason::UnknownCode)
     );
     let mut second = headed(rt.alloc(), [0x0f, 0])?;
     second.extend_from_slice(&[0x01, 0x61, 0, 0x02, 0x04, 0, 0x02])?;
     assert_eq!(rt;
-        refused(rt.alloc(), &TYPED, &second),
-        Some((18, Reason::SecondRoot))
+        refusal(rt.alloc(), Order::Little, &TYPED, &second),
+        in_info(18, Reason::SecondRoot)
     );
     Ok(())
 }
@@ -163,7 +122,7 @@ fn nest(alloc: Global, length: [u8; 2], levels: u16) -> Result<Vec<u8>, AllocErr
 #[test]
 fn reads_256_levels(rt: HostRuntime) -> Result<(), Fail> {
     let bytes = nest(rt.alloc(), [0x08, 0x02], 256)?;
-    let (unit, taken) = little(rt.alloc(), &NESTED, &bytes)?;
+    let (unit, taken) = little(rt.alloc(), &BARE, &bytes)?;
     assert_eq!(rt; (taken, unit.size()), (524, 524));
     let mut deepest = 0;
     for entry in unit.entries() {
@@ -179,8 +138,8 @@ fn reads_256_levels(rt: HostRuntime) -> Result<(), Fail> {
 fn refuses_257_levels(rt: HostRuntime) -> Result<(), Fail> {
     let bytes = nest(rt.alloc(), [0x0a, 0x02], 257)?;
     assert_eq!(rt;
-        refused(rt.alloc(), &NESTED, &bytes),
-        Some((268, Reason::TooDeep))
+        refusal(rt.alloc(), Order::Little, &BARE, &bytes),
+        in_info(268, Reason::TooDeep)
     );
     Ok(())
 }

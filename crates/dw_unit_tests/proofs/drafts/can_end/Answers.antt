@@ -9,7 +9,7 @@ use Rattle.dw_tree.specs.Steps.{NextFits}
 use Rattle.dw_tree.specs.Next.{next_is, fits_next}
 use Rattle.dw_header.specs.Header.{context_of}
 use Rattle.dw_unit.specs.Draft.{Drafted, begun_of, passes_limit, value_bytes}
-use Rattle.dw_unit.proofs.draft_tests.can_end.Goals as goal
+use Rattle.dw_unit_tests.proofs.drafts.can_end.Goals as goal
 
 not_is : (b : Bool) → IsTrue (not b) → b ≡ false
 not_is true h = absurd cc

@@ -1,13 +1,11 @@
 //! What no clause says: units of all kinds, in both formats and both byte orders, whose headers come
 //! from section 7.5.1 of the standard.
-use crate::{Header, Kind, read_header, read_unit, write_unit};
+use crate::common::{NAMED, in_info, refusal, written};
 use dw_abbrev::Tables;
-use dw_leb::{Format, Order, ReadError, Reason, Section, Watched};
+use dw_leb::{Format, Order, Reason};
+use dw_unit::{Header, Kind, read_header, read_unit};
 use std::alloc::{AllocError, Global};
 use std::test::Fail;
-
-/// One declaration: code 1, DW_TAG_compile_unit, no children, DW_AT_name as DW_FORM_string.
-const NAMED: [u8; 8] = [0x01, 0x11, 0, 0x03, 0x08, 0, 0, 0];
 
 /// Where the table stands.
 const TABLE: usize = 0x0102;
@@ -117,14 +115,13 @@ fn stands(
     let section = section(alloc)?;
     let mut tables = Tables::new(alloc, section.as_slice());
     let (unit, size) = read_unit(alloc, header.order(), &mut tables, bytes)?;
-    let mut writer = Watched::new(Vec::new(alloc));
-    write_unit(&unit, &mut writer)?;
+    let back = written(alloc, &unit)?;
     let alone = bytes.get(..root).ok_or("no header")?;
     Ok(
         unit.header() == header
             && size == bytes.len()
             && unit.root().offset() == root as u64
-            && writer.into_inner().as_slice() == bytes
+            && back.as_slice() == bytes
             && read_header(header.order(), bytes).ok() == Some((header, unit_length))
             && read_header(header.order(), alone).ok() == Some((header, unit_length)),
     )
@@ -218,10 +215,6 @@ fn skeleton_units(rt: HostRuntime) -> Result<(), Fail> {
 #[test]
 fn a_unit_of_version_four(rt: HostRuntime) {
     let bytes = [0x0a, 0, 0, 0, 0x04, 0, 0, 0, 0, 0, 0x08, 0x01, 0x61, 0];
-    let mut tables = Tables::new(rt.alloc(), &NAMED);
-    let fault = match read_unit(rt.alloc(), Order::Little, &mut tables, &bytes) {
-        Err(ReadError::Fault(fault)) => Some((fault.section, fault.offset, fault.reason)),
-        _ => None,
-    };
-    assert_eq!(rt; fault, Some((Section::Info, 4, Reason::BadVersion)));
+    let fault = refusal(rt.alloc(), Order::Little, &NAMED, &bytes);
+    assert_eq!(rt; fault, in_info(4, Reason::BadVersion));
 }

@@ -1,10 +1,8 @@
 //! Blocks of which the announced length is far more than their unit or the input holds: refused
 //! before anything grows. No allocator gives 2^62 bytes, so a reader that asked for them first would
 //! answer that there is no memory.
-use crate::read_unit;
-use dw_abbrev::Tables;
-use dw_leb::{Fault, Order, ReadError, Reason, Section};
-use std::alloc::Global;
+use crate::common::{in_info, refusal};
+use dw_leb::{Order, Reason};
 
 /// One declaration: code 1, DW_TAG_compile_unit, no children, DW_AT_const_value as DW_FORM_block4.
 const BLOCK4: [u8; 8] = [0x01, 0x11, 0, 0x1c, 0x04, 0, 0, 0];
@@ -39,32 +37,24 @@ const ENDLESS_UNIT: [u8; 35] = [
     0x01, 0x80, 0x80, 0x80, 0x80, 0x80, 0x80, 0x80, 0x80, 0x40, 0,
 ];
 
-fn refusal(alloc: Global, section: &[u8], b: &[u8]) -> Option<Fault> {
-    let mut tables = Tables::new(alloc, section);
-    match read_unit(alloc, Order::Little, &mut tables, b) {
-        Err(ReadError::Fault(fault)) => Some(fault),
-        Err(_) => None,
-        Ok(_) => None,
-    }
-}
-
-fn in_info(offset: u64, reason: Reason) -> Option<Fault> {
-    Some(Fault {
-        section: Section::Info,
-        offset,
-        reason,
-    })
-}
-
 #[test]
 fn announced_blocks(rt: HostRuntime) {
     let past_unit = in_info(13, Reason::PastUnit);
-    assert_eq!(rt; refusal(rt.alloc(), &BLOCK4, &FOUR_GIGABYTES), past_unit);
-    assert_eq!(rt; refusal(rt.alloc(), &BLOCK, &ENDLESS), past_unit);
     assert_eq!(rt;
-        refusal(rt.alloc(), &INDIRECT, &ENDLESS_INDIRECT),
+        refusal(rt.alloc(), Order::Little, &BLOCK4, &FOUR_GIGABYTES),
+        past_unit
+    );
+    assert_eq!(rt;
+        refusal(rt.alloc(), Order::Little, &BLOCK, &ENDLESS),
+        past_unit
+    );
+    assert_eq!(rt;
+        refusal(rt.alloc(), Order::Little, &INDIRECT, &ENDLESS_INDIRECT),
         past_unit
     );
     let truncated = in_info(25, Reason::Truncated);
-    assert_eq!(rt; refusal(rt.alloc(), &BLOCK, &ENDLESS_UNIT), truncated);
+    assert_eq!(rt;
+        refusal(rt.alloc(), Order::Little, &BLOCK, &ENDLESS_UNIT),
+        truncated
+    );
 }

@@ -1,8 +1,7 @@
 //! What no clause says: the root of units whose bytes and offsets come from the standard.
-use crate::{EntryRef, read_unit};
-use dw_abbrev::Tables;
+use crate::common::little;
 use dw_form::Value;
-use dw_leb::Order;
+use dw_unit::EntryRef;
 use std::test::Fail;
 
 /// Code 1, tag 0x11, no children: a name as a string, a size in one byte, an indirect form, a flag
@@ -36,8 +35,7 @@ fn places(root: &EntryRef<'_>) -> [(u64, u64, u64); 5] {
 
 #[test]
 fn lends_a_root(rt: HostRuntime) -> Result<(), Fail> {
-    let mut tables = Tables::new(rt.alloc(), &DECLARED);
-    let (unit, _) = read_unit(rt.alloc(), Order::Little, &mut tables, &SHORT)?;
+    let (unit, _) = little(rt.alloc(), &DECLARED, &SHORT)?;
     let root = unit.root();
     assert_eq!(rt; (root.offset(), root.depth(), root.tag()), (12, 1, 0x11));
     assert_eq!(rt; (root.code().value, root.code().width), (1, 2));
@@ -56,8 +54,7 @@ fn lends_a_root(rt: HostRuntime) -> Result<(), Fail> {
 
 #[test]
 fn lends_behind_a_long_header(rt: HostRuntime) -> Result<(), Fail> {
-    let mut tables = Tables::new(rt.alloc(), &DECLARED);
-    let (unit, _) = read_unit(rt.alloc(), Order::Little, &mut tables, &LONG)?;
+    let (unit, _) = little(rt.alloc(), &DECLARED, &LONG)?;
     let root = unit.root();
     assert_eq!(rt; (root.offset(), root.depth(), root.tag()), (40, 1, 0x11));
     assert_eq!(rt;
@@ -75,8 +72,7 @@ fn lends_behind_a_long_header(rt: HostRuntime) -> Result<(), Fail> {
 
 #[test]
 fn lends_values(rt: HostRuntime) -> Result<(), Fail> {
-    let mut tables = Tables::new(rt.alloc(), &DECLARED);
-    let (unit, _) = read_unit(rt.alloc(), Order::Little, &mut tables, &SHORT)?;
+    let (unit, _) = little(rt.alloc(), &DECLARED, &SHORT)?;
     let mut attrs = unit.root().attrs();
     let first = attrs.next().ok_or("no attribute")?;
     match first.attr.value {

@@ -1,16 +1,14 @@
 //! What no clause says: units whose values are known from the standard, each call once with memory
 //! to spare, and writers that take little or fail.
-use crate::{AttrRef, Kind, Unit, read_header, read_unit, write_unit};
+use crate::common::{NAMED, in_info, little, refusal, written};
 use dw_abbrev::Tables;
 use dw_form::Value;
 use dw_leb::devices::Stepped;
-use dw_leb::{Fault, Format, Order, ReadError, Reason, Section, Watched, WriteError};
+use dw_leb::{Fault, Format, Order, Reason, Section, Watched, WriteError};
+use dw_unit::{AttrRef, Kind, read_header, read_unit, write_unit};
 use std::alloc::{AllocError, Global};
 use std::io::ErrorKind;
 use std::test::Fail;
-
-/// One declaration: code 1, DW_TAG_compile_unit, no children, DW_AT_name as DW_FORM_string.
-const NAMED: [u8; 8] = [0x01, 0x11, 0, 0x03, 0x08, 0, 0, 0];
 
 /// A compile unit of the name "a".
 const FIFTEEN: [u8; 15] = [
@@ -41,34 +39,6 @@ fn compiled(alloc: Global, length: u8, table: u8, body: &[u8]) -> Result<Vec<u8>
     let mut bytes = Vec::from_slice(alloc, &head)?;
     bytes.extend_from_slice(body)?;
     Ok(bytes)
-}
-
-fn little(alloc: Global, section: &[u8], b: &[u8]) -> Result<(Unit, usize), ReadError> {
-    let mut tables = Tables::new(alloc, section);
-    read_unit(alloc, Order::Little, &mut tables, b)
-}
-
-fn written(alloc: Global, unit: &Unit) -> Result<Vec<u8>, WriteError> {
-    let mut writer = Watched::new(Vec::new(alloc));
-    write_unit(unit, &mut writer)?;
-    Ok(writer.into_inner())
-}
-
-fn refusal(alloc: Global, order: Order, section: &[u8], b: &[u8]) -> Option<Fault> {
-    let mut tables = Tables::new(alloc, section);
-    match read_unit(alloc, order, &mut tables, b) {
-        Err(ReadError::Fault(fault)) => Some(fault),
-        Err(_) => None,
-        Ok(_) => None,
-    }
-}
-
-fn in_info(offset: u64, reason: Reason) -> Option<Fault> {
-    Some(Fault {
-        section: Section::Info,
-        offset,
-        reason,
-    })
 }
 
 fn in_abbrev(offset: u64, reason: Reason) -> Option<Fault> {

@@ -1,31 +1,12 @@
 //! What no clause says of units that are built: each call once with memory to spare, each refusal in
 //! its order, bytes from outside, and the same call again after a growth was refused.
-use crate::{Header, Kind, Refusal, Unit, UnitBuilder, read_unit, write_unit};
+use crate::common::{BARE, PADDED, TYPED, WITH_A_CHILD, little, written};
 use dw_abbrev::Tables;
 use dw_form::{AttrValue, Value};
-use dw_leb::{Format, Order, ReadError, Sleb, Uleb, Watched, WriteError};
+use dw_leb::{Format, Order, Sleb, Uleb};
+use dw_unit::{Header, Kind, Refusal, Unit, UnitBuilder};
 use std::alloc::{AllocError, Global};
 use std::test::Fail;
-
-/// Code 1, DW_TAG_compile_unit, children, DW_AT_name as DW_FORM_string; code 2, DW_TAG_base_type, no
-/// children, DW_AT_byte_size as DW_FORM_data1.
-const NESTED: [u8; 15] = [
-    0x01, 0x11, 1, 0x03, 0x08, 0, 0, 0x02, 0x24, 0, 0x0b, 0x0b, 0, 0, 0,
-];
-
-/// Over it a compile unit of the name "a", with a base type of 4 bytes.
-const WITH_A_CHILD: [u8; 18] = [
-    0x0e, 0, 0, 0, 0x05, 0, 0x01, 0x08, 0, 0, 0, 0, 0x01, 0x61, 0, 0x02, 0x04, 0,
-];
-
-/// The same with a padded code, a padded null of the children, and nulls of 1 and 2 bytes behind it.
-const PADDED: [u8; 23] = [
-    0x13, 0, 0, 0, 0x05, 0, 0x01, 0x08, 0, 0, 0, 0, 0x81, 0, 0x61, 0, 0x02, 0x04, 0x80, 0, 0, 0x80,
-    0,
-];
-
-/// Code 1, DW_TAG_compile_unit, children, no attributes.
-const BARE: [u8; 6] = [0x01, 0x11, 1, 0, 0, 0];
 
 /// Code 1, DW_TAG_compile_unit, no children; DW_AT_byte_size as DW_FORM_indirect, and as
 /// DW_FORM_implicit_const of -1 in 2 bytes.
@@ -58,18 +39,12 @@ fn unfinished(builder: UnitBuilder) -> Result<(Refusal, UnitBuilder), Fail> {
     Ok(builder.finish().err().ok_or("it is finished")?)
 }
 
-fn written(alloc: Global, unit: &Unit) -> Result<Vec<u8>, WriteError> {
-    let mut writer = Watched::new(Vec::new(alloc));
-    write_unit(unit, &mut writer)?;
-    Ok(writer.into_inner())
-}
-
 #[test]
 fn a_root_with_a_child(rt: HostRuntime) -> Result<(), Fail> {
     let text = [direct(Value::Text(&[0x61]))];
     let number = [direct(Value::Num(4))];
     let leb = [direct(Value::Uleb(Uleb::least(4)))];
-    let builder = builder(rt.alloc(), &NESTED, Format::Dwarf32)?;
+    let builder = builder(rt.alloc(), &TYPED, Format::Dwarf32)?;
     let (refusal, mut builder) = unfinished(builder)?;
     assert_eq!(rt; refusal, Refusal::NoRoot);
     assert_eq!(rt; builder.pad(1), Err(Refusal::NoRoot));
@@ -106,7 +81,7 @@ fn a_root_with_a_child(rt: HostRuntime) -> Result<(), Fail> {
 
 #[test]
 fn keeps_each_width(rt: HostRuntime) -> Result<(), Fail> {
-    let mut builder = builder(rt.alloc(), &NESTED, Format::Dwarf32)?;
+    let mut builder = builder(rt.alloc(), &TYPED, Format::Dwarf32)?;
     let code = Uleb::with_width(1, 2).ok_or("no such width")?;
     builder.open(code, &[direct(Value::Text(&[0x61]))])?;
     builder.open(Uleb::least(2), &[direct(Value::Num(4))])?;
@@ -119,8 +94,7 @@ fn keeps_each_width(rt: HostRuntime) -> Result<(), Fail> {
     let unit = finished(builder)?;
     assert_eq!(rt; unit.padding(), [1, 2].as_slice());
     assert_eq!(rt; written(rt.alloc(), &unit)?.as_slice(), PADDED.as_slice());
-    let mut tables = Tables::new(rt.alloc(), &NESTED);
-    let (again, size) = read_unit(rt.alloc(), Order::Little, &mut tables, &PADDED)?;
+    let (again, size) = little(rt.alloc(), &TYPED, &PADDED)?;
     assert_eq!(rt; size, 23);
     assert_eq!(rt; written(rt.alloc(), &again)?.as_slice(), PADDED.as_slice());
     Ok(())
@@ -128,7 +102,7 @@ fn keeps_each_width(rt: HostRuntime) -> Result<(), Fail> {
 
 #[test]
 fn refused_values(rt: HostRuntime) -> Result<(), Fail> {
-    let mut builder = builder(rt.alloc(), &NESTED, Format::Dwarf32)?;
+    let mut builder = builder(rt.alloc(), &TYPED, Format::Dwarf32)?;
     let root = Uleb::least(1);
     let child = Uleb::least(2);
     let wrong = Err(Refusal::WrongValues);
@@ -305,7 +279,7 @@ fn closed(builder: &mut UnitBuilder) -> Result<(), Refusal> {
 
 #[test]
 fn a_refused_growth_is_asked_again(rt: HostRuntime) -> Result<(), Fail> {
-    let mut builder = builder(rt.alloc(), &NESTED, Format::Dwarf32)?;
+    let mut builder = builder(rt.alloc(), &TYPED, Format::Dwarf32)?;
     opened(&mut builder, 1, direct(Value::Text(&[0x61])))?;
     opened(&mut builder, 2, direct(Value::Num(4)))?;
     closed(&mut builder)?;

@@ -1,0 +1,55 @@
+//! Sections, units and calls that several tests begin with.
+use dw_abbrev::Tables;
+use dw_leb::{Fault, Order, ReadError, Reason, Section, Watched, WriteError};
+use dw_unit::{Unit, read_unit, write_unit};
+use std::alloc::Global;
+
+/// One declaration: code 1, DW_TAG_compile_unit, no children, DW_AT_name as DW_FORM_string.
+pub const NAMED: [u8; 8] = [0x01, 0x11, 0, 0x03, 0x08, 0, 0, 0];
+
+/// Code 1, DW_TAG_compile_unit, children, DW_AT_name as DW_FORM_string; code 2, DW_TAG_base_type, no
+/// children, DW_AT_byte_size as DW_FORM_data1.
+pub const TYPED: [u8; 15] = [
+    0x01, 0x11, 1, 0x03, 0x08, 0, 0, 0x02, 0x24, 0, 0x0b, 0x0b, 0, 0, 0,
+];
+
+/// Over it a compile unit of the name "a", with a base type of 4 bytes.
+pub const WITH_A_CHILD: [u8; 18] = [
+    0x0e, 0, 0, 0, 0x05, 0, 0x01, 0x08, 0, 0, 0, 0, 0x01, 0x61, 0, 0x02, 0x04, 0,
+];
+
+/// The same with a padded code, a padded null of the children, and nulls of 1 and 2 bytes behind it.
+pub const PADDED: [u8; 23] = [
+    0x13, 0, 0, 0, 0x05, 0, 0x01, 0x08, 0, 0, 0, 0, 0x81, 0, 0x61, 0, 0x02, 0x04, 0x80, 0, 0, 0x80,
+    0,
+];
+
+/// Code 1, DW_TAG_compile_unit, children, no attributes.
+pub const BARE: [u8; 6] = [0x01, 0x11, 1, 0, 0, 0];
+
+pub fn little(alloc: Global, section: &[u8], b: &[u8]) -> Result<(Unit, usize), ReadError> {
+    let mut tables = Tables::new(alloc, section);
+    read_unit(alloc, Order::Little, &mut tables, b)
+}
+
+pub fn refusal(alloc: Global, order: Order, section: &[u8], b: &[u8]) -> Option<Fault> {
+    let mut tables = Tables::new(alloc, section);
+    match read_unit(alloc, order, &mut tables, b) {
+        Err(ReadError::Fault(fault)) => Some(fault),
+        _ => None,
+    }
+}
+
+pub fn in_info(offset: u64, reason: Reason) -> Option<Fault> {
+    Some(Fault {
+        section: Section::Info,
+        offset,
+        reason,
+    })
+}
+
+pub fn written(alloc: Global, unit: &Unit) -> Result<Vec<u8>, WriteError> {
+    let mut writer = Watched::new(Vec::new(alloc));
+    write_unit(unit, &mut writer)?;
+    Ok(writer.into_inner())
+}

@@ -1,0 +1,19 @@
+//! Tests of the public calls of `dw_unit`, over the library: there they would have it proved twice.
+#![tactic(auto)]
+
+#[cfg(test)]
+mod blocks;
+#[cfg(test)]
+mod builders;
+#[cfg(test)]
+mod common;
+#[cfg(test)]
+mod drafts;
+#[cfg(test)]
+mod entries;
+#[cfg(test)]
+mod kinds;
+#[cfg(test)]
+mod trees;
+#[cfg(test)]
+mod units;
