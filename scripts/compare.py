@@ -1,13 +1,15 @@
 #!/usr/bin/env python3
-"""Compares what `dwarf show` says of the unit of an ELF file with what readelf says of it.
+"""Compares what `dwarf show` says of the units of an ELF file with what readelf says of them.
 
 Usage: scripts/compare.py PROGRAM FILE..
 
-PROGRAM is the built `dwarf` (crates/dwarf/out/dwarf). Each FILE is linked and has one unit. Compared are
-the level, the offset and the tag of each entry, the names of its attributes in their order, and each value
-that readelf tells as the number that stands there. The status is 0 where all agree, else 1.
+PROGRAM is the built `dwarf` (crates/dwarf/out/dwarf). Each FILE is linked and little-endian. Its units of
+version 5 are shown one by one, as the program takes one unit. Compared are the level, the offset and the tag
+of each entry, the names of its attributes in their order, and each value that readelf tells as the number
+that stands there. The status is 0 where all agree, else 1.
 """
 
+import bisect
 import os
 import re
 import subprocess
@@ -39,25 +41,58 @@ def by_readelf(file):
         if entry:
             entries.append([(int(entry[1]) + 1, int(entry[2], 16), entry[3])])
         elif attribute and entries:
-            entries[-1].append((attribute[1], number(attribute[2].strip())))
+            text = attribute[2].strip()
+            entries[-1].append((attribute[1], number(text), text.startswith("<")))
     return entries
 
 
+def units(info):
+    """The units of version 5 of a section, each with the offset at which it begins."""
+    at = 0
+    while at < len(info):
+        length, size = int.from_bytes(info[at : at + 4], "little"), 4
+        if length == 0xFFFFFFFF:
+            length, size = int.from_bytes(info[at + 4 : at + 12], "little"), 12
+        end = at + size + length
+        if info[at + size : at + size + 2] == b"\x05\x00":
+            yield at, info[at:end]
+        at = end
+
+
 def by_show(program, file):
-    """The same as `dwarf show` tells them."""
+    """The same as `dwarf show` tells them, and where the units lie."""
+    entries, places = [], []
     with tempfile.TemporaryDirectory() as room:
         subprocess.run(["sh", SECTIONS, file, room], check=True)
-        words = [program, "show", "--info", f"{room}/debug_info", "--abbrev", f"{room}/debug_abbrev"]
-        told = subprocess.run(words, stdout=subprocess.PIPE, check=True)
+        with open(f"{room}/debug_info", "rb") as it:
+            info = it.read()
+        for start, unit in units(info):
+            with open(f"{room}/unit", "wb") as it:
+                it.write(unit)
+            words = [program, "show", "--info", f"{room}/unit", "--abbrev", f"{room}/debug_abbrev"]
+            told = subprocess.run(words, stdout=subprocess.PIPE, check=True)
+            entries += shown(told.stdout.decode(), start)
+            places.append(range(start, start + len(unit)))
+    return entries, places
+
+
+def shown(text, start):
+    """The entries in the text of a unit that begins at `start`."""
     entries = []
-    for line in told.stdout.decode().splitlines()[1:]:
+    for line in text.splitlines()[1:]:
         entry = re.match(r"<(\d+)> (0x[0-9a-f]+) (\w+)$", line)
         if entry:
-            entries.append([(int(entry[1]), int(entry[2], 16), entry[3])])
+            entries.append([(int(entry[1]), start + int(entry[2], 16), entry[3])])
         else:
             name, _, value = line.strip().partition(" ")
             entries[-1].append((name, number(value)))
     return entries
+
+
+def place_of(places, offset):
+    """Where the unit lies that has the offset, or None."""
+    place = places[bisect.bisect(places, offset, key=lambda it: it.start) - 1]
+    return place if offset in place else None
 
 
 def same_name(ours, theirs):
@@ -65,7 +100,7 @@ def same_name(ours, theirs):
     return ours == theirs or re.match(r"DW_(AT|TAG)_0x", ours)
 
 
-def differences(ours, theirs):
+def differences(ours, theirs, places):
     """What the two tell otherwise, and how many values were compared."""
     lines, values = [], 0
     if len(ours) != len(theirs):
@@ -74,12 +109,14 @@ def differences(ours, theirs):
         same = head[:2] == their_head[:2] and same_name(head[2], their_head[2])
         if not same or len(attributes) != len(their_attributes):
             lines.append(f"{head} with {len(attributes)} attributes, {their_head} with {len(their_attributes)} by readelf")
-        for (name, value), (their_name, their_value) in zip(attributes, their_attributes):
+        start = place_of(places, head[1]).start
+        for (name, value), (their_name, their_value, refers) in zip(attributes, their_attributes):
             if not same_name(name, their_name):
                 lines.append(f"{head}: {name}, {their_name} by readelf")
             elif value is not None and their_value is not None:
                 values += 1
-                if value != their_value:
+                # (readelf adds the unit's place to a reference that counts from there)
+                if value != their_value and not (refers and value + start == their_value):
                     lines.append(f"{head}: {name} {value:#x}, {their_value:#x} by readelf")
     return lines, values
 
@@ -87,12 +124,14 @@ def differences(ours, theirs):
 def main(program, files):
     status = 0
     for file in files:
-        ours, theirs = by_show(program, file), by_readelf(file)
-        lines, values = differences(ours, theirs)
+        ours, places = by_show(program, file)
+        theirs = [it for it in by_readelf(file) if places and place_of(places, it[0][1])]
+        lines, values = differences(ours, theirs, places)
         for line in lines[:20]:
             print(f"{file}: {line}")
         attributes = sum(len(it) - 1 for it in ours)
-        print(f"{file}: {len(ours)} entries, {attributes} attributes, {values} values compared, {len(lines)} differences")
+        counts = f"{len(places)} units, {len(ours)} entries, {attributes} attributes, {values} values compared"
+        print(f"{file}: {counts}, {len(lines)} differences")
         status = 1 if lines or not ours else status
     return status
 
