@@ -6,7 +6,8 @@ Usage: scripts/compare.py PROGRAM FILE..
 PROGRAM is the built `dwarf` (crates/dwarf/out/dwarf). Each FILE is linked and little-endian. Its units of
 version 5 are shown one by one, as the program takes one unit. Compared are the level, the offset and the tag
 of each entry, the names of its attributes in their order, and each value that readelf tells as the number
-that stands there. The status is 0 where all agree, else 1.
+that stands there. A name that the program prints as a number is passed over. The status is 0 where all agree,
+else 1.
 """
 
 import bisect
@@ -18,7 +19,7 @@ import tempfile
 
 SECTIONS = os.path.join(os.path.dirname(os.path.abspath(__file__)), "sections.sh")
 
-# What readelf writes in front of the number that stands in the unit.
+# How readelf writes a number that stands in the unit.
 NUMBER = re.compile(
     r"(?:\((?:indirect string, offset|indirect line string, offset|indexed string|index): (0x[0-9a-f]+|0)\)"
     r"|<(0x[0-9a-f]+)>|(0x[0-9a-f]+|-?[0-9]+)(?:\s+\(.*\))?\s*$)"

@@ -6,7 +6,8 @@ Usage: scripts/measure.py PROGRAM [COUNT]
 PROGRAM is the built `dwarf` (crates/dwarf/out/dwarf). A C program of COUNT structures and as many functions
 (12,000 by default) is written, compiled as one unit by each compiler that is there, and copied. Printed are
 the size of the section, the time, the peak memory of the process, and that peak by the section's bytes. The
-status is 1 where a copy differs from the section or takes more than 24 bytes a byte, else 0.
+status is 1 where a copy differs from the section or takes more than 24 bytes a byte, or no compiler is there,
+else 0.
 """
 
 import os
@@ -14,7 +15,6 @@ import shutil
 import subprocess
 import sys
 import tempfile
-import time
 
 SECTIONS = os.path.join(os.path.dirname(os.path.abspath(__file__)), "sections.sh")
 
@@ -40,19 +40,21 @@ def source(count):
 
 def copied(program, room):
     """The seconds and the peak memory in bytes that a copy takes, and whether it has the section's bytes."""
-    began = time.monotonic()
+    words = [program, "copy", "--info", f"{room}/debug_info", "--abbrev", f"{room}/debug_abbrev"]
+    # (a process that Python starts begins with Python's own peak, so another counts)
+    counted = ["time", "-f", "%e %M", "-o", f"{room}/counted"]
     with open(f"{room}/copy", "wb") as out:
-        words = [program, "copy", "--info", f"{room}/debug_info", "--abbrev", f"{room}/debug_abbrev"]
-        child = subprocess.Popen(words, stdout=out)
-        _, status, used = os.wait4(child.pid, 0)
-    seconds = time.monotonic() - began
+        ran = subprocess.run([*counted, *words], stdout=out)
+    with open(f"{room}/counted") as it:
+        seconds, kilobytes = it.read().split()[-2:]
     with open(f"{room}/debug_info", "rb") as section, open(f"{room}/copy", "rb") as copy:
-        return seconds, used.ru_maxrss * 1024, status == 0 and section.read() == copy.read()
+        return float(seconds), int(kilobytes) * 1024, ran.returncode == 0 and section.read() == copy.read()
 
 
-def main(program, count):
-    worst = 0
-    for compiler in (it for it in COMPILERS if shutil.which(it[0])):
+def main(program, count=12000):
+    there = [it for it in COMPILERS if shutil.which(it[0])]
+    worst = 0 if there else 1
+    for compiler in there:
         with tempfile.TemporaryDirectory() as room:
             with open(f"{room}/large.c", "w") as it:
                 it.write(source(count))
@@ -70,4 +72,4 @@ def main(program, count):
 if __name__ == "__main__":
     if len(sys.argv) not in (2, 3):
         sys.exit(__doc__)
-    sys.exit(main(sys.argv[1], int(sys.argv[2]) if len(sys.argv) == 3 else 12000))
+    sys.exit(main(sys.argv[1], *map(int, sys.argv[2:])))

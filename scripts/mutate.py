@@ -3,10 +3,11 @@
 
 Usage: scripts/mutate.py PROGRAM [COUNT [SEED]]
 
-PROGRAM is the built `dwarf` (crates/dwarf/out/dwarf). COUNT times (600 by default) the sections of an example
-get a few bytes changed, put in, taken out or cut off, and `copy` and `show` read them. Both have to accept,
-and then `copy` writes the very bytes of .debug_info and `show` the unit; or both have to refuse with status 1,
-nothing on standard output and the same line on standard error. The status is 0 where all is so, else 1.
+PROGRAM is the built `dwarf` (crates/dwarf/out/dwarf). COUNT times (600 by default) .debug_info of an example,
+and at times .debug_abbrev too, gets a few bytes changed, put in, taken out or cut off, and `copy` and `show`
+read them. Both have to accept, and then `copy` writes the very bytes of .debug_info and `show` the unit; or
+both have to refuse with status 1, nothing on standard output and the same line on standard error. The status
+is 0 where all is so, else 1.
 """
 
 import os
@@ -57,16 +58,17 @@ def mistake(info, copy, show):
 
 def tried(program, sections, chance, room):
     """Writes mutated sections into the room; gives what is wrong with the answers, and whether they accept."""
-    for name, section in sections.items():
-        changed = mutated(section, chance) if name == "debug_info" or chance.random() < 0.3 else section
+    info, abbrev = mutated(sections["debug_info"], chance), sections["debug_abbrev"]
+    if chance.random() < 0.3:
+        abbrev = mutated(abbrev, chance)
+    for name, section in [("debug_info", info), ("debug_abbrev", abbrev)]:
         with open(f"{room}/{name}", "wb") as it:
-            it.write(changed)
-        sections = {**sections, name: changed}
+            it.write(section)
     copy = answer(program, "copy", room)
-    return mistake(sections["debug_info"], copy, answer(program, "show", room)), copy[0] == 0
+    return mistake(info, copy, answer(program, "show", room)), copy[0] == 0
 
 
-def main(program, count, seed):
+def main(program, count=600, seed=1):
     chance = random.Random(seed)
     examples = []
     for name in sorted(os.listdir(EXAMPLES)):
@@ -88,5 +90,4 @@ def main(program, count, seed):
 if __name__ == "__main__":
     if len(sys.argv) not in (2, 3, 4):
         sys.exit(__doc__)
-    given = [int(it) for it in sys.argv[2:]]
-    sys.exit(main(sys.argv[1], *given, *[600, 1][len(given) :]))
+    sys.exit(main(sys.argv[1], *map(int, sys.argv[2:])))

@@ -27,11 +27,15 @@ pub const PADDED: [u8; 23] = [
 /// Code 1, DW_TAG_compile_unit, children, no attributes.
 pub const BARE: [u8; 6] = [0x01, 0x11, 1, 0, 0, 0];
 
+/// A little-endian unit at the front of `b`, over the table that its header names in `section`, and the
+/// count of its bytes.
 pub fn little(alloc: Global, section: &[u8], b: &[u8]) -> Result<(Unit, usize), ReadError> {
     let mut tables = Tables::new(alloc, section);
     read_unit(alloc, Order::Little, &mut tables, b)
 }
 
+/// The fault for which a unit at the front of `b` is refused. None where it is read, and where memory is
+/// refused.
 pub fn refusal(alloc: Global, order: Order, section: &[u8], b: &[u8]) -> Option<Fault> {
     let mut tables = Tables::new(alloc, section);
     match read_unit(alloc, order, &mut tables, b) {
@@ -40,6 +44,7 @@ pub fn refusal(alloc: Global, order: Order, section: &[u8], b: &[u8]) -> Option<
     }
 }
 
+/// A fault in `.debug_info`.
 pub fn in_info(offset: u64, reason: Reason) -> Option<Fault> {
     Some(Fault {
         section: Section::Info,
@@ -48,6 +53,7 @@ pub fn in_info(offset: u64, reason: Reason) -> Option<Fault> {
     })
 }
 
+/// The bytes of a unit, as it is written.
 pub fn written(alloc: Global, unit: &Unit) -> Result<Vec<u8>, WriteError> {
     let mut writer = Watched::new(Vec::new(alloc));
     write_unit(unit, &mut writer)?;

@@ -1,4 +1,5 @@
-//! Tests of the public calls of `dw_unit`, over the library: there they would have it proved twice.
+//! Tests of the public calls of `dw_unit`. They are a crate of their own, since a crate with tests is
+//! proved twice.
 #![tactic(auto)]
 
 #[cfg(test)]
