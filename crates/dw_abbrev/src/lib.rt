@@ -2,8 +2,6 @@
 #![tactic(auto)]
 
 mod builder;
-#[cfg(test)]
-mod builder_tests;
 mod decl;
 mod fields;
 pub mod laws;
@@ -11,8 +9,6 @@ mod pair;
 mod refusal;
 mod table;
 mod tables;
-#[cfg(test)]
-mod tests;
 
 pub use builder::TableBuilder;
 pub use decl::Decl;

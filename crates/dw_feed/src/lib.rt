@@ -4,7 +4,5 @@
 mod bytes;
 pub mod laws;
 mod reader;
-#[cfg(test)]
-mod tests;
 
 pub use reader::read_unit_from;

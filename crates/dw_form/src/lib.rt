@@ -16,18 +16,12 @@
 #![tactic(auto)]
 
 mod fit;
-#[cfg(test)]
-mod fit_tests;
-#[cfg(test)]
-mod form_tests;
 pub mod laws;
 mod lend;
 mod read;
 mod shape;
 mod span;
 mod stored;
-#[cfg(test)]
-mod tests;
 mod value;
 mod via;
 mod write;

@@ -7,8 +7,6 @@ mod head;
 mod header;
 mod kind;
 pub mod laws;
-#[cfg(test)]
-mod tests;
 mod writer;
 
 pub use head::read_header;

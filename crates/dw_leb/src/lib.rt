@@ -19,8 +19,6 @@ mod initial;
 pub mod laws;
 mod order;
 mod signed;
-#[cfg(test)]
-mod tests;
 mod transfer;
 mod unsigned;
 mod watch;

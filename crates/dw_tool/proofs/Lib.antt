@@ -1,5 +1,2 @@
 pub mod Appending
-pub mod Filled
-pub mod Helpless
-pub mod Subcommands
 pub mod Running

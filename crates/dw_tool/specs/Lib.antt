@@ -1,4 +1,3 @@
-pub mod Line
 pub mod Names
 pub mod Text
 pub mod Show

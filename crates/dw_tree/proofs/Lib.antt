@@ -20,5 +20,3 @@ pub mod Spelled
 pub mod WriteLemmas
 pub mod Written
 pub mod FindRows
-pub mod SampleTables
-pub mod SampleSteps

@@ -17,6 +17,5 @@ pub mod DraftView
 pub mod TreeView
 pub mod Lent
 pub mod Ends
-pub mod Samples
 pub mod Standing
 pub mod Held

@@ -8,8 +8,6 @@ mod entry;
 mod find;
 mod preorder;
 mod row;
-#[cfg(test)]
-mod tests;
 mod tree;
 mod write;
 

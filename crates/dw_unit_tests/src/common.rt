@@ -1,11 +1,23 @@
 //! Sections, units and calls that several tests begin with.
 use dw_abbrev::Tables;
+use dw_form::Value;
 use dw_leb::{Fault, Order, ReadError, Reason, Section, Watched, WriteError};
-use dw_unit::{Unit, read_unit, write_unit};
+use dw_unit::{AttrRef, Unit, read_unit, write_unit};
 use std::alloc::Global;
 
 /// One declaration: code 1, DW_TAG_compile_unit, no children, DW_AT_name as DW_FORM_string.
 pub const NAMED: [u8; 8] = [0x01, 0x11, 0, 0x03, 0x08, 0, 0, 0];
+
+/// A compile unit of the name "a".
+pub const FIFTEEN: [u8; 15] = [
+    0x0b, 0, 0, 0, 0x05, 0, 0x01, 0x08, 0, 0, 0, 0, 0x01, 0x61, 0,
+];
+
+/// The same in the 64-bit format (section 7.4).
+pub const SIXTY_FOUR: [u8; 27] = [
+    0xff, 0xff, 0xff, 0xff, 0x0f, 0, 0, 0, 0, 0, 0, 0, 0x05, 0, 0x01, 0x08, 0, 0, 0, 0, 0, 0, 0, 0,
+    0x01, 0x61, 0,
+];
 
 /// Code 1, DW_TAG_compile_unit, children, DW_AT_name as DW_FORM_string; code 2, DW_TAG_base_type, no
 /// children, DW_AT_byte_size as DW_FORM_data1.
@@ -58,4 +70,20 @@ pub fn written(alloc: Global, unit: &Unit) -> Result<Vec<u8>, WriteError> {
     let mut writer = Watched::new(Vec::new(alloc));
     write_unit(unit, &mut writer)?;
     Ok(writer.into_inner())
+}
+
+/// The bytes of a text.
+pub fn text_of<'a>(attr: &AttrRef<'a>) -> Option<&'a [u8]> {
+    match attr.attr.value {
+        Value::Text(text) => Some(text),
+        _ => None,
+    }
+}
+
+/// A fixed number of at most eight bytes.
+pub fn number_of(attr: &AttrRef<'_>) -> Option<u64> {
+    match attr.attr.value {
+        Value::Num(number) => Some(number),
+        _ => None,
+    }
 }

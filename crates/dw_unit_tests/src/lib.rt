@@ -1,5 +1,5 @@
-//! Tests of the public calls of `dw_unit`. They are a crate of their own, since a crate with tests is
-//! proved twice.
+//! Tests of trees, units and the reading of units from readers. They are a crate of their own, since a
+//! crate with tests is proved twice.
 #![tactic(auto)]
 
 #[cfg(test)]
@@ -13,7 +13,11 @@ mod drafts;
 #[cfg(test)]
 mod entries;
 #[cfg(test)]
+mod feeds;
+#[cfg(test)]
 mod kinds;
+#[cfg(test)]
+mod tree_drafts;
 #[cfg(test)]
 mod trees;
 #[cfg(test)]

@@ -1,25 +1,16 @@
 //! What no clause says: units whose values are known from the standard, each call once with memory
 //! to spare, and writers that take little or fail.
-use crate::common::{NAMED, in_info, little, refusal, written};
+use crate::common::{
+    FIFTEEN, NAMED, SIXTY_FOUR, in_info, little, number_of, refusal, text_of, written,
+};
 use dw_abbrev::Tables;
 use dw_form::Value;
 use dw_leb::devices::Stepped;
 use dw_leb::{Fault, Format, Order, Reason, Section, Watched, WriteError};
-use dw_unit::{AttrRef, Kind, read_header, read_unit, write_unit};
+use dw_unit::{Kind, read_header, read_unit, write_unit};
 use std::alloc::{AllocError, Global};
 use std::io::ErrorKind;
 use std::test::Fail;
-
-/// A compile unit of the name "a".
-const FIFTEEN: [u8; 15] = [
-    0x0b, 0, 0, 0, 0x05, 0, 0x01, 0x08, 0, 0, 0, 0, 0x01, 0x61, 0,
-];
-
-/// The same in the 64-bit format (section 7.4).
-const SIXTY_FOUR: [u8; 27] = [
-    0xff, 0xff, 0xff, 0xff, 0x0f, 0, 0, 0, 0, 0, 0, 0, 0x05, 0, 0x01, 0x08, 0, 0, 0, 0, 0, 0, 0, 0,
-    0x01, 0x61, 0,
-];
 
 /// A type unit of the name "a", of a signature, whose type stands at 24.
 const TYPE_UNIT: [u8; 27] = [
@@ -47,20 +38,6 @@ fn in_abbrev(offset: u64, reason: Reason) -> Option<Fault> {
         offset,
         reason,
     })
-}
-
-fn text_of<'a>(attr: &AttrRef<'a>) -> Option<&'a [u8]> {
-    match attr.attr.value {
-        Value::Text(text) => Some(text),
-        _ => None,
-    }
-}
-
-fn number_of(attr: &AttrRef<'_>) -> Option<u64> {
-    match attr.attr.value {
-        Value::Num(number) => Some(number),
-        _ => None,
-    }
 }
 
 #[test]

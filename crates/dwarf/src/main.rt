@@ -4,8 +4,8 @@
 #![tactic(auto)]
 
 use dw_leb::{Fault, Section, Watched};
-use dw_tool::command::{Line, LineError};
-use dw_tool::line::line;
+use dw_line::line::line;
+use dw_line::outcome::{Line, LineError};
 use dw_tool::run::{Inputs, run};
 use dw_tool::status::ToolError;
 use std::io::{BufWriter, ErrorKind, Write};

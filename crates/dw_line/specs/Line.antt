@@ -1,0 +1,102 @@
+-- The command line: what the program takes, and what a line says.
+use Rattle.std.specs.Prelude.{◌≡◌, ◌≢◌, ◌⊎◌, true, List, Option, Some, is_some, codes, false, if◌then◌else◌}
+use Rattle.std.specs.Option.{option_map_or}
+use Rattle.std.specs.Str.{bytes_eq}
+use Rattle.clap.specs.Words.{App, Row, Rule, Text, first_of, new_app, new_rule, subcommand_of, with_rule, with_subcommand}
+use Rattle.clap.specs.Faults.{fault_of}
+use Rattle.clap.specs.Kinds.{IsAmong, Kinds}
+use Rattle.clap.specs.Values.{kind_of}
+use Rattle.clap.specs.Simple.{on_top}
+use Rattle.clap.specs.declared.builder.action.ArgAction.TheVariants.{Set, SetTrue}
+use Rattle.clap.specs.declared.error.Error.{Error}
+use Rattle.clap.specs.declared.error.kind.ErrorKind.TheVariants.{OutOfMemory}
+use Rattle.dw_leb.specs.declared.order.Order.{Order}
+use Rattle.dw_leb.specs.declared.order.Order.TheVariants.{Little, Big}
+use Rattle.dw_tool.specs.declared.command.Command.{Command}
+use Rattle.dw_tool.specs.declared.command.Command.TheVariants as command
+use Rattle.dw_line.specs.declared.outcome.Line.{Line}
+use Rattle.dw_line.specs.declared.outcome.LineError.{LineError}
+use Rattle.dw_line.specs.declared.outcome.LineError.TheVariants.{Parse, Memory}
+
+-- ---- what the program takes
+
+-- an option that has to be there, with a path
+abbrev pub path_option : Text → Rule
+path_option name = record (new_rule name) {
+  long = Some name;
+  action = Some Set;
+  required = true;
+  value_names = 1;
+}
+
+abbrev pub big_flag : Rule
+big_flag = record (new_rule (codes "big")) { long = Some (codes "big"); action = Some SetTrue }
+
+-- a subcommand, with the options that each has
+abbrev pub subcommand : Text → App
+subcommand name =
+    with_rule (with_rule (with_rule (new_app name) (path_option (codes "info")))
+    (path_option (codes "abbrev"))) big_flag
+
+-- the program without its subcommands: one of them has to be there
+abbrev pub bare_program : App
+bare_program = on_top (λ s. record s {
+  no_binary_name = true;
+  subcommand_required = true;
+}) (new_app (codes "dwarf"))
+
+abbrev pub program : App
+program = with_subcommand (with_subcommand bare_program (subcommand (codes "show")).top)
+    (subcommand (codes "copy")).top
+
+-- ---- what a line says
+
+abbrev pub name_of : Command → Text
+name_of command.Show = codes "show"
+name_of command.Copy = codes "copy"
+
+abbrev pub IsName : Text → Type 0
+IsName name = (name ≡ codes "show") ⊎ (name ≡ codes "copy")
+
+-- `--big` was given
+abbrev pub order_by : Option Text → Order
+order_by flag = if option_map_or (λ value. bytes_eq value (codes "true")) flag false then Big else Little
+
+-- the line is what the matches of a subcommand say
+pub record SaysBy (matches : Option (Text × List Row)) (line : Line) : Type 0 where
+  pub rows : List Row
+  pub matched : matches ≡ Some (name_of line.command, rows)
+  pub info : first_of (codes "info") rows ≡ Some line.info.now
+  pub abbreviations : first_of (codes "abbrev") rows ≡ Some line.abbrev.now
+  pub order : line.order ≡ order_by (first_of (codes "big") rows)
+
+-- the line is what the exact matches of the words say
+abbrev pub Says : List Text → Line → Type 0
+Says words line = SaysBy (subcommand_of program words) line
+
+-- the options that have to be there have values
+pub record HasPaths (rows : List Row) : Type 0 where
+  pub info : is_some (first_of (codes "info") rows) ≡ true
+  pub abbreviations : is_some (first_of (codes "abbrev") rows) ≡ true
+
+-- one of the subcommands was met, with the options that it wants
+pub record Meets (matches : Option (Text × List Row)) : Type 0 where
+  pub name : Text
+  pub rows : List Row
+  pub matched : matches ≡ Some (name, rows)
+  pub known : IsName name
+  pub paths : HasPaths rows
+
+-- why the words aren't taken: the kinds of the first step that fails, none where they are taken
+abbrev pub refusals : List Text → Kinds
+refusals words = fault_of program words
+
+-- the parser's own reason is told, and it isn't want of memory
+abbrev pub Refuses : Kinds → LineError → Type 0
+Refuses kinds (Parse e) = IsAmong (kind_of e) kinds × (kind_of e ≢ OutOfMemory)
+Refuses kinds Memory = Unit {0}
+
+-- a parser's error as one of a line
+abbrev pub Converts : Error → LineError → Type 0
+Converts e (Parse f) = (f ≡ e) × (kind_of e ≢ OutOfMemory)
+Converts e Memory = kind_of e ≡ OutOfMemory

@@ -1,0 +1,5 @@
+//! The command line of the program over debugging entries.
+#![tactic(auto)]
+
+pub mod line;
+pub mod outcome;

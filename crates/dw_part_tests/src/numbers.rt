@@ -1,0 +1,226 @@
+//! What no clause of `dw_leb` says of numbers: values from outside, and each call once.
+use dw_leb::laws::{one_outcome, one_spelling, outcomes_are_stable};
+use dw_leb::{
+    Bad, Format, Order, Reason, Sleb, Uleb, read_fixed, read_length, write_fixed, write_length,
+};
+use std::process::Abort;
+
+/// What one read of the number at the front gives, which is then written back.
+fn unsigned(rt: &impl Abort, b: &[u8], lim: u64) -> Result<(u64, u8), Reason> {
+    let x = Uleb::read(b, lim)?;
+    assert_eq!(rt; x.bytes().as_slice(), b);
+    assert_eq!(rt; Uleb::with_width(x.value, x.width), Some(x));
+    Ok((x.value, x.width))
+}
+
+#[test]
+fn unsigned_numbers(rt: HostRuntime) {
+    let most = [255, 255, 255, 255, 255, 255, 255, 255, 255, 1];
+    assert_eq!(rt; unsigned(&rt, &most, 100), Ok((18446744073709551615, 10)));
+    let above = [255, 255, 255, 255, 255, 255, 255, 255, 255, 2];
+    assert_eq!(rt; unsigned(&rt, &above, 100), Err(Reason::LebTooBig));
+    let endless = [128; 16];
+    assert_eq!(rt; unsigned(&rt, &endless, 100), Err(Reason::LebTooLong));
+    let mut padded = [128; 16];
+    padded[15] = 0;
+    assert_eq!(rt; unsigned(&rt, &padded, 100), Ok((0, 16)));
+    assert_eq!(rt; unsigned(&rt, &[128, 128], 2), Err(Reason::PastUnit));
+    assert_eq!(rt; unsigned(&rt, &[128, 128], 3), Err(Reason::Truncated));
+    // Examples of the standard's section 7.6.
+    assert_eq!(rt; unsigned(&rt, &[0x80, 1], 2), Ok((128, 2)));
+    assert_eq!(rt; unsigned(&rt, &[0xb9, 0x64], 2), Ok((12857, 2)));
+}
+
+#[test]
+fn unsigned_widths(rt: HostRuntime) {
+    for (value, width) in [(0, 1), (127, 1), (128, 2), (12857, 2), (u64::MAX, 10)] {
+        assert_eq!(rt; Uleb::least(value).width, width, "of {value}");
+        assert_eq!(rt; Uleb::least(value).value, value);
+    }
+    assert_eq!(rt; Uleb::with_width(128, 1), None);
+    assert_eq!(rt; Uleb::with_width(1, 0), None);
+    assert_eq!(rt; Uleb::with_width(1, 17), None);
+    let padded = Uleb::with_width(1, 2).map(|x| x.bytes());
+    assert_eq!(rt; padded.is_some(), true);
+    if let Some(bytes) = padded {
+        assert_eq!(rt; bytes.as_slice(), [0x81, 0].as_slice());
+    }
+}
+
+/// What one read of the number at the front gives, which is then written back.
+fn signed(rt: &impl Abort, b: &[u8], lim: u64) -> Result<(i64, u8), Reason> {
+    let x = Sleb::read(b, lim)?;
+    assert_eq!(rt; x.bytes().as_slice(), b);
+    assert_eq!(rt; Sleb::with_width(x.value, x.width), Some(x));
+    Ok((x.value, x.width))
+}
+
+#[test]
+fn signed_numbers(rt: HostRuntime) {
+    assert_eq!(rt; signed(&rt, &[0x7f], 1), Ok((-1, 1)));
+    assert_eq!(rt; signed(&rt, &[0xff, 0x7f], 2), Ok((-1, 2)));
+    assert_eq!(rt; signed(&rt, &[0x40], 1), Ok((-64, 1)));
+    assert_eq!(rt; signed(&rt, &[0xc0, 0], 2), Ok((64, 2)));
+    let low = [128, 128, 128, 128, 128, 128, 128, 128, 128, 0x7f];
+    assert_eq!(rt; signed(&rt, &low, 10), Ok((-9223372036854775808, 10)));
+    let above = [128, 128, 128, 128, 128, 128, 128, 128, 128, 1];
+    assert_eq!(rt; signed(&rt, &above, 10), Err(Reason::LebTooBig));
+    let endless = [255; 16];
+    assert_eq!(rt; signed(&rt, &endless, 100), Err(Reason::LebTooLong));
+    assert_eq!(rt; signed(&rt, &[255, 255], 2), Err(Reason::PastUnit));
+    assert_eq!(rt; signed(&rt, &[255, 255], 3), Err(Reason::Truncated));
+    // Examples of the standard's section 7.6.
+    assert_eq!(rt; signed(&rt, &[0xff, 0], 2), Ok((127, 2)));
+    assert_eq!(rt; signed(&rt, &[0x81, 0x7f], 2), Ok((-127, 2)));
+    assert_eq!(rt; signed(&rt, &[0x80, 0x7f], 2), Ok((-128, 2)));
+    assert_eq!(rt; signed(&rt, &[0xff, 0x7e], 2), Ok((-129, 2)));
+}
+
+#[test]
+fn signed_widths(rt: HostRuntime) {
+    for (value, width) in [
+        (0, 1),
+        (63, 1),
+        (64, 2),
+        (-64, 1),
+        (-65, 2),
+        (i64::MAX, 10),
+        (i64::MIN, 10),
+    ] {
+        assert_eq!(rt; Sleb::least(value).width, width, "of {value}");
+        assert_eq!(rt; Sleb::least(value).value, value);
+    }
+    assert_eq!(rt; Sleb::with_width(64, 1), None);
+    let wide = Sleb::with_width(64, 2).map(|x| x.bytes());
+    assert_eq!(rt; wide.is_some(), true);
+    if let Some(bytes) = wide {
+        assert_eq!(rt; bytes.as_slice(), [0xc0, 0].as_slice());
+    }
+}
+
+#[test]
+fn fixed_numbers(rt: HostRuntime) {
+    for (order, value) in [(Order::Little, 197121), (Order::Big, 66051)] {
+        assert_eq!(rt;
+            read_fixed(order, 3, &[1, 2, 3], 3),
+            Ok(value),
+            "in {order:?}"
+        );
+        assert_eq!(rt;
+            write_fixed(order, 3, value).as_slice(),
+            [1, 2, 3].as_slice()
+        );
+        assert_eq!(rt; read_fixed(order, 3, &[1, 2], 2), Err(Reason::PastUnit));
+        assert_eq!(rt; read_fixed(order, 3, &[1, 2], 3), Err(Reason::Truncated));
+        let most = [255; 16];
+        assert_eq!(rt; read_fixed(order, 16, &most, 16), Ok(u128::MAX));
+        assert_eq!(rt;
+            write_fixed(order, 16, u128::MAX).as_slice(),
+            most.as_slice()
+        );
+    }
+}
+
+/// What one read of the initial length at the front gives, which is then written back.
+fn length(rt: &impl Abort, order: Order, start: u64, b: &[u8]) -> Result<(Format, u64), Reason> {
+    let (format, n) = read_length(order, start, b)?;
+    if format == Format::Dwarf64 || n < 0xffff_fff0 {
+        assert_eq!(rt; write_length(order, format, n).as_slice(), b);
+    }
+    Ok((format, n))
+}
+
+#[test]
+fn initial_lengths(rt: HostRuntime) {
+    let narrow = Ok((Format::Dwarf32, 11));
+    assert_eq!(rt; length(&rt, Order::Little, 0, &[11, 0, 0, 0]), narrow);
+    assert_eq!(rt; length(&rt, Order::Big, 0, &[0, 0, 0, 11]), narrow);
+    let wide = Ok((Format::Dwarf64, 15));
+    let little = [255, 255, 255, 255, 15, 0, 0, 0, 0, 0, 0, 0];
+    assert_eq!(rt; length(&rt, Order::Little, 0, &little), wide);
+    let big = [255, 255, 255, 255, 0, 0, 0, 0, 0, 0, 0, 15];
+    assert_eq!(rt; length(&rt, Order::Big, 0, &big), wide);
+}
+
+/// Sections 7.2.2 and 7.4: the 64-bit format's initial length is an escape of 4 bytes and 8 bytes.
+#[test]
+fn sizes_of_the_formats(rt: HostRuntime) {
+    for (format, length, offset) in [(Format::Dwarf32, 4, 4), (Format::Dwarf64, 12, 8)] {
+        assert_eq!(rt; format.length_size(), length);
+        assert_eq!(rt; format.offset_size(), offset);
+    }
+}
+
+#[test]
+fn fields_behind_others(rt: HostRuntime) {
+    let field = Bad::here(Reason::BadVersion);
+    assert_eq!(rt; field.offset, 0);
+    let field = field.behind(4).behind(12);
+    assert_eq!(rt; field.offset, 16);
+    assert_eq!(rt; field.reason, Reason::BadVersion);
+}
+
+#[test]
+fn refused_lengths(rt: HostRuntime) {
+    let reserved = Err(Reason::ReservedLength);
+    assert_eq!(rt;
+        length(&rt, Order::Little, 0, &[0xf0, 255, 255, 255]),
+        reserved
+    );
+    assert_eq!(rt;
+        length(&rt, Order::Big, 0, &[255, 255, 255, 0xf0]),
+        reserved
+    );
+    let cut = Err(Reason::Truncated);
+    assert_eq!(rt;
+        length(&rt, Order::Little, 0, &[255, 255, 255, 255, 0]),
+        cut
+    );
+    assert_eq!(rt; length(&rt, Order::Little, 0, &[0xf0, 255, 255]), cut);
+    let too_big = Err(Reason::LengthTooBig);
+    assert_eq!(rt; length(&rt, Order::Little, 0, &[255; 12]), too_big);
+    // The field of four bytes and eleven more begin at `start`: their end is 2^63 - 1 at most.
+    let last = 9223372036854775807 - 15;
+    let narrow = Ok((Format::Dwarf32, 11));
+    assert_eq!(rt; length(&rt, Order::Little, last, &[11, 0, 0, 0]), narrow);
+    assert_eq!(rt;
+        length(&rt, Order::Little, last + 1, &[11, 0, 0, 0]),
+        too_big
+    );
+}
+
+#[test]
+fn numbers_of_reasons(rt: HostRuntime) {
+    for (reason, number) in [
+        (Reason::Truncated, 1),
+        (Reason::PastUnit, 2),
+        (Reason::ReservedLength, 3),
+        (Reason::BadVersion, 4),
+        (Reason::BadUnitType, 5),
+        (Reason::BadAddressSize, 6),
+        (Reason::LebTooLong, 7),
+        (Reason::LebTooBig, 8),
+        (Reason::NoRoot, 9),
+        (Reason::UnknownCode, 10),
+        (Reason::UnknownForm, 11),
+        (Reason::BadIndirect, 12),
+        (Reason::TooDeep, 13),
+        (Reason::SecondRoot, 14),
+        (Reason::AbbrevOffset, 15),
+        (Reason::BadChildren, 16),
+        (Reason::HalfPair, 17),
+        (Reason::DuplicateCode, 18),
+        (Reason::TooManyPairs, 19),
+        (Reason::LengthTooBig, 20),
+        (Reason::NotYet, 21),
+    ] {
+        assert_eq!(rt; reason as u8, number, "of {reason:?}");
+    }
+}
+
+#[test]
+fn laws_are_called() {
+    one_spelling();
+    one_outcome();
+    outcomes_are_stable();
+}

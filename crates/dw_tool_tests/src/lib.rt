@@ -1,0 +1,14 @@
+//! Tests of the command line, and of what the program writes. They are a crate of their own, since a
+//! crate with tests is proved twice.
+#![tactic(auto)]
+
+#[cfg(test)]
+mod compilers;
+#[cfg(test)]
+mod examples;
+#[cfg(test)]
+mod lines;
+#[cfg(test)]
+mod runs;
+#[cfg(test)]
+mod texts;

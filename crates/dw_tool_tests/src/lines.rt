@@ -1,0 +1,109 @@
+//! Command lines that are taken, and mistakes.
+use dw_leb::Order;
+use dw_line::line::line;
+use dw_line::outcome::{Line, LineError};
+use dw_tool::command::Command;
+use std::alloc::Global;
+
+#[test]
+fn reads_a_line(rt: HostRuntime) {
+    let shown = line(rt.alloc(), &["show", "--info", "a", "--abbrev", "b"]).ok();
+    assert!(rt;
+        shown
+            == Some(Line {
+                command: Command::Show,
+                order: Order::Little,
+                info: "a",
+                abbrev: "b",
+            })
+    );
+    let copied = line(rt.alloc(), &["copy", "--abbrev=b", "--big", "--info=a"]).ok();
+    assert!(rt;
+        copied
+            == Some(Line {
+                command: Command::Copy,
+                order: Order::Big,
+                info: "a",
+                abbrev: "b",
+            })
+    );
+}
+
+#[test]
+fn takes_an_empty_path_and_a_lone_hyphen(rt: HostRuntime) {
+    let taken = line(rt.alloc(), &["show", "--info=", "--abbrev", "-"]).ok();
+    assert!(rt;
+        taken
+            == Some(Line {
+                command: Command::Show,
+                order: Order::Little,
+                info: "",
+                abbrev: "-",
+            })
+    );
+}
+
+// What the program should exit with.
+fn status(outcome: Result<Line<'_>, LineError>) -> i32 {
+    match outcome {
+        Ok(_) => 0,
+        Err(LineError::Parse(error)) => error.exit_code(),
+        Err(LineError::Memory) => 4,
+    }
+}
+
+// The words are a mistake.
+fn is_mistake(alloc: Global, words: &[&str]) -> bool {
+    status(line(alloc, words)) == 2
+}
+
+#[test]
+fn refuses_other_words(rt: HostRuntime) {
+    let alloc = rt.alloc();
+    assert!(rt; is_mistake(alloc, &[]));
+    assert!(rt; is_mistake(alloc, &["--version"]));
+    assert!(rt; is_mistake(alloc, &["sho", "--info", "a", "--abbrev", "b"]));
+    assert!(rt; is_mistake(alloc, &["show"]));
+    assert!(rt; is_mistake(alloc, &["show", "--info", "a"]));
+    assert!(rt; is_mistake(alloc, &["show", "--info", "a", "--abbrev"]));
+    assert!(rt;
+        is_mistake(
+            alloc,
+            &["show", "--info", "a", "--info", "a", "--abbrev", "b"]
+        )
+    );
+    assert!(rt;
+        is_mistake(
+            alloc,
+            &["show", "--info", "a", "--abbrev", "b", "--big", "--big"]
+        )
+    );
+    assert!(rt;
+        is_mistake(
+            alloc,
+            &["show", "--info", "a", "--abbrev", "b", "--big=true"]
+        )
+    );
+    assert!(rt; is_mistake(alloc, &["show", "--inf", "a", "--abbrev", "b"]));
+    assert!(rt; is_mistake(alloc, &["--info", "a", "show", "--abbrev", "b"]));
+    assert!(rt; is_mistake(alloc, &["--big", "show", "--info", "a", "--abbrev", "b"]));
+    assert!(rt; is_mistake(alloc, &["show", "--info", "a", "--abbrev", "b", "word"]));
+    assert!(rt; is_mistake(alloc, &["show", "--info", "a", "--abbrev", "b", "-"]));
+    assert!(rt; is_mistake(alloc, &["help", "word"]));
+}
+
+#[test]
+fn tells_help_from_mistakes(rt: HostRuntime) {
+    let asked: [&[&str]; 5] = [
+        &["--help"],
+        &["-h"],
+        &["copy", "--help"],
+        &["help"],
+        &["help", "show"],
+    ];
+    for words in asked {
+        let outcome = line(rt.alloc(), words);
+        assert!(rt; outcome.is_err());
+        assert!(rt; status(outcome) == 0, "{words:?}");
+    }
+}

@@ -1,0 +1,2 @@
+pub mod SampleTables
+pub mod SampleSteps

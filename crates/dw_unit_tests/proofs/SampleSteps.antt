@@ -1,0 +1,108 @@
+-- The steps of the tests, over their tables.
+use Rattle.std.proofs.Common.{◌≡◌, ◌≢◌, ℕ, zero, suc, ◌+◌, ◌<◌, ◌≤◌, List, [], ◌∷◌, length, refl, sym, ap, arith, None, add-one}
+use Rattle.std.specs.Prelude.{IsSome, IfSome}
+use Rattle.dw_form.specs.Form.{attribute, shaped, shape}
+use Rattle.dw_tree.specs.Tree.{Forest, nesting}
+use Rattle.dw_tree.specs.Place.{Frame, Spot, nowhere, enter, leave_from}
+use Rattle.dw_tree.specs.Steps.{Growing, begun_at, begun_in, begun_value, started, extended, ended, closed_at, NextFits, next_bytes, finished}
+use Rattle.dw_unit_tests.specs.Samples.{two_codes, bare_code, little, wide, a_name, a_size, with_name}
+
+-- ---- the value of an entry that was just begun
+
+module _ (g : Growing) (w : ℕ) (context : g.context ≡ little) (table : g.table ≡ two_codes) where
+  pub name_fits : NextFits g.context g.table (begun_at (wide 1 w) g).place.reading a_name
+  unfolding attribute shaped shape
+  name_fits = rw (context, table) (omega arith, tt)
+
+  pub name_size : 2 ≡ length (next_bytes g.context g.table (begun_at (wide 1 w) g).place.reading a_name)
+  unfolding attribute shaped shape
+  name_size = rw (context, table) refl
+
+  pub name_alone : begun_in (begun_at (wide 1 w) g).place.reading ≡ None
+  name_alone = rw table refl
+
+  pub size_alone : begun_in (begun_at (wide 2 w) g).place.reading ≡ None
+  size_alone = rw table refl
+
+  pub size_fits : NextFits g.context g.table (begun_at (wide 2 w) g).place.reading a_size
+  unfolding attribute shaped shape
+  size_fits = rw (context, table) (omega arith)
+
+  pub size_size : 1 ≡ length (next_bytes g.context g.table (begun_at (wide 2 w) g).place.reading a_size)
+  unfolding attribute shaped shape
+  size_size = rw (context, table) refl
+
+-- ---- a name that comes in two pieces, of which the first is empty
+
+module _ (g : Growing) (context : g.context ≡ little) (table : g.table ≡ two_codes) where
+  abbrev pub started_name : Growing
+  started_name = started None None (begun_at (wide 1 1) g)
+
+  abbrev pub whole_name : Growing
+  whole_name = extended (0x61 ∷ []) (extended [] started_name)
+
+  pub name_is_read : IsSome (begun_at (wide 1 1) g).place.reading
+  name_is_read = rw table refl
+
+  pub name_begins : IsSome (begun_in started_name.place.reading)
+  name_begins = rw table refl
+
+  pub name_goes_on : IsSome (begun_in (extended [] started_name).place.reading)
+  name_goes_on = rw table refl
+
+  pub pieces_fit : IfSome (begun_in whole_name.place.reading) (λ b. NextFits g.context g.table whole_name.place.reading (begun_value b))
+  unfolding attribute shaped shape
+  pieces_fit = rw (context, table) (omega arith, tt)
+
+  pub pieces_size : IfSome (begun_in whole_name.place.reading) (λ b. 2 ≡ length (next_bytes g.context g.table whole_name.place.reading (begun_value b)))
+  unfolding attribute shaped shape
+  pieces_size = rw (context, table) refl
+
+  pub pieces_end : ended whole_name ≡ with_name 1 g
+  pieces_end = rw table refl
+
+-- ---- entries that are each the only child of the one before
+
+abbrev pub down : ℕ → Spot
+down zero = nowhere
+down (suc n) = enter (wide 1 1) [] (down n)
+
+abbrev pub opened : ℕ → Growing
+opened n = record { context = little; table = bare_code; start = 12; place = record { spot = down n; reading = None } }
+
+pub one_deeper : (n : ℕ) → begun_at (wide 1 1) (opened n) ≡ opened (n + 1)
+one_deeper n = ap opened (sym (add-one n))
+
+pub depth_is : (n : ℕ) → length (down n).above ≡ n
+depth_is zero = refl
+depth_is (suc n) = ap suc (depth_is n)
+
+pub has_room : (n : ℕ) → n < 256 → length (down n).above < nesting
+unfolding nesting
+has_room n h = omega (arith, h, depth_is n)
+
+-- and of which so many are closed
+abbrev pub shut : ℕ → Growing
+shut zero = opened 256
+shut (suc n) = closed_at 1 (shut n)
+
+one_shut : (w : ℕ) (fs : List Frame) (ts : Forest) → 0 < length fs → length (leave_from w fs ts).above + 1 ≡ length fs
+one_shut w [] ts h = absurd (omega (arith, h))
+one_shut w (f ∷ fs) ts h = omega arith
+
+left_open : (n : ℕ) → n ≤ 256 → length (shut n).place.spot.above + n ≡ 256
+left_open zero h = omega (arith, depth_is 256)
+left_open (suc n) h =
+    let before = left_open n (omega (arith, h)) in
+    let one = one_shut 1 (shut n).place.spot.above (shut n).place.spot.left (omega (arith, before, h)) in
+    omega (arith, before, one)
+
+pub some_open : (n : ℕ) → n < 256 → (shut n).place.spot.above ≢ []
+some_open n h e = let k = left_open n (omega (arith, h)) in let none = ap length e in omega (arith, k, none, h)
+
+pub nothing_read : (n : ℕ) → (shut n).place.reading ≡ None
+nothing_read zero = refl
+nothing_read (suc n) = refl
+
+pub all_shut : IsSome (finished (shut 256))
+all_shut = refl

@@ -1,0 +1,13 @@
+use Rattle.std.proofs.Common.{◌≢◌, ◌<◌, [], length, sym, subst, arith}
+use Rattle.dw_tree.specs.Tree.{nesting}
+use Rattle.dw_tree.specs.Steps.{Growing}
+use Rattle.dw_unit_tests.proofs.SampleSteps.{has_room, some_open}
+use Rattle.dw_unit_tests.proofs.tree_drafts.nested.Goals as goal
+
+pub begin-requires-clause-level : goal.begin-requires-clause-level
+begin-requires-clause-level c =
+    subst (λ (g : Growing). length g.place.spot.above < nesting) (sym c.loop-begun.invariant.is) (has_room c.loop-begun.begun (omega (arith, c.loop-begun-test.true)))
+
+pub closed-requires-clause-inside : goal.closed-requires-clause-inside
+closed-requires-clause-inside c =
+    subst (λ (g : Growing). g.place.spot.above ≢ []) (sym c.loop-ended.invariant.is) (some_open c.loop-ended.ended (omega (arith, c.loop-ended-test.true)))
