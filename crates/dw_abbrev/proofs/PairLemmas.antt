@@ -12,9 +12,6 @@ use Rattle.dw_abbrev.specs.ReadTable.{read_names, read_constant, read_pairs}
 use Rattle.dw_abbrev.specs.Place.{Gives, Fails, fault_at, then_first, then_second, then_both, checked_fails, twice_refuses, twice_passes, ReadTo, nothing_yet, one_item, items_end, head_fails, body_fails}
 
 module _ (section : List ℕ) (at before : ℕ) where
-  pub name_fails : (e : ReadError) → Fails read_uleb section at e → Fails (read_names before) section at e
-  name_fails e h = checked_fails _ (too_many before) section at e (checked_fails _ half section at e (then_first read_uleb (λ _. read_uleb) section at e h))
-
   pub form_fails : (name : Unsigned) (next : ℕ) → Gives read_uleb section at name next → (e : ReadError) → Fails read_uleb section next e → Fails (read_names before) section at e
   form_fails name next g e h = checked_fails _ (too_many before) section at e (checked_fails _ half section at e (then_second read_uleb (λ _. read_uleb) section at name next g e h))
 

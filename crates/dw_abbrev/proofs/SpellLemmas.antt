@@ -45,10 +45,6 @@ pub table_spelled : (t : Table) → table.Fits t → table.spell t ≡ table_byt
 unfolding table
 table_spelled t fits = declarations_spelled [] t.declarations (zero_of t.last_zero) fits
 
-pub flag_cells : (b : Bool) (x : ℕ) → x ≡ (if b then 1 else 0) → x ∷ [] ≡ flag_bytes b
-flag_cells true x e = ap (λ (y : ℕ). y ∷ []) e
-flag_cells false x e = ap (λ (y : ℕ). y ∷ []) e
-
 -- the next of the pairs that are left
 pub pairs_left : (ps : List RustPair) (i : ℕ) (p : RustPair) → i < length ps → p ≡ get_or ps i p → pairs_bytes (map pair_of (drop i ps)) ≡ pair_bytes (pair_of p) ++ pairs_bytes (map pair_of (drop (suc i) ps))
 pairs_left [] i p lt e = absurd (omega (arith, lt))

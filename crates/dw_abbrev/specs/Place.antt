@@ -200,12 +200,6 @@ uleb_same bytes m n p q = ap (λ (o : Outcome (List ℕ)). judged_outcome above_
 pub sleb_same : SameBelow read_sleb
 sleb_same bytes m n p q = ap (λ (o : Outcome (List ℕ)). judged_outcome outside_i64 (mapped sleb_from o)) (groups_same bytes m n p q)
 
-pub byte_same : (order : Order) → SameBelow (read_fixed order 1)
-byte_same order bytes m n p q =
-    let one : nat_lt m 1 ≡ false = le-ltb m 1 p.2 in
-    let two : nat_lt n 1 ≡ false = le-ltb n 1 q.2 in
-    ap (λ (v : Bool). mapped (λ bs. undigits 256 (ordered order bs)) (if v then Broken 0 PastUnit else (if nat_lt (length bytes) 1 then Broken 0 Truncated else Found (take 1 bytes) 1))) (one ∙ sym two)
-
 -- ---- items
 
 module _ {H B : Type 0} (head : List (H × B) → Reader H) (ends : H → Bool) (body : H → Reader B) (section : List ℕ) (start : ℕ) where

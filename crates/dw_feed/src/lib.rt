@@ -5,4 +5,5 @@ mod bytes;
 pub mod laws;
 mod reader;
 
+pub use bytes::unit_bytes;
 pub use reader::read_unit_from;

@@ -18,10 +18,6 @@ chosen : {A : Type 0} (v : Bool) (x y : A) → cond v (Some x) None ≡ Some y �
 chosen true x y e = (refl, cc)
 chosen false x y e = absurd cc
 
-chosen_else : {A : Type 0} (v : Bool) (x y : A) → cond v None (Some x) ≡ Some y → (v ≡ false) × (x ≡ y)
-chosen_else true x y e = absurd cc
-chosen_else false x y e = (refl, cc)
-
 base : 0 < 128
 base = omega arith
 
@@ -154,11 +150,6 @@ sleb_fits s h =
     let n = residue s.width s.value in
     let len = length-digits 128 base s.width n in
     ((h.held, (omega (arith, len, h.some), omega (arith, len, h.most), digits_below 128 base s.width n)), rw (lt-ltb (extent s.value) (2 ^ 63) h.range) refl)
-
-pub fits_sleb : (s : Signed) → sleb.Fits s → SlebFits s
-fits_sleb s h =
-    let len = length-digits 128 base s.width (residue s.width s.value) in
-    record { some = omega (arith, len, h.0.1.0); most = omega (arith, len, h.0.1.1); held = h.0.0; range = ltb-true _ _ (unless_true (nat_lt (extent s.value) (2 ^ 63)) LebTooBig h.1) }
 
 -- a unit's end, which its initial length tells, lies below 2 ^ 63
 pub initial_end : (order : Order) (start : ℕ) (format : Format) (n : ℕ) → (initial_length order start).Fits (format, n) → start + length_size format + n < 2 ^ 63

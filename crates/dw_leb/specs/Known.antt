@@ -19,13 +19,6 @@ consumes_more (Some ws) None c xs ys h k = absurd h
 consumes_more (Some ws) (Some us) None xs ys h k = absurd k
 consumes_more (Some ws) (Some us) (Some vs) xs ys h k = h ∙ ap (λ zs. xs ++ zs) k ∙ sym (append_assoc xs ys vs)
 
--- a failed read takes nothing
-pub consumes_kept : (a b c : Option (List ℕ)) (xs : List ℕ) → Consumes a b xs → Keeps b c → Consumes a c xs
-consumes_kept None b c xs h k = tt
-consumes_kept (Some ws) None c xs h k = absurd h
-consumes_kept (Some ws) (Some us) None xs h k = absurd k
-consumes_kept (Some ws) (Some us) (Some vs) xs h k = h ∙ ap (λ zs. xs ++ zs) (sym k)
-
 -- nothing is added
 pub appends_none : (a : Option (List ℕ)) → Appends a a []
 appends_none None = tt
@@ -37,13 +30,6 @@ appends_more None b c xs ys h k = tt
 appends_more (Some ws) None c xs ys h k = absurd h
 appends_more (Some ws) (Some us) None xs ys h k = absurd k
 appends_more (Some ws) (Some us) (Some vs) xs ys h k = k ∙ ap (λ zs. zs ++ ys) h ∙ append_assoc ws xs ys
-
--- a failed write adds nothing
-pub appends_kept : (a b c : Option (List ℕ)) (xs : List ℕ) → Appends a b xs → Keeps b c → Appends a c xs
-appends_kept None b c xs h k = tt
-appends_kept (Some ws) None c xs h k = absurd h
-appends_kept (Some ws) (Some us) None xs h k = absurd k
-appends_kept (Some ws) (Some us) (Some vs) xs h k = k ∙ h
 
 -- a write of the next n bytes
 pub appends_part : (a b c : Option (List ℕ)) (xs : List ℕ) (at n : ℕ) → at ≤ length xs → Appends a b (take at xs) → Appends b c (take n (take (length xs - at) (drop at xs))) → Appends a c (take (at + n) xs)
@@ -90,7 +76,3 @@ wrote_then a b c xs ys (Err e) h k = front_behind a b c xs ys h k
 pub wrote_err : {X : Type 0} (a b : Option (List ℕ)) (xs ys : List ℕ) (r : Result X WriteError) → IsErr r → AppendsFront a b xs → Wrote a b (xs ++ ys) r
 wrote_err a b xs ys (Ok x) e h = absurd cc
 wrote_err a b xs ys (Err e) i h = front_of_both a b xs ys h
-
-pub wrote_of : {X : Type 0} (a b : Option (List ℕ)) (xs : List ℕ) (r : Result X WriteError) → OnOk r (Appends a b xs) → AppendsFront a b xs → Wrote a b xs r
-wrote_of a b xs (Ok x) h k = h
-wrote_of a b xs (Err e) h k = k

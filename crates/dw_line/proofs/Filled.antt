@@ -98,11 +98,6 @@ module _ (c : List Rule) (good : AllGood c) (again : Bool) where
   full-option_met a (Some v) h g e f = full-reacted a (v ∷ []) h g e f
   full-option_met a None h g e f = full-settled h e f
 
-  full-flag_met : (a : Rule) (v : Option Text) (h : Held) → Good a → cond (is_some v) (long_fault c again None v h) (react_fault c again a [] h) ≡ [] → Full h.rows
-      → Full (flag_met c a v h).0.rows
-  full-flag_met a (Some v) h g e f = f
-  full-flag_met a None h g e f = full-reacted a [] h g e f
-
   full-long_met : (o : Option Rule) (v : Option Text) (h : Held) → GoodIfSome o → long_fault c again o v h ≡ [] → Full h.rows → Full (long_met c o v h).0.rows
   full-long_met None v h g e f = f
   full-long_met (Some a) v h g e f = go (takes_values a) refl v e

@@ -16,10 +16,7 @@ use std::alloc::{AllocError, Global};
 ///
 /// Errors: `Parse` where the words aren't taken or ask for help, `Memory` where a growth was
 /// refused.
-pub fn line<'a>(
-    alloc: Global,
-    words: &'a [&'a str],
-) -> Result<Line<'a>, LineError>
+pub fn line<'a>(alloc: Global, words: &'a [&'a str]) -> Result<Line<'a>, LineError>
     ensures says { IfOk result (Says (map (λ word. word.now) words.entry.now)) }
     ensures taken { IfOk result (λ _. refusals (map (λ word. word.now) words.entry.now) ≡ []) }
     ensures refused { IfErr result (Refuses (refusals (map (λ word. word.now) words.entry.now))) }

@@ -2,7 +2,7 @@
 //! in its order, bytes from outside, and the same call again after a growth was refused.
 use crate::common::unsigned;
 use crate::tables::{CONSTANT, PADDED, written};
-use dw_abbrev::{Decl, Table, TableBuilder, TableRefusal};
+use dw_abbrev::{Decl, Table, TableBuilder, TableRefusal, Tables};
 use dw_leb::{Sleb, Uleb};
 use std::alloc::Global;
 use std::test::Fail;
@@ -141,6 +141,26 @@ fn widths_of_a_tables_end(rt: HostRuntime) -> Result<(), Fail> {
     let table = finished(builder, 3)?;
     let bytes = [1, 0x11, 0, 0, 0, 0x80, 0x80, 0];
     assert_eq!(rt; written(rt.alloc(), &table)?.as_slice(), bytes.as_slice());
+    Ok(())
+}
+
+/// More declarations than any list begins with, built, written and read.
+#[test]
+fn many_declarations(rt: HostRuntime) -> Result<(), Fail> {
+    let alloc = rt.alloc();
+    let mut builder = TableBuilder::new(alloc);
+    for code in 1..401u64 {
+        added(&mut builder, with_pairs(alloc, code, 1)?)?;
+    }
+    let bytes = written(alloc, &finished(builder, 1)?)?;
+    // A code of one byte or two, a tag, a flag, two numbers and two zeros for each; a zero behind them.
+    assert_eq!(rt; bytes.len(), 127 * 7 + 273 * 8 + 1);
+    let table = Tables::new(alloc, bytes.as_slice()).get(0)?;
+    for code in 1..401u64 {
+        let decl = table.get(code).ok_or("no declaration")?;
+        assert_eq!(rt; (decl.code().value, decl.pairs().len()), (code, 1));
+    }
+    assert!(rt; written(alloc, &table)?.as_slice() == bytes.as_slice());
     Ok(())
 }
 

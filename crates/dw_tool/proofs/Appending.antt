@@ -125,21 +125,6 @@ pub record Reaches (old new rest text : List ℕ) : Type 0 where
   pub is_text : text ≡ front ++ rest
   pub is_new : new ≡ old ++ front
 
-pub reaches_start : (old text : List ℕ) → Reaches old old text text
-reaches_start old text = record { front = []; is_text = refl; is_new = sym (append-nil old) }
-
--- the next piece stands too
-pub reaches_more : (old mid new a rest text : List ℕ) → Reaches old mid (a ++ rest) text → new ≡ mid ++ a → Reaches old new rest text
-reaches_more old mid new a rest text h e = record {
-  front = h.front ++ a;
-  is_text = h.is_text ∙ sym (append_assoc h.front a rest);
-  is_new = e ∙ ap (λ (x : List ℕ). x ++ a) h.is_new ∙ append_assoc old h.front a;
-}
-
--- all of it stands
-pub reaches_end : (old new text : List ℕ) → Reaches old new [] text → new ≡ old ++ text
-reaches_end old new text h = h.is_new ∙ ap (λ (x : List ℕ). old ++ x) (sym (h.is_text ∙ append-nil h.front))
-
 -- the next piece is only begun
 pub reaches_stopped : {T E : Type 0} (r : Result T E) (old mid new a rest text : List ℕ) → is_ok r ≡ false → Reaches old mid (a ++ rest) text → IsBegun mid a new → Appends r old text new
 reaches_stopped r old mid new a rest text err h b =

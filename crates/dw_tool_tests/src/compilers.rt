@@ -1,39 +1,8 @@
 //! Whole units that compilers wrote (`examples/gcc`, `examples/clang`, `examples/gcc64`): shown, and
 //! copied byte for byte. The numbers of entries and attributes are those that `readelf` prints.
+use crate::common::{lines_with, written};
 use crate::examples::{CLANG_ABBREV, CLANG_INFO, GCC_ABBREV, GCC_INFO, GCC64_ABBREV, GCC64_INFO};
-use dw_leb::devices::Stepped;
-use dw_leb::{Order, Watched};
 use dw_tool::command::Command;
-use dw_tool::run::{Inputs, run};
-use dw_tool::status::Status;
-use std::alloc::Global;
-use std::test::Fail;
-
-// What a run over these sections writes, where all is well.
-fn written(alloc: Global, command: Command, info: &[u8], abbrev: &[u8]) -> Option<Vec<u8>> {
-    let mut reader = Watched::new(Stepped::new(info, 61));
-    let mut writer = Watched::new(Vec::new(alloc));
-    let inputs = Inputs {
-        order: Order::Little,
-        info: &mut reader,
-        abbrev,
-    };
-    match run(alloc, command, inputs, &mut writer) {
-        Ok(Status::Good) => Some(writer.into_inner()),
-        _ => None,
-    }
-}
-
-// How many lines of a text begin with this byte.
-fn lines_with(text: &[u8], first: u8) -> usize {
-    let mut count = 0usize;
-    for line in text.split(|byte| *byte == b'\n') {
-        if line.first() == Some(&first) {
-            count = count.saturating_add(1);
-        }
-    }
-    count
-}
 
 #[test]
 fn copies_what_compilers_wrote(rt: HostRuntime) {

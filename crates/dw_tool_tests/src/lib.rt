@@ -3,9 +3,13 @@
 #![tactic(auto)]
 
 #[cfg(test)]
+mod common;
+#[cfg(test)]
 mod compilers;
 #[cfg(test)]
 mod examples;
+#[cfg(test)]
+mod large;
 #[cfg(test)]
 mod lines;
 #[cfg(test)]

@@ -4,6 +4,7 @@ use dw_line::line::line;
 use dw_line::outcome::{Line, LineError};
 use dw_tool::command::Command;
 use std::alloc::Global;
+use std::test::Fail;
 
 #[test]
 fn reads_a_line(rt: HostRuntime) {
@@ -106,4 +107,14 @@ fn tells_help_from_mistakes(rt: HostRuntime) {
         assert!(rt; outcome.is_err());
         assert!(rt; status(outcome) == 0, "{words:?}");
     }
+}
+
+#[test]
+fn printed_errors(rt: HostRuntime) -> Result<(), Fail> {
+    let memory = format!(in rt.alloc(); "{}", LineError::Memory)?;
+    assert_eq!(rt; memory.as_str(), "memory");
+    let error = line(rt.alloc(), &["sho"]).err().ok_or("a line")?;
+    let text = format!(in rt.alloc(); "{}", error)?;
+    assert!(rt; text.as_str().starts_with("error: "));
+    Ok(())
 }

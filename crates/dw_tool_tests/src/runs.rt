@@ -269,3 +269,25 @@ fn tells_devices_that_fail(rt: HostRuntime) {
         assert_eq!(rt; unwritten, Err(ToolError::Write(ErrorKind::TimedOut)));
     }
 }
+
+#[test]
+fn printed_errors(rt: HostRuntime) -> Result<(), Fail> {
+    let fault = Fault {
+        section: Section::Abbrev,
+        offset: 13,
+        reason: Reason::Truncated,
+    };
+    for (error, want) in [
+        (
+            ToolError::Fault(fault),
+            "fault Fault { section: Abbrev, offset: 13, reason: Truncated }",
+        ),
+        (ToolError::Read(ErrorKind::TimedOut), "read timed out"),
+        (ToolError::Write(ErrorKind::WriteZero), "write write zero"),
+        (ToolError::Memory, "memory"),
+    ] {
+        let text = format!(in rt.alloc(); "{}", error)?;
+        assert_eq!(rt; text.as_str(), want);
+    }
+    Ok(())
+}

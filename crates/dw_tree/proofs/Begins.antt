@@ -73,17 +73,6 @@ pub spot_is : (o : Option Started) (pool : List ℕ) (p : Place) → (place_with
 spot_is None pool p = refl
 spot_is (Some b) pool p = refl
 
-pub end_given : (a : Inside) → end_of (given a (front a.begun a.pool.items)) ≡ end_of (growing a)
-end_given a = by a.begun a.reading
-  where
-    at : (o : Option Started) → Option Reading → Place → ℕ
-    at o q p = end_of (record { context = a.context; table = a.table.value; start = a.start; place = p })
-
-    by : (o : Option Started) (q : Option Reading) → at o q (place_of a.table.value a.rows.items a.values.items (front o a.pool.items) q) ≡ at o q (place_with o a.pool.items (place_of a.table.value a.rows.items a.values.items (front o a.pool.items) q))
-    by None q = refl
-    by (Some b) None = refl
-    by (Some b) (Some r) = refl
-
 pub begun_within : (a : Inside) → IsDraft a → IfSome a.begun (λ b. b.pool ≤ length a.pool.items)
 begun_within a d = by a.begun d.begun
   where

@@ -5,7 +5,3 @@ use Rattle.dw_tree.specs.Tree.{nesting}
 pub few_open : (xs : List ℕ) → length xs ≤ nesting → length xs < 257
 unfolding nesting
 few_open xs h = omega (arith, h)
-
-pub room_is : nesting ≡ 256
-unfolding nesting
-room_is = Rattle.std.proofs.Common.refl

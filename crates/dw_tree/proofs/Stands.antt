@@ -74,9 +74,6 @@ module _ (k : Ctx) (t : Table) where
 
   -- ---- where the next byte stands
 
-  pub bytes_so_far : List Token → Option Unread → ℕ
-  bytes_so_far xs o = length (rows_bytes k t xs) + length (unread_bytes k t o)
-
   module _ (start : ℕ) (rows : List Row) (values : List Stored) (pool open_at : List ℕ) where
     abbrev xs : List Token
     xs = tokens t rows values pool

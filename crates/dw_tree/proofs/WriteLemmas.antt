@@ -21,13 +21,6 @@ values_next k ps p rest v vs all e f fits =
     let here : (values k (p ∷ rest)).Fits (v ∷ vs) = subst (λ (qs : List Pair). (values k qs).Fits (v ∷ vs)) e (subst (λ (ws : List Attribute). (values k ps).Fits ws) f fits) in
     (here.0, here.1, ap (λ (qs : List Pair). (values k qs).spell all) e ∙ ap (λ (ws : List Attribute). (values k (p ∷ rest)).spell ws) f)
 
-pub values_missing : (k : Ctx) (ps : List Pair) (p : Pair) (rest : List Pair) (all : List Attribute) → ps ≡ p ∷ rest → all ≡ [] → (values k ps).Fits all → ⊥
-values_missing k ps p rest all e f fits = subst (λ (qs : List Pair). (values k qs).Fits []) e (subst (λ (ws : List Attribute). (values k ps).Fits ws) f fits)
-
-pub values_done : (k : Ctx) (ps : List Pair) (all : List Attribute) → ps ≡ [] → (values k ps).Fits all → (values k ps).spell all ≡ []
-values_done k ps [] e fits = ap (λ (qs : List Pair). (values k qs).spell []) e
-values_done k ps (v ∷ vs) e fits = absurd (subst (λ (qs : List Pair). (values k qs).Fits (v ∷ vs)) e fits)
-
 pub no_items : {X : Type 0} (xs : List X) → length xs ≡ 0 → xs ≡ []
 no_items [] h = refl
 no_items (x ∷ xs) h = absurd (omega (arith, h))

@@ -1,7 +1,6 @@
 pub mod EntryLemmas
 pub mod RootLemmas
 pub mod UnitLemmas
-pub mod WriteLemmas
 pub mod UnitWritten
 mod Samples
 mod NumberRows

@@ -111,7 +111,3 @@ module _ (k : Ctx) (ps : List RustPair) (vs : List AttrValue) (i : ℕ) (p : Rus
 
   pub sizes : length ((values k (drop i (map pair_of ps))).spell (drop i (map attribute_of vs))) ≡ length ((value_part k p).spell (attribute_of v)) + length ((values k pairs_behind).spell values_behind)
   sizes = ap₂ (λ (qs : List Pair) (xs : List Attribute). length ((values k qs).spell xs)) pairs_here values_here ∙ length-append ((value_part k p).spell (attribute_of v)) ((values k pairs_behind).spell values_behind)
-
-pub no_size : (k : Ctx) (ps : List Pair) → length ((values k ps).spell []) ≡ 0
-no_size k [] = refl
-no_size k (p ∷ ps) = refl

@@ -16,10 +16,6 @@ pub entries_go : (k : Ctx) (t : Table) (bytes : List ℕ) (lim : ℕ) (root : Tr
     → read_entries k t bytes lim ≡ paired root size (read_padding (suc (length bytes)) (drop size bytes) (lim - size))
 entries_go k t bytes lim root size e = rw e refl
 
-pub entries_break : (k : Ctx) (t : Table) (bytes : List ℕ) (lim : ℕ) (e : BodyError) → Refuses e (read_tree k t (nesting - 1) bytes lim) → Refuses e (read_entries k t bytes lim)
-entries_break k t bytes lim (errors.Bad bad) h = rw h refl
-entries_break k t bytes lim errors.NoMemory h = tt
-
 pub tells_refuses : {X Y : Type 0} (view : X → Y) (e : BodyError) (o : Outcome Y) → Tells view (Err e) o → Refuses e o
 tells_refuses view (errors.Bad e) o h = h
 tells_refuses view errors.NoMemory o h = tt

@@ -41,15 +41,6 @@ module _ (g : Growing) (context : g.context ≡ little) (table : g.table ≡ two
   abbrev pub whole_name : Growing
   whole_name = extended (0x61 ∷ []) (extended [] started_name)
 
-  pub name_is_read : IsSome (begun_at (wide 1 1) g).place.reading
-  name_is_read = rw table refl
-
-  pub name_begins : IsSome (begun_in started_name.place.reading)
-  name_begins = rw table refl
-
-  pub name_goes_on : IsSome (begun_in (extended [] started_name).place.reading)
-  name_goes_on = rw table refl
-
   pub pieces_fit : IfSome (begun_in whole_name.place.reading) (λ b. NextFits g.context g.table whole_name.place.reading (begun_value b))
   unfolding attribute shaped shape
   pieces_fit = rw (context, table) (omega arith, tt)
@@ -57,9 +48,6 @@ module _ (g : Growing) (context : g.context ≡ little) (table : g.table ≡ two
   pub pieces_size : IfSome (begun_in whole_name.place.reading) (λ b. 2 ≡ length (next_bytes g.context g.table whole_name.place.reading (begun_value b)))
   unfolding attribute shaped shape
   pieces_size = rw (context, table) refl
-
-  pub pieces_end : ended whole_name ≡ with_name 1 g
-  pieces_end = rw table refl
 
 -- ---- entries that are each the only child of the one before
 
@@ -69,9 +57,6 @@ down (suc n) = enter (wide 1 1) [] (down n)
 
 abbrev pub opened : ℕ → Growing
 opened n = record { context = little; table = bare_code; start = 12; place = record { spot = down n; reading = None } }
-
-pub one_deeper : (n : ℕ) → begun_at (wide 1 1) (opened n) ≡ opened (n + 1)
-one_deeper n = ap opened (sym (add-one n))
 
 pub depth_is : (n : ℕ) → length (down n).above ≡ n
 depth_is zero = refl
@@ -99,10 +84,3 @@ left_open (suc n) h =
 
 pub some_open : (n : ℕ) → n < 256 → (shut n).place.spot.above ≢ []
 some_open n h e = let k = left_open n (omega (arith, h)) in let none = ap length e in omega (arith, k, none, h)
-
-pub nothing_read : (n : ℕ) → (shut n).place.reading ≡ None
-nothing_read zero = refl
-nothing_read (suc n) = refl
-
-pub all_shut : IsSome (finished (shut 256))
-all_shut = refl

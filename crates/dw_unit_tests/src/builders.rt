@@ -1,6 +1,6 @@
 //! What no clause says of units that are built: each call once with memory to spare, each refusal in
 //! its order, bytes from outside, and the same call again after a growth was refused.
-use crate::common::{BARE, PADDED, TYPED, WITH_A_CHILD, little, written};
+use crate::common::{BARE, PADDED, TYPED, WITH_A_CHILD, direct, finished, little, written};
 use dw_abbrev::Tables;
 use dw_form::{AttrValue, Value};
 use dw_leb::{Format, Order, Sleb, Uleb};
@@ -21,17 +21,6 @@ fn builder(alloc: Global, section: &[u8], format: Format) -> Result<UnitBuilder,
     let table = Tables::new(alloc, section).get(0)?;
     let header = Header::new(Order::Little, format, Kind::Compile, 8, 0).ok_or("no header")?;
     Ok(UnitBuilder::new(alloc, header, table))
-}
-
-fn direct(value: Value<'_>) -> AttrValue<'_> {
-    AttrValue { via: None, value }
-}
-
-fn finished(builder: UnitBuilder) -> Result<Unit, Refusal> {
-    match builder.finish() {
-        Ok(unit) => Ok(unit),
-        Err((refusal, _)) => Err(refusal),
-    }
 }
 
 /// The refusal of a builder that isn't finished, and the builder that is handed back.

@@ -1,8 +1,8 @@
 //! Sections, units and calls that several tests begin with.
 use dw_abbrev::Tables;
-use dw_form::Value;
+use dw_form::{AttrValue, Value};
 use dw_leb::{Fault, Order, ReadError, Reason, Section, Watched, WriteError};
-use dw_unit::{AttrRef, Unit, read_unit, write_unit};
+use dw_unit::{AttrRef, Refusal, Unit, UnitBuilder, read_unit, write_unit};
 use std::alloc::Global;
 
 /// One declaration: code 1, DW_TAG_compile_unit, no children, DW_AT_name as DW_FORM_string.
@@ -85,5 +85,18 @@ pub fn number_of(attr: &AttrRef<'_>) -> Option<u64> {
     match attr.attr.value {
         Value::Num(number) => Some(number),
         _ => None,
+    }
+}
+
+/// A value that names no form of its own.
+pub fn direct(value: Value<'_>) -> AttrValue<'_> {
+    AttrValue { via: None, value }
+}
+
+/// The unit of a builder, or why there is none.
+pub fn finished(builder: UnitBuilder) -> Result<Unit, Refusal> {
+    match builder.finish() {
+        Ok(unit) => Ok(unit),
+        Err((refusal, _)) => Err(refusal),
     }
 }

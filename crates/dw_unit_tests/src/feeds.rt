@@ -3,10 +3,9 @@
 ghost use Rattle.std.specs.Prelude.{◌≡◌, None};
 ghost use Rattle.dw_leb.specs.Watch.{fault_of, told_by_read};
 
-use crate::common::{FIFTEEN, NAMED, SIXTY_FOUR, TYPED, WITH_A_CHILD};
+use crate::common::{FIFTEEN, NAMED, SIXTY_FOUR, TYPED, WITH_A_CHILD, text_of};
 use dw_abbrev::Tables;
-use dw_feed::read_unit_from;
-use dw_form::Value;
+use dw_feed::{read_unit_from, unit_bytes};
 use dw_leb::devices::Stepped;
 use dw_leb::{Fault, Order, ReadError, Reason, Section, Watched};
 use dw_unit::Unit;
@@ -51,10 +50,8 @@ fn refused(alloc: Global, order: Order, section: &[u8], b: &[u8]) -> Option<(u64
 }
 
 fn name_of<'a>(unit: &'a Unit) -> Option<&'a [u8]> {
-    match unit.root().attrs().next()?.attr.value {
-        Value::Text(text) => Some(text),
-        _ => None,
-    }
+    let first = unit.root().attrs().next()?;
+    text_of(&first)
 }
 
 #[test]
@@ -180,13 +177,18 @@ fn takes_nothing_past_a_refused_length(rt: HostRuntime) {
     assert_eq!(rt; answer, Some((0, Reason::LengthTooBig, 3)));
 }
 
-/// A length of almost 4 GB, of which 15 bytes come: the next null of the padding is cut.
+/// A length of almost 4 GB, of which 15 bytes come: the next null of the padding is cut. No more room
+/// is made for the unit than for a piece of what comes.
 #[test]
 fn believes_no_announced_length(rt: HostRuntime) -> Result<(), Fail> {
     let alloc = rt.alloc();
     let bytes = followed(alloc, &[0xef, 0xff, 0xff, 0xff], &FIFTEEN[4..])?;
     let answer = refused(alloc, Order::Little, &NAMED, bytes.as_slice());
     assert_eq!(rt; answer, Some((15, Reason::Truncated, 0)));
+    let mut reader = Watched::new(bytes.as_slice());
+    let taken = unit_bytes(alloc, Order::Little, &mut reader)?;
+    assert_eq!(rt; taken.as_slice(), bytes.as_slice());
+    assert!(rt; taken.capacity() < 10_000);
     Ok(())
 }
 

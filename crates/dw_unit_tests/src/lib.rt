@@ -17,6 +17,8 @@ mod feeds;
 #[cfg(test)]
 mod kinds;
 #[cfg(test)]
+mod large;
+#[cfg(test)]
 mod tree_drafts;
 #[cfg(test)]
 mod trees;

@@ -3,6 +3,9 @@
 //! output failed, and 4 where there was no memory, and says why on standard error.
 #![tactic(auto)]
 
+ghost use Rattle.std.specs.Prelude.{◌≡◌, ◌≢◌};
+ghost use Rattle.std.specs.declared.io.ErrorKind.TheVariants.{OutOfMemory};
+
 use dw_leb::{Fault, Section, Watched};
 use dw_line::line::line;
 use dw_line::outcome::{Line, LineError};
@@ -86,7 +89,9 @@ fn flushed(rt: &impl Eprint, output: &mut impl Write, status: u8) -> u8 {
     }
 }
 
-fn refused(rt: &impl Eprint, fault: Fault) -> u8 {
+fn refused(rt: &impl Eprint, fault: Fault) -> u8
+    ensures { result ≡ 1 }
+{
     let section = match fault.section {
         Section::Info => "info",
         Section::Abbrev => "abbrev",
@@ -96,7 +101,10 @@ fn refused(rt: &impl Eprint, fault: Fault) -> u8 {
 }
 
 // A file that can't be read for want of memory is no file that failed.
-fn file_failed(rt: &impl Eprint, path: &str, kind: ErrorKind) -> u8 {
+fn file_failed(rt: &impl Eprint, path: &str, kind: ErrorKind) -> u8
+    ensures memory { kind ≡ OutOfMemory → result ≡ 4 }
+    ensures file { kind ≢ OutOfMemory → result ≡ 3 }
+{
     if kind == ErrorKind::OutOfMemory {
         return no_memory(rt);
     }
@@ -104,7 +112,9 @@ fn file_failed(rt: &impl Eprint, path: &str, kind: ErrorKind) -> u8 {
     FILE_FAILED
 }
 
-fn no_memory(rt: &impl Eprint) -> u8 {
+fn no_memory(rt: &impl Eprint) -> u8
+    ensures { result ≡ 4 }
+{
     let _printed = eprintln!(rt; "memory");
     NO_MEMORY
 }
