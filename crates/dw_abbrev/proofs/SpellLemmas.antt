@@ -8,7 +8,7 @@ use Rattle.dw_leb.specs.Number.{Unsigned, Signed, uleb, sleb}
 use Rattle.dw_leb.specs.Repeat.{items_bytes, ItemsFit}
 use Rattle.dw_abbrev.specs.DecideTable.{Item, pair_head, pair_rest, code_head}
 use Rattle.dw_abbrev.specs.Table.{Pair, Declaration, Table, Described, is_end, is_null, described, pair_parts, declaration_parts, zero_of, table}
-use Rattle.dw_abbrev.specs.Spelling.{constant_bytes, pair_bytes, pairs_bytes, flag_bytes, declaration_bytes, declarations_bytes, table_bytes}
+use Rattle.dw_abbrev.specs.Spelling.{constant_bytes, pair_bytes, pairs_bytes, flag_bytes, zeros_bytes, declaration_bytes, declarations_bytes, table_bytes}
 
 constant_spelled : (v : Bool) (o : Option Signed) → (optional v sleb).Fits o → (optional v sleb).spell o ≡ constant_bytes o
 constant_spelled true None h = absurd h
@@ -31,7 +31,9 @@ pairs_spelled before (p ∷ ps) n f fits =
 
 declaration_spelled : (d : Declaration) → described.Fits (declaration_parts d).1 → uleb.spell d.code ++ described.spell (declaration_parts d).1 ≡ declaration_bytes d
 declaration_spelled d fits =
+    let rest = pairs_bytes d.pairs ++ zeros_bytes d in
     ap (λ (s : List ℕ). uleb.spell d.code ++ (uleb.spell d.tag ++ (flag_bytes d.children ++ s))) (pairs_spelled [] d.pairs (zero_of d.name_zero) (zero_of d.form_zero) fits.1.1)
+    ∙ sym (append_assoc (uleb.spell d.code) (uleb.spell d.tag ++ flag_bytes d.children) rest ∙ ap (λ (s : List ℕ). uleb.spell d.code ++ s) (append_assoc (uleb.spell d.tag) (flag_bytes d.children) rest))
 
 declarations_spelled : (before : List (Unsigned × Described)) (ds : List Declaration) (end : Unsigned) → ItemsFit code_head is_null (λ _. described) before (map declaration_parts ds) end
     → items_bytes code_head is_null (λ _. described) before (map declaration_parts ds) end ≡ declarations_bytes ds ++ uleb.spell end

@@ -19,8 +19,15 @@ pairs_bytes (p ∷ ps) = pair_bytes p ++ pairs_bytes ps
 abbrev pub flag_bytes : Bool → List ℕ
 flag_bytes b = fixed_bytes Little 1 (flag_number b)
 
+-- what stands before a declaration's pairs, and behind them
+abbrev pub head_bytes : Declaration → List ℕ
+head_bytes d = uleb.spell d.code ++ (uleb.spell d.tag ++ flag_bytes d.children)
+
+abbrev pub zeros_bytes : Declaration → List ℕ
+zeros_bytes d = uleb.spell (zero_of d.name_zero) ++ uleb.spell (zero_of d.form_zero)
+
 abbrev pub declaration_bytes : Declaration → List ℕ
-declaration_bytes d = uleb.spell d.code ++ (uleb.spell d.tag ++ (flag_bytes d.children ++ (pairs_bytes d.pairs ++ (uleb.spell (zero_of d.name_zero) ++ uleb.spell (zero_of d.form_zero)))))
+declaration_bytes d = head_bytes d ++ (pairs_bytes d.pairs ++ zeros_bytes d)
 
 abbrev pub declarations_bytes : List Declaration → List ℕ
 declarations_bytes [] = []

@@ -1,10 +1,9 @@
 //! Abbreviation declarations (section 7.5.3).
 ghost use Rattle.std.specs.Prelude.{◌≡◌, ◌<◌, ◌≤◌, false, length, None, IfOk, IfErr, OnOk, OnErr, map};
 ghost use Rattle.std.specs.Result.{result_err};
-ghost use Rattle.std.specs.Io.KnownBytes.{Appends};
 ghost use Rattle.dw_leb.specs.View.{uleb_of};
-ghost use Rattle.dw_leb.specs.Watch.{inner_of, fault_of, told_by_write, AppendsFront};
-ghost use Rattle.dw_abbrev.specs.Spelling.{declaration_bytes};
+ghost use Rattle.dw_leb.specs.Watch.{inner_of, fault_of, told_by_write, Wrote};
+ghost use Rattle.dw_abbrev.specs.Spelling.{head_bytes, zeros_bytes, declaration_bytes};
 ghost use Rattle.dw_abbrev.specs.Table.{described_of, is_null};
 ghost use Rattle.dw_abbrev.specs.Build.{new_refusal, without_pairs, pair_refusal, with_pair, or_memory, has_too_many, DeclarationFits};
 ghost use Rattle.dw_abbrev.specs.ReadTable.{read_described};
@@ -153,14 +152,31 @@ impl Decl {
     /// Writes the declaration, the two zeros behind its pairs included.
     pub(crate) fn write<W: Write>(&self, writer: &mut Watched<W>) -> Result<(), WriteError>
         requires { fault_of writer.old ≡ None }
-        ensures ok { OnOk result (Appends (W.contents (inner_of writer.old)) (W.contents (inner_of writer.new)) (declaration_bytes self.now)) }
-        ensures front { AppendsFront (W.contents (inner_of writer.old)) (W.contents (inner_of writer.new)) (declaration_bytes self.now) }
+        ensures written { Wrote (W.contents (inner_of writer.old)) (W.contents (inner_of writer.new)) (declaration_bytes self.now) result }
+        ensures fault { fault_of writer.new ≡ told_by_write result }
+    {
+        self.write_head(writer)?;
+        write_pairs(writer, self.pairs.as_slice())?;
+        self.write_zeros(writer)
+    }
+
+    /// Writes what stands before the pairs.
+    fn write_head<W: Write>(&self, writer: &mut Watched<W>) -> Result<(), WriteError>
+        requires { fault_of writer.old ≡ None }
+        ensures written { Wrote (W.contents (inner_of writer.old)) (W.contents (inner_of writer.new)) (head_bytes self.now) result }
         ensures fault { fault_of writer.new ≡ told_by_write result }
     {
         write_uleb(writer, self.code)?;
         write_uleb(writer, self.tag)?;
-        write_flag(writer, self.children)?;
-        write_pairs(writer, self.pairs.as_slice())?;
+        write_flag(writer, self.children)
+    }
+
+    /// Writes the two zeros behind the pairs.
+    fn write_zeros<W: Write>(&self, writer: &mut Watched<W>) -> Result<(), WriteError>
+        requires { fault_of writer.old ≡ None }
+        ensures written { Wrote (W.contents (inner_of writer.old)) (W.contents (inner_of writer.new)) (zeros_bytes self.now) result }
+        ensures fault { fault_of writer.new ≡ told_by_write result }
+    {
         write_uleb(writer, self.name_zero)?;
         write_uleb(writer, self.form_zero)
     }

@@ -2,10 +2,9 @@
 //! written. Only the section's end bounds a table.
 ghost use Rattle.std.specs.Prelude.{◌≡◌, ◌<◌, ◌≤◌, length, None, IfOk, IfErr, OnOk};
 ghost use Rattle.std.specs.Result.{result_err};
-ghost use Rattle.std.specs.Io.KnownBytes.{Appends};
 ghost use Rattle.dw_leb.specs.Number.{uleb, sleb};
 ghost use Rattle.dw_leb.specs.View.{uleb_of, sleb_of};
-ghost use Rattle.dw_leb.specs.Watch.{inner_of, fault_of, told_by_write, AppendsFront};
+ghost use Rattle.dw_leb.specs.Watch.{inner_of, fault_of, told_by_write, Wrote};
 ghost use Rattle.dw_abbrev.specs.Table.{zero_of};
 ghost use Rattle.dw_abbrev.specs.Build.{width_refusal};
 ghost use Rattle.dw_abbrev.specs.Spelling.{flag_bytes};
@@ -88,8 +87,7 @@ pub(crate) fn flag_at(section: &[u8], at: usize) -> Result<(bool, usize), ReadEr
 /// Writes an unsigned number.
 pub(crate) fn write_uleb<W: Write>(writer: &mut Watched<W>, n: Uleb) -> Result<(), WriteError>
     requires { fault_of writer.old ≡ None }
-    ensures ok { OnOk result (Appends (W.contents (inner_of writer.old)) (W.contents (inner_of writer.new)) (uleb.spell (uleb_of n))) }
-    ensures front { AppendsFront (W.contents (inner_of writer.old)) (W.contents (inner_of writer.new)) (uleb.spell (uleb_of n)) }
+    ensures written { Wrote (W.contents (inner_of writer.old)) (W.contents (inner_of writer.new)) (uleb.spell (uleb_of n)) result }
     ensures fault { fault_of writer.new ≡ told_by_write result }
 {
     write_all(writer, n.bytes().as_slice())
@@ -98,8 +96,7 @@ pub(crate) fn write_uleb<W: Write>(writer: &mut Watched<W>, n: Uleb) -> Result<(
 /// Writes a signed number.
 pub(crate) fn write_sleb<W: Write>(writer: &mut Watched<W>, n: Sleb) -> Result<(), WriteError>
     requires { fault_of writer.old ≡ None }
-    ensures ok { OnOk result (Appends (W.contents (inner_of writer.old)) (W.contents (inner_of writer.new)) (sleb.spell (sleb_of n))) }
-    ensures front { AppendsFront (W.contents (inner_of writer.old)) (W.contents (inner_of writer.new)) (sleb.spell (sleb_of n)) }
+    ensures written { Wrote (W.contents (inner_of writer.old)) (W.contents (inner_of writer.new)) (sleb.spell (sleb_of n)) result }
     ensures fault { fault_of writer.new ≡ told_by_write result }
 {
     write_all(writer, n.bytes().as_slice())
@@ -108,8 +105,7 @@ pub(crate) fn write_sleb<W: Write>(writer: &mut Watched<W>, n: Sleb) -> Result<(
 /// Writes a children flag.
 pub(crate) fn write_flag<W: Write>(writer: &mut Watched<W>, flag: bool) -> Result<(), WriteError>
     requires { fault_of writer.old ≡ None }
-    ensures ok { OnOk result (Appends (W.contents (inner_of writer.old)) (W.contents (inner_of writer.new)) (flag_bytes flag)) }
-    ensures front { AppendsFront (W.contents (inner_of writer.old)) (W.contents (inner_of writer.new)) (flag_bytes flag) }
+    ensures written { Wrote (W.contents (inner_of writer.old)) (W.contents (inner_of writer.new)) (flag_bytes flag) result }
     ensures fault { fault_of writer.new ≡ told_by_write result }
 {
     write_all(writer, &[flag as u8])

@@ -1,8 +1,7 @@
 //! Attribute specifications: the pairs of name and form (section 7.5.3).
 ghost use Rattle.std.specs.Prelude.{◌≡◌, ◌<◌, ◌≤◌, true, length, None, IfOk, IfErr, OnOk, map, option_map};
-ghost use Rattle.std.specs.Io.KnownBytes.{Appends};
 ghost use Rattle.dw_leb.specs.View.{uleb_of, sleb_of};
-ghost use Rattle.dw_leb.specs.Watch.{inner_of, fault_of, told_by_write, AppendsFront};
+ghost use Rattle.dw_leb.specs.Watch.{inner_of, fault_of, told_by_write, Wrote};
 ghost use Rattle.dw_abbrev.specs.Spelling.{pair_bytes, pairs_bytes};
 ghost use Rattle.dw_abbrev.specs.Table.{is_end as ends_pairs, refused_pair};
 ghost use Rattle.dw_abbrev.specs.ReadTable.{read_names, read_constant, read_pairs};
@@ -155,8 +154,7 @@ pub(crate) fn write_pairs<W: Write>(
     pairs: &[Pair],
 ) -> Result<(), WriteError>
     requires { fault_of writer.old ≡ None }
-    ensures ok { OnOk result (Appends (W.contents (inner_of writer.old)) (W.contents (inner_of writer.new)) (pairs_bytes (map pair_of pairs.now))) }
-    ensures front { AppendsFront (W.contents (inner_of writer.old)) (W.contents (inner_of writer.new)) (pairs_bytes (map pair_of pairs.now)) }
+    ensures written { Wrote (W.contents (inner_of writer.old)) (W.contents (inner_of writer.new)) (pairs_bytes (map pair_of pairs.now)) result }
     ensures fault { fault_of writer.new ≡ told_by_write result }
 {
     for pair in pairs {
@@ -167,8 +165,7 @@ pub(crate) fn write_pairs<W: Write>(
 
 fn write_pair<W: Write>(writer: &mut Watched<W>, pair: Pair) -> Result<(), WriteError>
     requires { fault_of writer.old ≡ None }
-    ensures ok { OnOk result (Appends (W.contents (inner_of writer.old)) (W.contents (inner_of writer.new)) (pair_bytes (pair_of pair))) }
-    ensures front { AppendsFront (W.contents (inner_of writer.old)) (W.contents (inner_of writer.new)) (pair_bytes (pair_of pair)) }
+    ensures written { Wrote (W.contents (inner_of writer.old)) (W.contents (inner_of writer.new)) (pair_bytes (pair_of pair)) result }
     ensures fault { fault_of writer.new ≡ told_by_write result }
 {
     write_uleb(writer, pair.name)?;

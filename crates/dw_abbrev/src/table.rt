@@ -1,9 +1,8 @@
 //! Abbreviation tables (section 7.5.3).
 ghost use Rattle.std.specs.Prelude.{◌≡◌, ◌<◌, ◌≤◌, ◌∷◌, ◌++◌, [], length, map, nat_eq, None, IfOk, IfErr, OnOk, OnErr, option_copied};
 ghost use Rattle.indexmap.specs.IndexMap.{get};
-ghost use Rattle.std.specs.Io.KnownBytes.{Appends};
 ghost use Rattle.dw_leb.specs.View.{uleb_of};
-ghost use Rattle.dw_leb.specs.Watch.{inner_of, fault_of, told_by_write, AppendsFront};
+ghost use Rattle.dw_leb.specs.Watch.{inner_of, fault_of, told_by_write, Wrote};
 ghost use Rattle.dw_abbrev.specs.Spelling.{declarations_bytes};
 ghost use Rattle.dw_abbrev.specs.Table.{Table as Spelled, table as part, declared, declaration_parts, IsZero, TableAt};
 ghost use Rattle.dw_abbrev.specs.TableView.{decls_in, AreKeyed};
@@ -113,8 +112,7 @@ impl Table {
     /// beginning of the table was written.
     pub fn write<W: Write>(&self, writer: &mut Watched<W>) -> Result<(), WriteError>
         requires { fault_of writer.old ≡ None }
-        ensures ok { OnOk result (Appends (W.contents (inner_of writer.old)) (W.contents (inner_of writer.new)) (part.spell self.now)) }
-        ensures front { AppendsFront (W.contents (inner_of writer.old)) (W.contents (inner_of writer.new)) (part.spell self.now) }
+        ensures written { Wrote (W.contents (inner_of writer.old)) (W.contents (inner_of writer.new)) (part.spell self.now) result }
         ensures fault { fault_of writer.new ≡ told_by_write result }
     {
         write_decls(writer, &self.decls)?;
@@ -162,8 +160,7 @@ fn write_decls<W: Write>(
     decls: &IndexMap<u64, Decl>,
 ) -> Result<(), WriteError>
     requires { fault_of writer.old ≡ None }
-    ensures ok { OnOk result (Appends (W.contents (inner_of writer.old)) (W.contents (inner_of writer.new)) (declarations_bytes (decls_in decls.now.entries))) }
-    ensures front { AppendsFront (W.contents (inner_of writer.old)) (W.contents (inner_of writer.new)) (declarations_bytes (decls_in decls.now.entries)) }
+    ensures written { Wrote (W.contents (inner_of writer.old)) (W.contents (inner_of writer.new)) (declarations_bytes (decls_in decls.now.entries)) result }
     ensures fault { fault_of writer.new ≡ told_by_write result }
 {
     for decl in decls.values() {

@@ -20,19 +20,8 @@ towards_step a b c x rest all t h = record { front = t.front ++ x; split = appen
 pub towards_fails : (a b c : Option (List ℕ)) (x rest all : List ℕ) → Towards a b (x ++ rest) all → AppendsFront b c x → AppendsFront a c all
 towards_fails a b c x rest all t h = subst (λ (s : List ℕ). AppendsFront a c s) t.split (front_behind a b c t.front (x ++ rest) t.written (front_of_both b c x rest h))
 
-pub towards_front : (a b c : Option (List ℕ)) (x all : List ℕ) → Towards a b x all → AppendsFront b c x → AppendsFront a c all
-towards_front a b c x all t h = subst (λ (s : List ℕ). AppendsFront a c s) t.split (front_behind a b c t.front x t.written h)
-
 pub towards_last : (a b c : Option (List ℕ)) (x all : List ℕ) → Towards a b x all → Appends b c x → Appends a c all
 towards_last a b c x all t h = subst (λ (s : List ℕ). Appends a c s) t.split (appends_more a b c t.front x t.written h)
 
 pub towards_end : (a b : Option (List ℕ)) (all : List ℕ) → Towards a b [] all → Appends a b all
 towards_end a b all t = subst (λ (s : List ℕ). Appends a b s) (sym (append-nil t.front) ∙ t.split) t.written
-
--- the last of them, whose answer is handed on
-pub towards_handed : {X E : Type 0} (r : Result X E) (a b c : Option (List ℕ)) (x all : List ℕ) → Towards a b x all → OnOk r (Appends b c x) → OnOk r (Appends a c all)
-towards_handed (Ok v) a b c x all t h = towards_last a b c x all t h
-towards_handed (Err e) a b c x all t h = tt
-
-pub towards_all : (a b : Option (List ℕ)) (all : List ℕ) → Towards a b [] all → AppendsFront a b all
-towards_all a b all t = front_whole a b all (towards_end a b all t)

@@ -13,22 +13,42 @@ fn unsigned(rt: &impl Abort, b: &[u8], lim: u64) -> Result<(u64, u8), Reason> {
     Ok((x.value, x.width))
 }
 
+/// Bytes, how many are left to the unit's end, and the value and width of the number at the front, or why
+/// there is none.
+type Unsigned = (&'static [u8], u64, Result<(u64, u8), Reason>);
+
+const UNSIGNED: [Unsigned; 8] = [
+    // 2^64 - 1, and one more
+    (
+        &[255, 255, 255, 255, 255, 255, 255, 255, 255, 1],
+        100,
+        Ok((18446744073709551615, 10)),
+    ),
+    (
+        &[255, 255, 255, 255, 255, 255, 255, 255, 255, 2],
+        100,
+        Err(Reason::LebTooBig),
+    ),
+    (&[128; 16], 100, Err(Reason::LebTooLong)),
+    (
+        &[
+            128, 128, 128, 128, 128, 128, 128, 128, 128, 128, 128, 128, 128, 128, 128, 0,
+        ],
+        100,
+        Ok((0, 16)),
+    ),
+    (&[128, 128], 2, Err(Reason::PastUnit)),
+    (&[128, 128], 3, Err(Reason::Truncated)),
+    // Examples of the standard's section 7.6.
+    (&[0x80, 1], 2, Ok((128, 2))),
+    (&[0xb9, 0x64], 2, Ok((12857, 2))),
+];
+
 #[test]
 fn unsigned_numbers(rt: HostRuntime) {
-    let most = [255, 255, 255, 255, 255, 255, 255, 255, 255, 1];
-    assert_eq!(rt; unsigned(&rt, &most, 100), Ok((18446744073709551615, 10)));
-    let above = [255, 255, 255, 255, 255, 255, 255, 255, 255, 2];
-    assert_eq!(rt; unsigned(&rt, &above, 100), Err(Reason::LebTooBig));
-    let endless = [128; 16];
-    assert_eq!(rt; unsigned(&rt, &endless, 100), Err(Reason::LebTooLong));
-    let mut padded = [128; 16];
-    padded[15] = 0;
-    assert_eq!(rt; unsigned(&rt, &padded, 100), Ok((0, 16)));
-    assert_eq!(rt; unsigned(&rt, &[128, 128], 2), Err(Reason::PastUnit));
-    assert_eq!(rt; unsigned(&rt, &[128, 128], 3), Err(Reason::Truncated));
-    // Examples of the standard's section 7.6.
-    assert_eq!(rt; unsigned(&rt, &[0x80, 1], 2), Ok((128, 2)));
-    assert_eq!(rt; unsigned(&rt, &[0xb9, 0x64], 2), Ok((12857, 2)));
+    for (b, lim, want) in UNSIGNED {
+        assert_eq!(rt; unsigned(&rt, b, lim), want, "of {b:?} within {lim}");
+    }
 }
 
 #[test]
@@ -55,25 +75,40 @@ fn signed(rt: &impl Abort, b: &[u8], lim: u64) -> Result<(i64, u8), Reason> {
     Ok((x.value, x.width))
 }
 
+/// The same of a signed number.
+type Signed = (&'static [u8], u64, Result<(i64, u8), Reason>);
+
+const SIGNED: [Signed; 13] = [
+    (&[0x7f], 1, Ok((-1, 1))),
+    (&[0xff, 0x7f], 2, Ok((-1, 2))),
+    (&[0x40], 1, Ok((-64, 1))),
+    (&[0xc0, 0], 2, Ok((64, 2))),
+    // -2^63, and a number below it
+    (
+        &[128, 128, 128, 128, 128, 128, 128, 128, 128, 0x7f],
+        10,
+        Ok((-9223372036854775808, 10)),
+    ),
+    (
+        &[128, 128, 128, 128, 128, 128, 128, 128, 128, 1],
+        10,
+        Err(Reason::LebTooBig),
+    ),
+    (&[255; 16], 100, Err(Reason::LebTooLong)),
+    (&[255, 255], 2, Err(Reason::PastUnit)),
+    (&[255, 255], 3, Err(Reason::Truncated)),
+    // Examples of the standard's section 7.6.
+    (&[0xff, 0], 2, Ok((127, 2))),
+    (&[0x81, 0x7f], 2, Ok((-127, 2))),
+    (&[0x80, 0x7f], 2, Ok((-128, 2))),
+    (&[0xff, 0x7e], 2, Ok((-129, 2))),
+];
+
 #[test]
 fn signed_numbers(rt: HostRuntime) {
-    assert_eq!(rt; signed(&rt, &[0x7f], 1), Ok((-1, 1)));
-    assert_eq!(rt; signed(&rt, &[0xff, 0x7f], 2), Ok((-1, 2)));
-    assert_eq!(rt; signed(&rt, &[0x40], 1), Ok((-64, 1)));
-    assert_eq!(rt; signed(&rt, &[0xc0, 0], 2), Ok((64, 2)));
-    let low = [128, 128, 128, 128, 128, 128, 128, 128, 128, 0x7f];
-    assert_eq!(rt; signed(&rt, &low, 10), Ok((-9223372036854775808, 10)));
-    let above = [128, 128, 128, 128, 128, 128, 128, 128, 128, 1];
-    assert_eq!(rt; signed(&rt, &above, 10), Err(Reason::LebTooBig));
-    let endless = [255; 16];
-    assert_eq!(rt; signed(&rt, &endless, 100), Err(Reason::LebTooLong));
-    assert_eq!(rt; signed(&rt, &[255, 255], 2), Err(Reason::PastUnit));
-    assert_eq!(rt; signed(&rt, &[255, 255], 3), Err(Reason::Truncated));
-    // Examples of the standard's section 7.6.
-    assert_eq!(rt; signed(&rt, &[0xff, 0], 2), Ok((127, 2)));
-    assert_eq!(rt; signed(&rt, &[0x81, 0x7f], 2), Ok((-127, 2)));
-    assert_eq!(rt; signed(&rt, &[0x80, 0x7f], 2), Ok((-128, 2)));
-    assert_eq!(rt; signed(&rt, &[0xff, 0x7e], 2), Ok((-129, 2)));
+    for (b, lim, want) in SIGNED {
+        assert_eq!(rt; signed(&rt, b, lim), want, "of {b:?} within {lim}");
+    }
 }
 
 #[test]

@@ -33,6 +33,25 @@ pub values_long : (k : Ctx) (ps : List Pair) (bytes : List ℕ) (lim : ℕ) (vs 
 values_long k [] bytes lim vs n e = let same : [] ≡ vs = cc in ap length (sym same)
 values_long k (p ∷ ps) bytes lim vs n e = first_by n (read_attribute k p.form.value p.constant bytes lim) (read_values k ps) bytes lim ps vs (values_long k ps) e
 
+-- ---- an entry whose values are read
+
+-- under the pairs of the code's declaration these values are read, one for each
+pub record ValuesRead (k : Ctx) (t : Table) (code : Unsigned) (d : Declaration) (bytes : List ℕ) (lim : ℕ) (vs : List Attribute) (n : ℕ) : Type 0 where
+  pub known : declared t code.value ≡ Some d
+  pub read : read_values k (pairs_of (declared t code.value)) bytes lim ≡ Found vs n
+  pub long : length vs ≡ length d.pairs
+
+-- the pairs of a declaration, as they are lent of it
+pub under : (k : Ctx) (t : Table) (code : Unsigned) (d : Declaration) (ps : List Pair) (bytes : List ℕ) (lim : ℕ) (o : Outcome (List Attribute)) → Some d ≡ declared t code.value → ps ≡ d.pairs
+    → read_values k ps bytes lim ≡ o → read_values k (pairs_of (declared t code.value)) bytes lim ≡ o
+under k t code d ps bytes lim o is pairs e = ap (λ (qs : List Pair). read_values k qs bytes lim) (sym (pairs ∙ ap pairs_of is)) ∙ e
+
+pub values_read : (k : Ctx) (t : Table) (code : Unsigned) (d : Declaration) (ps : List Pair) (bytes : List ℕ) (lim : ℕ) (vs : List Attribute) (n : ℕ) → Some d ≡ declared t code.value → ps ≡ d.pairs
+    → read_values k ps bytes lim ≡ Found vs n → ValuesRead k t code d bytes lim vs n
+values_read k t code d ps bytes lim vs n is pairs e =
+    let read = under k t code d ps bytes lim (Found vs n) is pairs e in
+    record { known = sym is; read = read; long = values_long k (pairs_of (declared t code.value)) bytes lim vs n read ∙ ap (λ (o : Option Declaration). length (pairs_of o)) (sym is) }
+
 -- ---- nodes in a row
 
 pub nodes_push : (items : List (Unsigned × Body)) (x : Unsigned × Body) → push (nodes_from items) (node_from x) ≡ nodes_from (items ++ x ∷ [])

@@ -84,6 +84,14 @@ next_of f [] i x lt = absurd (omega (arith, lt))
 next_of f (y ∷ xs) zero x lt = refl
 next_of f (y ∷ xs) (suc i) x lt = next_of f xs i x (omega (arith, lt))
 
+module _ (k : Ctx) (ps : List Pair) (vs : List AttrValue) (i n : ℕ) (v : AttrValue) (value_in : i < length vs) (value_is : v ≡ slice_index_or vs i v) where
+  -- the next value, and those behind it
+  pub next_here : drop i (map attribute_of vs) ≡ attribute_of v ∷ drop (suc i) (map attribute_of vs)
+  next_here = next_of attribute_of vs i v value_in ∙ ap (λ (x : AttrValue). attribute_of x ∷ drop (suc i) (map attribute_of vs)) (sym value_is)
+
+  pub next_parted : (values k (drop n ps)).Fits (drop i (map attribute_of vs)) → Parted k ps n (attribute_of v) (drop (suc i) (map attribute_of vs))
+  next_parted fits = parted k ps n (attribute_of v) (drop (suc i) (map attribute_of vs)) (subst (λ (xs : List Attribute). (values k (drop n ps)).Fits xs) next_here fits)
+
 module _ (k : Ctx) (ps : List RustPair) (vs : List AttrValue) (i : ℕ) (p : RustPair) (v : AttrValue) (pair_in : i < length ps) (value_in : i < length vs) (pair_is : p ≡ slice_index_or ps i p) (value_is : v ≡ slice_index_or vs i v) where
   abbrev pairs_behind : List Pair
   pairs_behind = drop (suc i) (map pair_of ps)

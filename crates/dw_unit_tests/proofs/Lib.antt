@@ -1,2 +1,3 @@
 pub mod SampleTables
 pub mod SampleSteps
+pub mod Drafting

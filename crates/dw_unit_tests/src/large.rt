@@ -8,19 +8,15 @@ use dw_leb::devices::Stepped;
 use dw_leb::{Format, Order, Uleb, Watched};
 use dw_unit::{Header, Kind, Unit, UnitBuilder};
 use std::alloc::Global;
+use std::process::Abort;
 use std::test::Fail;
 
 /// Code 1: DW_TAG_compile_unit, children, no attributes. Code 2: DW_TAG_variable, no children, DW_AT_name
 /// as DW_FORM_string.
 const VARIABLES: [u8; 13] = [0x01, 0x11, 1, 0, 0, 0x02, 0x34, 0, 0x03, 0x08, 0, 0, 0];
 
-/// More than 2^16.
-const CHILDREN: u64 = 70_000;
-
-/// The header, the root's code, a code and a name of four bytes with its zero for each child, and a null.
-const SIZE: u64 = 12 + 1 + CHILDREN * 6 + 1;
-
-fn built(alloc: Global) -> Result<Unit, Fail> {
+/// A root with so many children.
+fn built(alloc: Global, children: u32) -> Result<Unit, Fail> {
     let table = Tables::new(alloc, &VARIABLES).get(0)?;
     let header = Header::new(Order::Little, Format::Dwarf32, Kind::Compile, 8, 0).ok_or(
         "no header",
@@ -28,7 +24,7 @@ fn built(alloc: Global) -> Result<Unit, Fail> {
     let mut builder = UnitBuilder::new(alloc, header, table);
     builder.open(Uleb::least(1), &[])?;
     let name = [direct(Value::Text(b"name"))];
-    for _ in 0..CHILDREN {
+    for _ in 0..children {
         builder.open(Uleb::least(2), &name)?;
     }
     builder.close(1)?;
@@ -48,21 +44,27 @@ fn named(unit: &Unit) -> u64 {
     count
 }
 
+/// The unit has 70,000 children. With a header of 12 bytes, the root's code, a code and a name of four
+/// bytes with its zero for each child, and a null, these are 420,014 bytes.
+fn is_large(rt: &impl Abort, unit: &Unit) {
+    assert_eq!(rt; unit.size(), 420_014);
+    assert_eq!(rt; named(unit), 70_000);
+    let last = unit.entry_at(420_007).map(|entry| entry.end_offset());
+    assert_eq!(rt; last, Some(420_013));
+}
+
 #[test]
 fn many_entries_and_texts(rt: HostRuntime) -> Result<(), Fail> {
     let alloc = rt.alloc();
-    let unit = built(alloc)?;
-    assert_eq!(rt; (unit.size(), named(&unit)), (SIZE, CHILDREN));
+    let unit = built(alloc, 70_000)?;
+    is_large(&rt, &unit);
     let bytes = written(alloc, &unit)?;
-    assert_eq!(rt; bytes.len() as u64, SIZE);
-    let (again, taken) = little(alloc, &VARIABLES, bytes.as_slice())?;
-    assert_eq!(rt; (taken as u64, named(&again)), (SIZE, CHILDREN));
+    let (again, _) = little(alloc, &VARIABLES, bytes.as_slice())?;
+    is_large(&rt, &again);
     assert!(rt; written(alloc, &again)?.as_slice() == bytes.as_slice());
     let mut tables = Tables::new(alloc, &VARIABLES);
     let mut reader = Watched::new(Stepped::new(bytes.as_slice(), 1000));
     let fed = read_unit_from(alloc, Order::Little, &mut tables, &mut reader)?;
-    assert_eq!(rt; (fed.size(), named(&fed)), (SIZE, CHILDREN));
-    let last = fed.entry_at(SIZE - 7).ok_or("no last entry")?;
-    assert_eq!(rt; (last.tag(), last.end_offset()), (0x34, SIZE - 1));
+    is_large(&rt, &fed);
     Ok(())
 }

@@ -10,7 +10,7 @@ use Rattle.dw_tree.specs.Steps.{settle}
 use Rattle.dw_header.specs.Header.{context_of}
 use Rattle.dw_unit.specs.Draft.{Drafted, drafted_size, size_limit, value_bytes, undone, with_place}
 use Rattle.dw_unit.proofs.EntryLemmas.{drop_past}
-use Rattle.dw_unit.proofs.PutValues.{none_begun, Parted, parted, next_of, next_fits, next_size, with_is, undone_is}
+use Rattle.dw_unit.proofs.PutValues.{none_begun, next_here, next_parted, next_fits, next_size, with_is, undone_is}
 use Rattle.dw_unit.proofs.DraftLemmas.{within, not_long}
 use Rattle.dw_unit.proofs.given.put_entry.Goals as goal
 
@@ -34,11 +34,9 @@ value-requires-clause-fits c =
     let k = context_of old.header in
     let code : Unsigned = uleb_of c.args.code in
     let ps = pairs_of (declared old.table c.args.code.value) in
-    let rest = drop (suc c.loop-value.value-index) (map attribute_of vs) in
     let v : Attribute = attribute_of c.value-item.result in
     let value_in : c.loop-value.value-index < length vs = omega (arith, c.loop-value-test.true) in
-    let here = next_of attribute_of vs c.loop-value.value-index c.value-item.result value_in ∙ ap (λ x. attribute_of x ∷ rest) (sym c.value-item.is) in
-    let w : Parted k ps (length i.before) v rest = parted k ps (length i.before) v rest (subst (λ (xs : List Attribute). (values k (drop (length i.before) ps)).Fits xs) here i.fits) in
+    let w = next_parted k ps vs c.loop-value.value-index (length i.before) c.value-item.result value_in c.value-item.is i.fits in
     next_fits old c.loop-value.draft code i.before v c.requires.known i.draft_is w.short w.first
 
 pub value-requires-clause-between : goal.value-requires-clause-between
@@ -49,11 +47,9 @@ value-requires-clause-between c =
     let k = context_of old.header in
     let code : Unsigned = uleb_of c.args.code in
     let ps = pairs_of (declared old.table c.args.code.value) in
-    let rest = drop (suc c.loop-value.value-index) (map attribute_of vs) in
     let v : Attribute = attribute_of c.value-item.result in
     let value_in : c.loop-value.value-index < length vs = omega (arith, c.loop-value-test.true) in
-    let here = next_of attribute_of vs c.loop-value.value-index c.value-item.result value_in ∙ ap (λ x. attribute_of x ∷ rest) (sym c.value-item.is) in
-    let w : Parted k ps (length i.before) v rest = parted k ps (length i.before) v rest (subst (λ (xs : List Attribute). (values k (drop (length i.before) ps)).Fits xs) here i.fits) in
+    let w = next_parted k ps vs c.loop-value.value-index (length i.before) c.value-item.result value_in c.value-item.is i.fits in
     none_begun old c.loop-value.draft code i.before v c.requires.known i.draft_is w.short w.first
 
 pub value-requires-clause-short : goal.value-requires-clause-short
@@ -64,11 +60,10 @@ value-requires-clause-short c =
     let k = context_of old.header in
     let code : Unsigned = uleb_of c.args.code in
     let ps = pairs_of (declared old.table c.args.code.value) in
-    let rest = drop (suc c.loop-value.value-index) (map attribute_of vs) in
     let v : Attribute = attribute_of c.value-item.result in
     let value_in : c.loop-value.value-index < length vs = omega (arith, c.loop-value-test.true) in
-    let here = next_of attribute_of vs c.loop-value.value-index c.value-item.result value_in ∙ ap (λ x. attribute_of x ∷ rest) (sym c.value-item.is) in
-    let w : Parted k ps (length i.before) v rest = parted k ps (length i.before) v rest (subst (λ (xs : List Attribute). (values k (drop (length i.before) ps)).Fits xs) here i.fits) in
+    let here = next_here k ps vs c.loop-value.value-index (length i.before) c.value-item.result value_in c.value-item.is in
+    let w = next_parted k ps vs c.loop-value.value-index (length i.before) c.value-item.result value_in c.value-item.is i.fits in
     let size = next_size old c.loop-value.draft code i.before v c.requires.known i.draft_is w.short w.first in
     let all = ap (λ (xs : List Attribute). length ((values k (drop (length i.before) ps)).spell xs)) here in
     let short = within old (c.args.code.width + length ((values k ps).spell (map attribute_of vs))) c.requires.short in
@@ -86,8 +81,8 @@ loop-value-preserved c =
     let rest = drop (suc c.loop-value.value-index) (map attribute_of vs) in
     let v : Attribute = attribute_of c.value-item.result in
     let value_in : c.loop-value.value-index < length vs = omega (arith, c.loop-value-test.true) in
-    let here = next_of attribute_of vs c.loop-value.value-index c.value-item.result value_in ∙ ap (λ x. attribute_of x ∷ rest) (sym c.value-item.is) in
-    let w : Parted k ps (length i.before) v rest = parted k ps (length i.before) v rest (subst (λ (xs : List Attribute). (values k (drop (length i.before) ps)).Fits xs) here i.fits) in
+    let here = next_here k ps vs c.loop-value.value-index (length i.before) c.value-item.result value_in c.value-item.is in
+    let w = next_parted k ps vs c.loop-value.value-index (length i.before) c.value-item.result value_in c.value-item.is i.fits in
     let ends = c.in_default.ensures.size in
     let size = next_size old c.loop-value.draft code i.before v c.requires.known i.draft_is w.short w.first in
     let all = ap (λ (xs : List Attribute). length ((values k (drop (length i.before) ps)).spell xs)) here in
@@ -110,11 +105,9 @@ returns-in-Err-clause-err c =
     let k = context_of old.header in
     let code : Unsigned = uleb_of c.args.code in
     let ps = pairs_of (declared old.table c.args.code.value) in
-    let rest = drop (suc c.loop-value.value-index) (map attribute_of vs) in
     let v : Attribute = attribute_of c.value-item.result in
     let value_in : c.loop-value.value-index < length vs = omega (arith, c.loop-value-test.true) in
-    let here = next_of attribute_of vs c.loop-value.value-index c.value-item.result value_in ∙ ap (λ x. attribute_of x ∷ rest) (sym c.value-item.is) in
-    let w : Parted k ps (length i.before) v rest = parted k ps (length i.before) v rest (subst (λ (xs : List Attribute). (values k (drop (length i.before) ps)).Fits xs) here i.fits) in
+    let w = next_parted k ps vs c.loop-value.value-index (length i.before) c.value-item.result value_in c.value-item.is i.fits in
     c.undo.ensures ∙ (ap undone c.in-Err.ensures.err ∙ undone_is old c.loop-value.draft code i.before v c.requires.known i.draft_is w.short w.first c.requires.free)
 
 pub returns-clause-ok : goal.returns-clause-ok
@@ -122,9 +115,7 @@ returns-clause-ok c =
     let i = c.loop-value.invariant in
     let vs = c.args.values.now in
     let old : Drafted = c.args.draft.now in
-    let k = context_of old.header in
     let code : Unsigned = uleb_of c.args.code in
-    let ps = pairs_of (declared old.table c.args.code.value) in
     let none : drop c.loop-value.value-index (map attribute_of vs) ≡ [] = drop_past (map attribute_of vs) c.loop-value.value-index (omega (arith, c.loop-value-test.false, length-map vs attribute_of)) in
     let whole : i.before ≡ map attribute_of vs = sym (append-nil i.before) ∙ (ap (λ (xs : List Attribute). i.before ++ xs) (sym none) ∙ i.all_is) in
     i.draft_is ∙ ap (λ (xs : List Attribute). with_place (settle old.table old.place.spot code xs) old) whole
