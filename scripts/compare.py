@@ -25,6 +25,9 @@ NUMBER = re.compile(
     r"|<(0x[0-9a-f]+)>|(0x[0-9a-f]+|-?[0-9]+)(?:\s+\(.*\))?\s*$)"
 )
 
+# The forms of references that count from their unit's first byte. readelf adds the unit's place to them.
+WITHIN_ITS_UNIT = {"DW_FORM_ref1", "DW_FORM_ref2", "DW_FORM_ref4", "DW_FORM_ref8", "DW_FORM_ref_udata"}
+
 
 def number(text):
     """The number that a value's text tells, or None where it tells another thing."""
@@ -32,18 +35,44 @@ def number(text):
     return int(next(it for it in found.groups() if it is not None), 0) if found else None
 
 
+def dumped(what, file):
+    """The lines that readelf writes of a section."""
+    told = subprocess.run(["readelf", f"--debug-dump={what}", file], stdout=subprocess.PIPE, stderr=subprocess.DEVNULL, check=True)
+    return told.stdout.decode(errors="replace").splitlines()
+
+
+def forms_by_readelf(file):
+    """The forms of each declaration, by the offset of its table and its code."""
+    forms, table, code = {}, 0, 0
+    for line in dumped("abbrev", file):
+        begins = re.match(r"  Number TAG \((0x[0-9a-f]+|0)\)", line)
+        declares = re.match(r"   (\d+)      DW_TAG", line)
+        pair = re.match(r"    DW_AT\S*.*\b(DW_FORM_\w+)", line)
+        if begins:
+            table = int(begins[1], 0)
+        elif declares:
+            code = int(declares[1])
+            forms[table, code] = []
+        elif pair:
+            forms[table, code].append(pair[1])
+    return forms
+
+
 def by_readelf(file):
-    """The entries as lists of a heading and attributes, as readelf tells them."""
-    told = subprocess.run(["readelf", "--debug-dump=info", file], stdout=subprocess.PIPE, stderr=subprocess.DEVNULL, check=True)
-    entries = []
-    for line in told.stdout.decode(errors="replace").splitlines():
-        entry = re.match(r" <(\d+)><([0-9a-f]+)>: Abbrev Number: \d+ \((\w+)\)", line)
+    """The entries as lists of a heading and attributes, as readelf tells them. An attribute says whether its
+    form is one of a reference that counts from its unit."""
+    forms, table, entries, left = forms_by_readelf(file), 0, [], iter(())
+    for line in dumped("info", file):
+        unit = re.match(r"   Abbrev Offset: +(0x[0-9a-f]+|0)", line)
+        entry = re.match(r" <(\d+)><([0-9a-f]+)>: Abbrev Number: (\d+) \((\w+)\)", line)
         attribute = re.match(r"    <[0-9a-f]+>   (\w+)\s*: ?(.*)", line)
-        if entry:
-            entries.append([(int(entry[1]) + 1, int(entry[2], 16), entry[3])])
+        if unit:
+            table = int(unit[1], 0)
+        elif entry:
+            entries.append([(int(entry[1]) + 1, int(entry[2], 16), entry[4])])
+            left = iter(forms.get((table, int(entry[3])), ()))
         elif attribute and entries:
-            text = attribute[2].strip()
-            entries[-1].append((attribute[1], number(text), text.startswith("<")))
+            entries[-1].append((attribute[1], number(attribute[2].strip()), next(left, "") in WITHIN_ITS_UNIT))
     return entries
 
 
@@ -64,7 +93,8 @@ def by_show(program, file):
     """The same as `dwarf show` tells them, and where the units lie."""
     entries, places = [], []
     with tempfile.TemporaryDirectory() as room:
-        subprocess.run(["sh", SECTIONS, file, room], check=True)
+        if subprocess.run(["sh", SECTIONS, file, room]).returncode:
+            sys.exit(1)
         with open(f"{room}/debug_info", "rb") as it:
             info = it.read()
         for start, unit in units(info):
@@ -116,8 +146,7 @@ def differences(ours, theirs, places):
                 lines.append(f"{head}: {name}, {their_name} by readelf")
             elif value is not None and their_value is not None:
                 values += 1
-                # (readelf adds the unit's place to a reference that counts from there)
-                if value != their_value and not (refers and value + start == their_value):
+                if value + (start if refers else 0) != their_value:
                     lines.append(f"{head}: {name} {value:#x}, {their_value:#x} by readelf")
     return lines, values
 
@@ -138,6 +167,6 @@ def main(program, files):
 
 
 if __name__ == "__main__":
-    if len(sys.argv) < 3:
-        sys.exit(__doc__)
+    if len(sys.argv) < 3 or not os.access(sys.argv[1], os.X_OK):
+        sys.exit("usage: scripts/compare.py PROGRAM FILE..")
     sys.exit(main(sys.argv[1], sys.argv[2:]))

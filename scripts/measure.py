@@ -70,6 +70,7 @@ def main(program, count=12000):
 
 
 if __name__ == "__main__":
-    if len(sys.argv) not in (2, 3):
-        sys.exit(__doc__)
-    sys.exit(main(sys.argv[1], *map(int, sys.argv[2:])))
+    program, *count = sys.argv[1:] or [""]
+    if not os.access(program, os.X_OK) or len(count) > 1 or not all(it.isdigit() for it in count):
+        sys.exit("usage: scripts/measure.py PROGRAM [COUNT]")
+    sys.exit(main(program, *map(int, count)))

@@ -88,6 +88,7 @@ def main(program, count=600, seed=1):
 
 
 if __name__ == "__main__":
-    if len(sys.argv) not in (2, 3, 4):
-        sys.exit(__doc__)
-    sys.exit(main(sys.argv[1], *map(int, sys.argv[2:])))
+    program, *counts = sys.argv[1:] or [""]
+    if not os.access(program, os.X_OK) or len(counts) > 2 or not all(it.isdigit() for it in counts):
+        sys.exit("usage: scripts/mutate.py PROGRAM [COUNT [SEED]]")
+    sys.exit(main(program, *map(int, counts)))

@@ -1,6 +1,7 @@
 //! Numbers, forms and values that several tests begin with.
 use dw_form::{Ctx, Value};
 use dw_leb::{Sleb, Uleb};
+use std::process::Abort;
 use std::test::Fail;
 
 /// How many bytes a fixed number has.
@@ -101,4 +102,9 @@ pub fn wanted(want: Want) -> Result<Value<'static>, Fail> {
         Want::Present => Value::Present,
         Want::Implicit(value, width) => Value::Implicit(signed(value, width)?),
     })
+}
+
+/// These are the same bytes. An assertion of two slices where it is made costs the prover far more.
+pub fn same(rt: &impl Abort, got: &[u8], want: &[u8]) {
+    assert_eq!(rt; got, want);
 }

@@ -261,7 +261,7 @@ fn writes(rt: &impl Abort, alloc: Global, case: &Case<'_>) -> Result<(), Fail>
     );
     let mut writer = Watched::new(Vec::new(alloc));
     write_value(ctx, form, &lent, &mut writer)?;
-    assert_eq!(rt; writer.fault(), None);
+    assert!(rt; writer.fault() == None);
     let written = writer.into_inner();
     assert_eq!(rt; written.as_slice(), case.spelled, "under {form} in {ctx:?}");
     Ok(())

@@ -107,18 +107,15 @@ fn past_the_unit(rt: HostRuntime) {
         ([0x05, 0, 0, 0, 0x05, 0, 0x01, 0x08].as_slice(), 8),
         ([0x07, 0, 0, 0, 0x05, 0, 0x01, 0x08, 0, 0, 0].as_slice(), 8),
     ] {
-        assert_eq!(rt; refused(bytes), Some((offset, Reason::PastUnit)));
+        assert!(rt; refused(bytes) == Some((offset, Reason::PastUnit)));
     }
     // The fields that a kind adds: each is cut by the unit's end, and the unit by the input's end.
     for (unit_length, offset) in [(0x0f, 12), (0x10, 20), (0x13, 20)] {
-        assert_eq!(rt;
-            shorter_type_unit(unit_length),
-            Some((offset, Reason::PastUnit))
-        );
+        assert!(rt; shorter_type_unit(unit_length) == Some((offset, Reason::PastUnit)));
     }
     let mut skeleton = SKELETON_32_LITTLE;
     skeleton[0] = 0x0f;
-    assert_eq!(rt; refused(&skeleton), Some((12, Reason::PastUnit)));
+    assert!(rt; refused(&skeleton) == Some((12, Reason::PastUnit)));
 }
 
 /// The refusal of the first bytes of a type unit.
@@ -150,24 +147,24 @@ fn cut_fields(rt: HostRuntime) {
             "of {end} bytes"
         );
     }
-    assert_eq!(rt; refused(&TYPE_64_LITTLE[..40]), None);
+    assert!(rt; refused(&TYPE_64_LITTLE[..40]) == None);
 }
 
 #[test]
 fn faults_in_the_order_of_the_fields(rt: HostRuntime) -> Result<(), Fail> {
     let mut bytes = COMPILE_32_LITTLE;
     bytes[7] = 0;
-    assert_eq!(rt; refused(&bytes), Some((7, Reason::BadAddressSize)));
+    assert!(rt; refused(&bytes) == Some((7, Reason::BadAddressSize)));
     bytes[7] = 9;
-    assert_eq!(rt; refused(&bytes), Some((7, Reason::BadAddressSize)));
+    assert!(rt; refused(&bytes) == Some((7, Reason::BadAddressSize)));
     for unit_type in [0, 0x05, 0x06, 0x80, 0xff] {
         bytes[6] = unit_type;
-        assert_eq!(rt; refused(&bytes), Some((6, Reason::BadUnitType)));
+        assert!(rt; refused(&bytes) == Some((6, Reason::BadUnitType)));
     }
     bytes[4] = 4;
-    assert_eq!(rt; refused(&bytes), Some((4, Reason::BadVersion)));
+    assert!(rt; refused(&bytes) == Some((4, Reason::BadVersion)));
     bytes[0] = 1;
-    assert_eq!(rt; refused(&bytes), Some((4, Reason::PastUnit)));
+    assert!(rt; refused(&bytes) == Some((4, Reason::PastUnit)));
     Ok(())
 }
 

@@ -1,4 +1,5 @@
 //! What no clause of `dw_leb` says of numbers: values from outside, and each call once.
+use crate::common::same;
 use dw_leb::laws::{one_outcome, one_spelling, outcomes_are_stable};
 use dw_leb::{
     Bad, Format, Order, Reason, Sleb, Uleb, read_fixed, read_length, write_fixed, write_length,
@@ -8,8 +9,8 @@ use std::process::Abort;
 /// What one read of the number at the front gives, which is then written back.
 fn unsigned(rt: &impl Abort, b: &[u8], lim: u64) -> Result<(u64, u8), Reason> {
     let x = Uleb::read(b, lim)?;
-    assert_eq!(rt; x.bytes().as_slice(), b);
-    assert_eq!(rt; Uleb::with_width(x.value, x.width), Some(x));
+    assert!(rt; x.bytes().as_slice() == b);
+    assert!(rt; Uleb::with_width(x.value, x.width) == Some(x));
     Ok((x.value, x.width))
 }
 
@@ -55,23 +56,23 @@ fn unsigned_numbers(rt: HostRuntime) {
 fn unsigned_widths(rt: HostRuntime) {
     for (value, width) in [(0, 1), (127, 1), (128, 2), (12857, 2), (u64::MAX, 10)] {
         assert_eq!(rt; Uleb::least(value).width, width, "of {value}");
-        assert_eq!(rt; Uleb::least(value).value, value);
+        assert!(rt; Uleb::least(value).value == value);
     }
-    assert_eq!(rt; Uleb::with_width(128, 1), None);
-    assert_eq!(rt; Uleb::with_width(1, 0), None);
-    assert_eq!(rt; Uleb::with_width(1, 17), None);
+    assert!(rt; Uleb::with_width(128, 1) == None);
+    assert!(rt; Uleb::with_width(1, 0) == None);
+    assert!(rt; Uleb::with_width(1, 17) == None);
     let padded = Uleb::with_width(1, 2).map(|x| x.bytes());
-    assert_eq!(rt; padded.is_some(), true);
+    assert!(rt; padded.is_some() == true);
     if let Some(bytes) = padded {
-        assert_eq!(rt; bytes.as_slice(), [0x81, 0].as_slice());
+        same(&rt, bytes.as_slice(), &[0x81, 0]);
     }
 }
 
 /// What one read of the number at the front gives, which is then written back.
 fn signed(rt: &impl Abort, b: &[u8], lim: u64) -> Result<(i64, u8), Reason> {
     let x = Sleb::read(b, lim)?;
-    assert_eq!(rt; x.bytes().as_slice(), b);
-    assert_eq!(rt; Sleb::with_width(x.value, x.width), Some(x));
+    assert!(rt; x.bytes().as_slice() == b);
+    assert!(rt; Sleb::with_width(x.value, x.width) == Some(x));
     Ok((x.value, x.width))
 }
 
@@ -123,13 +124,13 @@ fn signed_widths(rt: HostRuntime) {
         (i64::MIN, 10),
     ] {
         assert_eq!(rt; Sleb::least(value).width, width, "of {value}");
-        assert_eq!(rt; Sleb::least(value).value, value);
+        assert!(rt; Sleb::least(value).value == value);
     }
-    assert_eq!(rt; Sleb::with_width(64, 1), None);
+    assert!(rt; Sleb::with_width(64, 1) == None);
     let wide = Sleb::with_width(64, 2).map(|x| x.bytes());
-    assert_eq!(rt; wide.is_some(), true);
+    assert!(rt; wide.is_some() == true);
     if let Some(bytes) = wide {
-        assert_eq!(rt; bytes.as_slice(), [0xc0, 0].as_slice());
+        same(&rt, bytes.as_slice(), &[0xc0, 0]);
     }
 }
 
@@ -141,17 +142,15 @@ fn fixed_numbers(rt: HostRuntime) {
             Ok(value),
             "in {order:?}"
         );
-        assert_eq!(rt;
-            write_fixed(order, 3, value).as_slice(),
-            [1, 2, 3].as_slice()
-        );
-        assert_eq!(rt; read_fixed(order, 3, &[1, 2], 2), Err(Reason::PastUnit));
-        assert_eq!(rt; read_fixed(order, 3, &[1, 2], 3), Err(Reason::Truncated));
+        same(&rt, write_fixed(order, 3, value).as_slice(), &[1, 2, 3]);
+        assert!(rt; read_fixed(order, 3, &[1, 2], 2) == Err(Reason::PastUnit));
+        assert!(rt; read_fixed(order, 3, &[1, 2], 3) == Err(Reason::Truncated));
         let most = [255; 16];
-        assert_eq!(rt; read_fixed(order, 16, &most, 16), Ok(u128::MAX));
-        assert_eq!(rt;
+        assert!(rt; read_fixed(order, 16, &most, 16) == Ok(u128::MAX));
+        same(
+            &rt,
             write_fixed(order, 16, u128::MAX).as_slice(),
-            most.as_slice()
+            most.as_slice(),
         );
     }
 }
@@ -160,7 +159,7 @@ fn fixed_numbers(rt: HostRuntime) {
 fn length(rt: &impl Abort, order: Order, start: u64, b: &[u8]) -> Result<(Format, u64), Reason> {
     let (format, n) = read_length(order, start, b)?;
     if format == Format::Dwarf64 || n < 0xffff_fff0 {
-        assert_eq!(rt; write_length(order, format, n).as_slice(), b);
+        assert!(rt; write_length(order, format, n).as_slice() == b);
     }
     Ok((format, n))
 }
@@ -168,60 +167,48 @@ fn length(rt: &impl Abort, order: Order, start: u64, b: &[u8]) -> Result<(Format
 #[test]
 fn initial_lengths(rt: HostRuntime) {
     let narrow = Ok((Format::Dwarf32, 11));
-    assert_eq!(rt; length(&rt, Order::Little, 0, &[11, 0, 0, 0]), narrow);
-    assert_eq!(rt; length(&rt, Order::Big, 0, &[0, 0, 0, 11]), narrow);
+    assert!(rt; length(&rt, Order::Little, 0, &[11, 0, 0, 0]) == narrow);
+    assert!(rt; length(&rt, Order::Big, 0, &[0, 0, 0, 11]) == narrow);
     let wide = Ok((Format::Dwarf64, 15));
     let little = [255, 255, 255, 255, 15, 0, 0, 0, 0, 0, 0, 0];
-    assert_eq!(rt; length(&rt, Order::Little, 0, &little), wide);
+    assert!(rt; length(&rt, Order::Little, 0, &little) == wide);
     let big = [255, 255, 255, 255, 0, 0, 0, 0, 0, 0, 0, 15];
-    assert_eq!(rt; length(&rt, Order::Big, 0, &big), wide);
+    assert!(rt; length(&rt, Order::Big, 0, &big) == wide);
 }
 
 /// Sections 7.2.2 and 7.4: the 64-bit format's initial length is an escape of 4 bytes and 8 bytes.
 #[test]
 fn sizes_of_the_formats(rt: HostRuntime) {
     for (format, length, offset) in [(Format::Dwarf32, 4, 4), (Format::Dwarf64, 12, 8)] {
-        assert_eq!(rt; format.length_size(), length);
-        assert_eq!(rt; format.offset_size(), offset);
+        assert!(rt; format.length_size() == length);
+        assert!(rt; format.offset_size() == offset);
     }
 }
 
 #[test]
 fn fields_behind_others(rt: HostRuntime) {
     let field = Bad::here(Reason::BadVersion);
-    assert_eq!(rt; field.offset, 0);
+    assert!(rt; field.offset == 0);
     let field = field.behind(4).behind(12);
-    assert_eq!(rt; field.offset, 16);
-    assert_eq!(rt; field.reason, Reason::BadVersion);
+    assert!(rt; field.offset == 16);
+    assert!(rt; field.reason == Reason::BadVersion);
 }
 
 #[test]
 fn refused_lengths(rt: HostRuntime) {
     let reserved = Err(Reason::ReservedLength);
-    assert_eq!(rt;
-        length(&rt, Order::Little, 0, &[0xf0, 255, 255, 255]),
-        reserved
-    );
-    assert_eq!(rt;
-        length(&rt, Order::Big, 0, &[255, 255, 255, 0xf0]),
-        reserved
-    );
+    assert!(rt; length(&rt, Order::Little, 0, &[0xf0, 255, 255, 255]) == reserved);
+    assert!(rt; length(&rt, Order::Big, 0, &[255, 255, 255, 0xf0]) == reserved);
     let cut = Err(Reason::Truncated);
-    assert_eq!(rt;
-        length(&rt, Order::Little, 0, &[255, 255, 255, 255, 0]),
-        cut
-    );
-    assert_eq!(rt; length(&rt, Order::Little, 0, &[0xf0, 255, 255]), cut);
+    assert!(rt; length(&rt, Order::Little, 0, &[255, 255, 255, 255, 0]) == cut);
+    assert!(rt; length(&rt, Order::Little, 0, &[0xf0, 255, 255]) == cut);
     let too_big = Err(Reason::LengthTooBig);
-    assert_eq!(rt; length(&rt, Order::Little, 0, &[255; 12]), too_big);
+    assert!(rt; length(&rt, Order::Little, 0, &[255; 12]) == too_big);
     // The field of four bytes and eleven more begin at `start`: their end is 2^63 - 1 at most.
     let last = 9223372036854775807 - 15;
     let narrow = Ok((Format::Dwarf32, 11));
-    assert_eq!(rt; length(&rt, Order::Little, last, &[11, 0, 0, 0]), narrow);
-    assert_eq!(rt;
-        length(&rt, Order::Little, last + 1, &[11, 0, 0, 0]),
-        too_big
-    );
+    assert!(rt; length(&rt, Order::Little, last, &[11, 0, 0, 0]) == narrow);
+    assert!(rt; length(&rt, Order::Little, last + 1, &[11, 0, 0, 0]) == too_big);
 }
 
 #[test]

@@ -1,6 +1,6 @@
 //! What no clause says of tables that are built: each call once with memory to spare, each refusal
 //! in its order, bytes from outside, and the same call again after a growth was refused.
-use crate::common::unsigned;
+use crate::common::{same, unsigned};
 use crate::tables::{CONSTANT, PADDED, written};
 use dw_abbrev::{Decl, Table, TableBuilder, TableRefusal, Tables};
 use dw_leb::{Sleb, Uleb};
@@ -46,11 +46,11 @@ fn finished(builder: TableBuilder, width: u8) -> Result<Table, TableRefusal> {
 fn a_new_declaration(rt: HostRuntime) -> Result<(), Fail> {
     let code = unsigned(1, 2)?;
     let decl = Decl::new(rt.alloc(), code, Uleb::least(0x34), true, (2, 16))?;
-    assert_eq!(rt; decl.code(), code);
-    assert_eq!(rt; decl.tag(), Uleb::least(0x34));
-    assert_eq!(rt; decl.has_children(), true);
-    assert_eq!(rt; decl.pairs().len(), 0);
-    assert_eq!(rt; decl.zeros(), (2, 16));
+    assert!(rt; decl.code() == code);
+    assert!(rt; decl.tag() == Uleb::least(0x34));
+    assert!(rt; decl.has_children() == true);
+    assert!(rt; decl.pairs().len() == 0);
+    assert!(rt; decl.zeros() == (2, 16));
     Ok(())
 }
 
@@ -89,11 +89,11 @@ fn pairs_of_a_declaration(rt: HostRuntime) -> Result<(), Fail> {
     for (name, form, constant, want) in cases {
         let refusal = decl.pair(Uleb::least(name), Uleb::least(form), constant);
         assert_eq!(rt; refusal, Err(want), "of {name} and {form}");
-        assert_eq!(rt; decl.pairs().len(), 2);
+        assert!(rt; decl.pairs().len() == 2);
     }
     let last = decl.pairs().last().ok_or("no pair")?;
-    assert_eq!(rt; (last.name.value, last.form.value), (0x0b, 0x21));
-    assert_eq!(rt; last.constant, constant);
+    assert!(rt; (last.name.value, last.form.value) == (0x0b, 0x21));
+    assert!(rt; last.constant == constant);
     Ok(())
 }
 
@@ -103,10 +103,14 @@ fn declarations_of_a_table(rt: HostRuntime) -> Result<(), Fail> {
     added(&mut builder, with_pairs(rt.alloc(), 2, 1)?)?;
     added(&mut builder, childless(rt.alloc(), 1)?)?;
     let twice = refused(&mut builder, with_pairs(rt.alloc(), 2, 3)?);
-    assert_eq!(rt; twice, Some((TableRefusal::DuplicateCode, 2, 3)));
+    assert!(rt; twice == Some((TableRefusal::DuplicateCode, 2, 3)));
     let table = finished(builder, 1)?;
     let bytes = [2, 0x11, 0, 3, 8, 0, 0, 1, 0x11, 0, 0, 0, 0];
-    assert_eq!(rt; written(rt.alloc(), &table)?.as_slice(), bytes.as_slice());
+    same(
+        &rt,
+        written(rt.alloc(), &table)?.as_slice(),
+        bytes.as_slice(),
+    );
     Ok(())
 }
 
@@ -114,14 +118,14 @@ fn declarations_of_a_table(rt: HostRuntime) -> Result<(), Fail> {
 fn the_most_pairs_of_a_table(rt: HostRuntime) -> Result<(), Fail> {
     let mut builder = TableBuilder::new(rt.alloc());
     let above = refused(&mut builder, with_pairs(rt.alloc(), 1, 1025)?);
-    assert_eq!(rt; above, Some((TableRefusal::TooManyPairs, 1, 1025)));
+    assert!(rt; above == Some((TableRefusal::TooManyPairs, 1, 1025)));
     let most = refused(&mut builder, with_pairs(rt.alloc(), 1, 1024)?);
-    assert_eq!(rt; most, None);
+    assert!(rt; most == None);
     let twice = refused(&mut builder, with_pairs(rt.alloc(), 1, 1025)?);
-    assert_eq!(rt; twice, Some((TableRefusal::DuplicateCode, 1, 1025)));
+    assert!(rt; twice == Some((TableRefusal::DuplicateCode, 1, 1025)));
     let table = finished(builder, 1)?;
     let count = table.get(1).map(|decl| decl.pairs().len());
-    assert_eq!(rt; count, Some(1024));
+    assert!(rt; count == Some(1024));
     Ok(())
 }
 
@@ -140,7 +144,11 @@ fn widths_of_a_tables_end(rt: HostRuntime) -> Result<(), Fail> {
     }
     let table = finished(builder, 3)?;
     let bytes = [1, 0x11, 0, 0, 0, 0x80, 0x80, 0];
-    assert_eq!(rt; written(rt.alloc(), &table)?.as_slice(), bytes.as_slice());
+    same(
+        &rt,
+        written(rt.alloc(), &table)?.as_slice(),
+        bytes.as_slice(),
+    );
     Ok(())
 }
 
@@ -154,11 +162,11 @@ fn many_declarations(rt: HostRuntime) -> Result<(), Fail> {
     }
     let bytes = written(alloc, &finished(builder, 1)?)?;
     // A code of one byte or two, a tag, a flag, two numbers and two zeros for each; a zero behind them.
-    assert_eq!(rt; bytes.len(), 127 * 7 + 273 * 8 + 1);
+    assert!(rt; bytes.len() == 127 * 7 + 273 * 8 + 1);
     let table = Tables::new(alloc, bytes.as_slice()).get(0)?;
     for code in 1..401u64 {
         let decl = table.get(code).ok_or("no declaration")?;
-        assert_eq!(rt; (decl.code().value, decl.pairs().len()), (code, 1));
+        assert!(rt; (decl.code().value, decl.pairs().len()) == (code, 1));
     }
     assert!(rt; written(alloc, &table)?.as_slice() == bytes.as_slice());
     Ok(())
@@ -180,9 +188,9 @@ fn built_written_and_read_back(rt: HostRuntime) -> Result<(), Fail> {
     let mut builder = TableBuilder::new(rt.alloc());
     added(&mut builder, padded(rt.alloc())?)?;
     let bytes = written(rt.alloc(), &finished(builder, 3)?)?;
-    assert_eq!(rt; bytes.as_slice(), PADDED.as_slice());
+    same(&rt, bytes.as_slice(), &PADDED);
     let again = Table::read(rt.alloc(), bytes.as_slice(), 0)?;
-    assert_eq!(rt; written(rt.alloc(), &again)?.as_slice(), PADDED.as_slice());
+    same(&rt, written(rt.alloc(), &again)?.as_slice(), &PADDED);
     Ok(())
 }
 
@@ -207,10 +215,7 @@ fn patiently_built(alloc: Global) -> Result<Table, TableRefusal> {
 #[test]
 fn a_refused_growth_is_asked_again(rt: HostRuntime) -> Result<(), Fail> {
     let table = patiently_built(rt.alloc())?;
-    assert_eq!(rt;
-        written(rt.alloc(), &table)?.as_slice(),
-        CONSTANT.as_slice()
-    );
+    same(&rt, written(rt.alloc(), &table)?.as_slice(), &CONSTANT);
     Ok(())
 }
 
@@ -226,9 +231,9 @@ fn numbers_and_names_of_refusals(rt: HostRuntime) -> Result<(), Fail> {
         (7, TableRefusal::WrongConstant, "WrongConstant"),
     ];
     for (number, refusal, name) in refusals {
-        assert_eq!(rt; refusal as u8, number);
+        assert!(rt; refusal as u8 == number);
         let text = format!(in rt.alloc(); "{}", refusal)?;
-        assert_eq!(rt; text.as_str(), name);
+        assert!(rt; text.as_str() == name);
     }
     Ok(())
 }

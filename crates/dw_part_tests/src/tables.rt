@@ -1,5 +1,6 @@
 //! What no clause says: tables whose bytes and numbers come from the standard, each call once with
 //! memory to spare, and a writer that fails.
+use crate::common::same;
 use dw_abbrev::laws::{one_outcome, one_spelling, one_table, written_stands};
 use dw_abbrev::{Pair, Table, Tables};
 use dw_leb::devices::Stepped;
@@ -60,19 +61,16 @@ fn two_tables(alloc: Global) -> Result<Vec<u8>, AllocError> {
 fn reads_one_pair(rt: HostRuntime) -> Result<(), Fail> {
     let table = Table::read(rt.alloc(), &ONE_PAIR, 0)?;
     let decl = table.get(1).ok_or("no declaration")?;
-    assert_eq!(rt; (decl.code().value, decl.code().width), (1, 1));
-    assert_eq!(rt; (decl.tag().value, decl.tag().width), (0x11, 1));
-    assert_eq!(rt; decl.has_children(), false);
-    assert_eq!(rt; decl.zeros(), (1, 1));
-    assert_eq!(rt; decl.pairs().len(), 1);
+    assert!(rt; (decl.code().value, decl.code().width) == (1, 1));
+    assert!(rt; (decl.tag().value, decl.tag().width) == (0x11, 1));
+    assert!(rt; decl.has_children() == false);
+    assert!(rt; decl.zeros() == (1, 1));
+    assert!(rt; decl.pairs().len() == 1);
     let pair = first_pair(&table, 1).ok_or("no pair")?;
-    assert_eq!(rt; (pair.name.value, pair.form.value), (3, 8));
-    assert_eq!(rt; pair.constant, None);
+    assert!(rt; (pair.name.value, pair.form.value) == (3, 8));
+    assert!(rt; pair.constant == None);
     assert!(rt; table.get(0).is_none());
-    assert_eq!(rt;
-        written(rt.alloc(), &table)?.as_slice(),
-        ONE_PAIR.as_slice()
-    );
+    same(&rt, written(rt.alloc(), &table)?.as_slice(), &ONE_PAIR);
     Ok(())
 }
 
@@ -80,13 +78,13 @@ fn reads_one_pair(rt: HostRuntime) -> Result<(), Fail> {
 fn keeps_every_width(rt: HostRuntime) -> Result<(), Fail> {
     let table = Table::read(rt.alloc(), &PADDED, 0)?;
     let decl = table.get(1).ok_or("no declaration")?;
-    assert_eq!(rt; (decl.code().value, decl.code().width), (1, 2));
-    assert_eq!(rt; (decl.tag().value, decl.tag().width), (0x11, 2));
-    assert_eq!(rt; decl.zeros(), (2, 2));
+    assert!(rt; (decl.code().value, decl.code().width) == (1, 2));
+    assert!(rt; (decl.tag().value, decl.tag().width) == (0x11, 2));
+    assert!(rt; decl.zeros() == (2, 2));
     let pair = first_pair(&table, 1).ok_or("no pair")?;
-    assert_eq!(rt; Some(pair.name), Uleb::with_width(3, 3));
-    assert_eq!(rt; Some(pair.form), Uleb::with_width(8, 2));
-    assert_eq!(rt; written(rt.alloc(), &table)?.as_slice(), PADDED.as_slice());
+    assert!(rt; Some(pair.name) == Uleb::with_width(3, 3));
+    assert!(rt; Some(pair.form) == Uleb::with_width(8, 2));
+    same(&rt, written(rt.alloc(), &table)?.as_slice(), &PADDED);
     Ok(())
 }
 
@@ -94,12 +92,9 @@ fn keeps_every_width(rt: HostRuntime) -> Result<(), Fail> {
 fn reads_a_constant(rt: HostRuntime) -> Result<(), Fail> {
     let table = Table::read(rt.alloc(), &CONSTANT, 0)?;
     let pair = first_pair(&table, 1).ok_or("no pair")?;
-    assert_eq!(rt; (pair.name.value, pair.form.value), (0x0b, 0x21));
-    assert_eq!(rt; pair.constant, Sleb::with_width(-1, 2));
-    assert_eq!(rt;
-        written(rt.alloc(), &table)?.as_slice(),
-        CONSTANT.as_slice()
-    );
+    assert!(rt; (pair.name.value, pair.form.value) == (0x0b, 0x21));
+    assert!(rt; pair.constant == Sleb::with_width(-1, 2));
+    same(&rt, written(rt.alloc(), &table)?.as_slice(), &CONSTANT);
     Ok(())
 }
 
@@ -107,26 +102,23 @@ fn reads_a_constant(rt: HostRuntime) -> Result<(), Fail> {
 fn the_empty_table(rt: HostRuntime) -> Result<(), Fail> {
     let table = Table::read(rt.alloc(), &ONE_PAIR, 7)?;
     assert!(rt; table.get(1).is_none());
-    assert_eq!(rt; written(rt.alloc(), &table)?.as_slice(), [0].as_slice());
+    same(&rt, written(rt.alloc(), &table)?.as_slice(), &[0]);
     Ok(())
 }
 
 #[test]
 fn refusals(rt: HostRuntime) {
     let alloc = rt.alloc();
-    assert_eq!(rt; refusal(alloc, &ONE_PAIR, 3), Some((Reason::Truncated, 8)));
-    assert_eq!(rt;
-        refusal(alloc, &ONE_PAIR, 8),
-        Some((Reason::AbbrevOffset, 8))
-    );
+    assert!(rt; refusal(alloc, &ONE_PAIR, 3) == Some((Reason::Truncated, 8)));
+    assert!(rt; refusal(alloc, &ONE_PAIR, 8) == Some((Reason::AbbrevOffset, 8)));
     let flag = [0x01, 0x11, 0x02];
-    assert_eq!(rt; refusal(alloc, &flag, 0), Some((Reason::BadChildren, 2)));
+    assert!(rt; refusal(alloc, &flag, 0) == Some((Reason::BadChildren, 2)));
     let half = [0x01, 0x11, 0, 0x03, 0];
-    assert_eq!(rt; refusal(alloc, &half, 0), Some((Reason::HalfPair, 3)));
+    assert!(rt; refusal(alloc, &half, 0) == Some((Reason::HalfPair, 3)));
     let twice = [0x01, 0x11, 0, 0, 0, 0x01];
-    assert_eq!(rt; refusal(alloc, &twice, 0), Some((Reason::DuplicateCode, 5)));
+    assert!(rt; refusal(alloc, &twice, 0) == Some((Reason::DuplicateCode, 5)));
     let cut = [0x01, 0x11, 0, 0x03, 0x08];
-    assert_eq!(rt; refusal(alloc, &cut, 0), Some((Reason::Truncated, 5)));
+    assert!(rt; refusal(alloc, &cut, 0) == Some((Reason::Truncated, 5)));
 }
 
 #[test]
@@ -135,13 +127,13 @@ fn the_most_pairs(rt: HostRuntime) -> Result<(), Fail> {
     let most = many_pairs(alloc, 1024, &[0, 0, 0])?;
     let table = Table::read(alloc, most.as_slice(), 0)?;
     let decl = table.get(1).ok_or("no declaration")?;
-    assert_eq!(rt; decl.pairs().len(), 1024);
+    assert!(rt; decl.pairs().len() == 1024);
     let above = many_pairs(alloc, 1025, &[0, 0, 0])?;
     let refused = refusal(alloc, above.as_slice(), 0);
-    assert_eq!(rt; refused, Some((Reason::TooManyPairs, 2051)));
+    assert!(rt; refused == Some((Reason::TooManyPairs, 2051)));
     let half = many_pairs(alloc, 1024, &[0x03, 0])?;
     let refused = refusal(alloc, half.as_slice(), 0);
-    assert_eq!(rt; refused, Some((Reason::HalfPair, 2051)));
+    assert!(rt; refused == Some((Reason::HalfPair, 2051)));
     Ok(())
 }
 
@@ -150,24 +142,15 @@ fn asks_in_any_order(rt: HostRuntime) -> Result<(), Fail> {
     let section = two_tables(rt.alloc())?;
     let mut tables = Tables::new(rt.alloc(), section.as_slice());
     let constant = tables.get(8)?;
-    assert_eq!(rt;
-        written(rt.alloc(), &constant)?.as_slice(),
-        CONSTANT.as_slice()
-    );
+    same(&rt, written(rt.alloc(), &constant)?.as_slice(), &CONSTANT);
     let first = tables.get(0)?;
-    assert_eq!(rt;
-        written(rt.alloc(), &first)?.as_slice(),
-        ONE_PAIR.as_slice()
-    );
+    same(&rt, written(rt.alloc(), &first)?.as_slice(), &ONE_PAIR);
     let both = tables.get(3)?;
     assert!(rt; both.get(3).is_some());
     assert!(rt; both.get(1).is_some());
     assert!(rt; both.get(2).is_none());
     let again = tables.get(8)?;
-    assert_eq!(rt;
-        written(rt.alloc(), &again)?.as_slice(),
-        CONSTANT.as_slice()
-    );
+    same(&rt, written(rt.alloc(), &again)?.as_slice(), &CONSTANT);
     Ok(())
 }
 
@@ -212,10 +195,10 @@ fn keeps_a_writers_fault(rt: HostRuntime) -> Result<(), Fail> {
     let device = Stepped::failing(Vec::new(rt.alloc()), 1, 4, ErrorKind::Other);
     let mut writer = Watched::new(device);
     let answer = table.write(&mut writer);
-    assert_eq!(rt; answer, Err(WriteError::Io(ErrorKind::Other)));
-    assert_eq!(rt; writer.fault(), Some(ErrorKind::Other));
+    assert!(rt; answer == Err(WriteError::Io(ErrorKind::Other)));
+    assert!(rt; writer.fault() == Some(ErrorKind::Other));
     let device = writer.into_inner();
-    assert_eq!(rt; device.inner().as_slice(), [0x01, 0x11, 0, 0x03].as_slice());
+    same(&rt, device.inner().as_slice(), &[0x01, 0x11, 0, 0x03]);
     Ok(())
 }
 

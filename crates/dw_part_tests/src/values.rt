@@ -1,5 +1,6 @@
 //! What no clause says: each refusal, one pool for many values, a writer that fails, and the size of
 //! a stored value. The forms one by one are in `forms`.
+use crate::common::same;
 use dw_form::laws::{one_outcome, one_spelling, outcomes_are_stable, stored_values_stay};
 use dw_form::{
     AttrValue, Ctx, Shape, Stored, Value, ValueError, lend_value, read_value, write_value,
@@ -108,7 +109,7 @@ fn refused_values(rt: HostRuntime) -> Result<(), Fail> {
             Some(ValueError::Bad(reason)),
             "of {b:?} under {form}"
         );
-        assert_eq!(rt; pool.as_slice(), [1, 2, 3].as_slice());
+        same(&rt, pool.as_slice(), &[1, 2, 3]);
         assert_eq!(rt; pool.capacity(), capacity, "of {b:?} under {form}");
     }
     Ok(())
@@ -138,16 +139,16 @@ fn one_pool(rt: HostRuntime) -> Result<(), Fail> {
     let alloc = rt.alloc();
     let mut pool = Vec::new(alloc);
     let (text, taken) = read_value(alloc, USUAL, 0x08, None, b"ab\0cd", 5, &mut pool)?;
-    assert_eq!(rt; taken, 3);
+    assert!(rt; taken == 3);
     let (empty, taken) = read_value(alloc, USUAL, 0x08, None, &[0], 1, &mut pool)?;
-    assert_eq!(rt; taken, 1);
+    assert!(rt; taken == 1);
     let number = AttrValue {
         via: None,
         value: Value::Num(7),
     };
     let number = Stored::keep(&number, &mut pool)?;
     let cut = read_value(alloc, USUAL, 0x08, None, b"ef", 2, &mut pool);
-    assert_eq!(rt; cut.err(), Some(ValueError::Bad(Reason::PastUnit)));
+    assert!(rt; cut.err() == Some(ValueError::Bad(Reason::PastUnit)));
     let bytes = [0xcc, 0xdd];
     let block = AttrValue {
         via: None,
@@ -157,7 +158,7 @@ fn one_pool(rt: HostRuntime) -> Result<(), Fail> {
         },
     };
     let block = Stored::keep(&block, &mut pool)?;
-    assert_eq!(rt; pool.as_slice(), [b'a', b'b', 0xcc, 0xdd].as_slice());
+    same(&rt, pool.as_slice(), &[b'a', b'b', 0xcc, 0xdd]);
     assert!(rt; text.lend(&pool).value == Value::Text(b"ab"));
     assert!(rt; empty.lend(&pool).value == Value::Text(&[]));
     assert!(rt; number.lend(&pool).value == Value::Num(7));
@@ -182,7 +183,7 @@ fn stored_at_the_pools_end(rt: HostRuntime) -> Result<(), Fail> {
     let text = text.lend(&pool);
     assert!(rt; text.via.is_none() && text.value == Value::Text(b"bc"));
     let block = block.lend(&pool);
-    assert_eq!(rt; block.via, Some(Uleb::least(0x0a)));
+    assert!(rt; block.via == Some(Uleb::least(0x0a)));
     assert!(rt;
         block.value
             == Value::Block {
@@ -199,9 +200,9 @@ fn keeps_a_write_fault(rt: HostRuntime) -> Result<(), Fail> {
     let stepped = Stepped::failing(Vec::new(rt.alloc()), 1, 2, ErrorKind::TimedOut);
     let mut writer = Watched::new(stepped);
     let broken = write_value(USUAL, 0x08, &text, &mut writer);
-    assert_eq!(rt; broken.err(), Some(WriteError::Io(ErrorKind::TimedOut)));
-    assert_eq!(rt; writer.fault(), Some(ErrorKind::TimedOut));
-    assert_eq!(rt; writer.into_inner().inner().as_slice(), b"ab".as_slice());
+    assert!(rt; broken.err() == Some(WriteError::Io(ErrorKind::TimedOut)));
+    assert!(rt; writer.fault() == Some(ErrorKind::TimedOut));
+    same(&rt, writer.into_inner().inner().as_slice(), b"ab");
     Ok(())
 }
 
@@ -280,16 +281,16 @@ fn shapes(rt: HostRuntime) {
     }
     for address_size in 1..9 {
         let want = Some(Shape::Fixed(address_size));
-        assert_eq!(rt; Shape::of(0x01, address_size, Format::Dwarf32), want);
+        assert!(rt; Shape::of(0x01, address_size, Format::Dwarf32) == want);
     }
 }
 
 #[test]
 fn printed_errors(rt: HostRuntime) -> Result<(), Fail> {
     let bad = format!(in rt.alloc(); "{}", ValueError::Bad(Reason::UnknownForm))?;
-    assert_eq!(rt; bad.as_str(), "UnknownForm");
+    assert!(rt; bad.as_str() == "UnknownForm");
     let memory = format!(in rt.alloc(); "{}", ValueError::NoMemory)?;
-    assert_eq!(rt; memory.as_str(), "memory");
+    assert!(rt; memory.as_str() == "memory");
     Ok(())
 }
 

@@ -38,7 +38,7 @@ fn many_entries_texts_and_declarations(rt: HostRuntime) -> Result<(), Fail> {
     let copied = written(alloc, Command::Copy, &info, &abbrev).ok_or("not copied")?;
     assert!(rt; copied.as_slice() == info.as_slice());
     let shown = written(alloc, Command::Show, &info, &abbrev).ok_or("not shown")?;
-    assert_eq!(rt; lines_with(&shown, b'<'), 70_001);
-    assert_eq!(rt; lines_with(&shown, b' '), 70_000);
+    assert!(rt; lines_with(&shown, b'<') == 70_001);
+    assert!(rt; lines_with(&shown, b' ') == 70_000);
     Ok(())
 }

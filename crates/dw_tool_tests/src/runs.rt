@@ -63,16 +63,16 @@ fn runs_over_a_unit(rt: HostRuntime) -> Result<(), Fail> {
     let text =
         "unit 0x0 compile 32 size 15 abbrev 0x0 addr 8\n<1> 0xc DW_TAG_compile_unit\n  DW_AT_name \"a\"\n";
     let shown = runs(rt.alloc(), Command::Show, unit, text.as_bytes())?;
-    assert_eq!(rt; shown, Ok(Status::Good));
+    assert!(rt; shown == Ok(Status::Good));
     let copied = runs(rt.alloc(), Command::Copy, unit, unit)?;
-    assert_eq!(rt; copied, Ok(Status::Good));
+    assert!(rt; copied == Ok(Status::Good));
     for command in [Command::Show, Command::Copy] {
         let nothing = runs(rt.alloc(), command, &[], &[])?;
-        assert_eq!(rt; nothing, Ok(Status::Good));
+        assert!(rt; nothing == Ok(Status::Good));
         let cut = runs(rt.alloc(), command, &UNIT_AND_MORE[..14], &[])?;
-        assert_eq!(rt; cut, refused(13, Reason::Truncated));
+        assert!(rt; cut == refused(13, Reason::Truncated));
         let more = runs(rt.alloc(), command, &UNIT_AND_MORE, &[])?;
-        assert_eq!(rt; more, refused(15, Reason::NotYet));
+        assert!(rt; more == refused(15, Reason::NotYet));
     }
     Ok(())
 }
@@ -120,9 +120,9 @@ fn shows_each_kind_of_unit(rt: HostRuntime) -> Result<(), Fail> {
             text.extend_from_slice(part.as_bytes())?;
         }
         let shown = runs(rt.alloc(), Command::Show, bytes, text.as_slice())?;
-        assert_eq!(rt; shown, Ok(Status::Good));
+        assert!(rt; shown == Ok(Status::Good));
         let copied = runs(rt.alloc(), Command::Copy, bytes, bytes)?;
-        assert_eq!(rt; copied, Ok(Status::Good));
+        assert!(rt; copied == Ok(Status::Good));
     }
     Ok(())
 }
@@ -149,9 +149,9 @@ fn shows_a_child(rt: HostRuntime) -> Result<(), Fail> {
         &CHILD,
         text.as_bytes(),
     )?;
-    assert_eq!(rt; shown, Ok(Status::Good));
+    assert!(rt; shown == Ok(Status::Good));
     let copied = runs_over(rt.alloc(), Command::Copy, &CHILD_TABLE, &CHILD, &CHILD)?;
-    assert_eq!(rt; copied, Ok(Status::Good));
+    assert!(rt; copied == Ok(Status::Good));
     Ok(())
 }
 
@@ -162,9 +162,9 @@ fn refuses_children_without_an_end(rt: HostRuntime) -> Result<(), Fail> {
     unit[0] = 0x0d;
     for command in [Command::Show, Command::Copy] {
         let cut = runs_over(rt.alloc(), command, &CHILD_TABLE, &unit[..17], &[])?;
-        assert_eq!(rt; cut, refused(0x11, Reason::PastUnit));
+        assert!(rt; cut == refused(0x11, Reason::PastUnit));
         let more = runs_over(rt.alloc(), command, &CHILD_TABLE, &unit, &[])?;
-        assert_eq!(rt; more, refused(0x11, Reason::PastUnit));
+        assert!(rt; more == refused(0x11, Reason::PastUnit));
     }
     Ok(())
 }
@@ -194,9 +194,9 @@ fn shows_a_type_unit_with_a_child(rt: HostRuntime) -> Result<(), Fail> {
         unit,
         text.as_bytes(),
     )?;
-    assert_eq!(rt; shown, Ok(Status::Good));
+    assert!(rt; shown == Ok(Status::Good));
     let copied = runs_over(alloc, Command::Copy, &SIGNATURE_TABLE, unit, unit)?;
-    assert_eq!(rt; copied, Ok(Status::Good));
+    assert!(rt; copied == Ok(Status::Good));
     Ok(())
 }
 
@@ -225,9 +225,9 @@ fn shows_entries_of_several_levels(rt: HostRuntime) -> Result<(), Fail> {
         &LEVELS,
         text.as_bytes(),
     )?;
-    assert_eq!(rt; shown, Ok(Status::Good));
+    assert!(rt; shown == Ok(Status::Good));
     let copied = runs_over(alloc, Command::Copy, &LEVELS_TABLE, &LEVELS, &LEVELS)?;
-    assert_eq!(rt; copied, Ok(Status::Good));
+    assert!(rt; copied == Ok(Status::Good));
     Ok(())
 }
 
@@ -238,7 +238,7 @@ fn shows_an_implicit_constant(rt: HostRuntime) -> Result<(), Fail> {
     let text =
         "unit 0x0 compile 32 size 13 abbrev 0x0 addr 8\n<1> 0xc DW_TAG_compile_unit\n  DW_AT_byte_size -1\n";
     let shown = runs_over(rt.alloc(), Command::Show, &table, &unit, text.as_bytes())?;
-    assert_eq!(rt; shown, Ok(Status::Good));
+    assert!(rt; shown == Ok(Status::Good));
     Ok(())
 }
 
@@ -255,7 +255,7 @@ fn tells_devices_that_fail(rt: HostRuntime) {
             abbrev: &TABLE,
         };
         let unread = run(alloc, command, inputs, &mut writer);
-        assert_eq!(rt; unread, Err(ToolError::Read(ErrorKind::TimedOut)));
+        assert!(rt; unread == Err(ToolError::Read(ErrorKind::TimedOut)));
         assert!(rt; writer.into_inner().is_empty());
 
         let mut reader = Watched::new(unit);
@@ -266,7 +266,7 @@ fn tells_devices_that_fail(rt: HostRuntime) {
             abbrev: &TABLE,
         };
         let unwritten = run(alloc, command, inputs, &mut writer);
-        assert_eq!(rt; unwritten, Err(ToolError::Write(ErrorKind::TimedOut)));
+        assert!(rt; unwritten == Err(ToolError::Write(ErrorKind::TimedOut)));
     }
 }
 
@@ -287,7 +287,7 @@ fn printed_errors(rt: HostRuntime) -> Result<(), Fail> {
         (ToolError::Memory, "memory"),
     ] {
         let text = format!(in rt.alloc(); "{}", error)?;
-        assert_eq!(rt; text.as_str(), want);
+        assert!(rt; text.as_str() == want);
     }
     Ok(())
 }

@@ -1,6 +1,6 @@
 //! What no clause says of units that are built: each call once with memory to spare, each refusal in
 //! its order, bytes from outside, and the same call again after a growth was refused.
-use crate::common::{BARE, PADDED, TYPED, WITH_A_CHILD, direct, finished, little, written};
+use crate::common::{BARE, PADDED, TYPED, WITH_A_CHILD, direct, finished, little, same, written};
 use dw_abbrev::Tables;
 use dw_form::{AttrValue, Value};
 use dw_leb::{Format, Order, Sleb, Uleb};
@@ -35,36 +35,24 @@ fn a_root_with_a_child(rt: HostRuntime) -> Result<(), Fail> {
     let leb = [direct(Value::Uleb(Uleb::least(4)))];
     let builder = builder(rt.alloc(), &TYPED, Format::Dwarf32)?;
     let (refusal, mut builder) = unfinished(builder)?;
-    assert_eq!(rt; refusal, Refusal::NoRoot);
-    assert_eq!(rt; builder.pad(1), Err(Refusal::NoRoot));
-    assert_eq!(rt; builder.close(1), Err(Refusal::NotOpen));
+    assert!(rt; refusal == Refusal::NoRoot);
+    assert!(rt; builder.pad(1) == Err(Refusal::NoRoot));
+    assert!(rt; builder.close(1) == Err(Refusal::NotOpen));
     builder.open(Uleb::least(1), &text)?;
-    assert_eq!(rt;
-        builder.open(Uleb::least(3), &[]),
-        Err(Refusal::UnknownCode)
-    );
-    assert_eq!(rt;
-        builder.open(Uleb::least(2), &leb),
-        Err(Refusal::WrongValues)
-    );
+    assert!(rt; builder.open(Uleb::least(3), &[]) == Err(Refusal::UnknownCode));
+    assert!(rt; builder.open(Uleb::least(2), &leb) == Err(Refusal::WrongValues));
     let (refusal, mut builder) = unfinished(builder)?;
-    assert_eq!(rt; refusal, Refusal::Open);
+    assert!(rt; refusal == Refusal::Open);
     builder.open(Uleb::least(2), &number)?;
-    assert_eq!(rt; builder.close(0), Err(Refusal::BadWidth));
+    assert!(rt; builder.close(0) == Err(Refusal::BadWidth));
     builder.close(1)?;
-    assert_eq!(rt;
-        builder.open(Uleb::least(1), &text),
-        Err(Refusal::SecondRoot)
-    );
-    assert_eq!(rt; builder.pad(17), Err(Refusal::BadWidth));
+    assert!(rt; builder.open(Uleb::least(1), &text) == Err(Refusal::SecondRoot));
+    assert!(rt; builder.pad(17) == Err(Refusal::BadWidth));
     let unit = finished(builder)?;
-    assert_eq!(rt; unit.size(), 18);
-    assert_eq!(rt; unit.root().offset(), 12);
-    assert_eq!(rt; unit.root().end_offset(), 18);
-    assert_eq!(rt;
-        written(rt.alloc(), &unit)?.as_slice(),
-        WITH_A_CHILD.as_slice()
-    );
+    assert!(rt; unit.size() == 18);
+    assert!(rt; unit.root().offset() == 12);
+    assert!(rt; unit.root().end_offset() == 18);
+    same(&rt, written(rt.alloc(), &unit)?.as_slice(), &WITH_A_CHILD);
     Ok(())
 }
 
@@ -74,18 +62,18 @@ fn keeps_each_width(rt: HostRuntime) -> Result<(), Fail> {
     let code = Uleb::with_width(1, 2).ok_or("no such width")?;
     builder.open(code, &[direct(Value::Text(&[0x61]))])?;
     builder.open(Uleb::least(2), &[direct(Value::Num(4))])?;
-    assert_eq!(rt; builder.pad(1), Err(Refusal::Open));
+    assert!(rt; builder.pad(1) == Err(Refusal::Open));
     builder.close(2)?;
-    assert_eq!(rt; builder.close(2), Err(Refusal::NotOpen));
+    assert!(rt; builder.close(2) == Err(Refusal::NotOpen));
     builder.pad(1)?;
     builder.pad(2)?;
-    assert_eq!(rt; builder.pad(0), Err(Refusal::BadWidth));
+    assert!(rt; builder.pad(0) == Err(Refusal::BadWidth));
     let unit = finished(builder)?;
-    assert_eq!(rt; unit.padding(), [1, 2].as_slice());
-    assert_eq!(rt; written(rt.alloc(), &unit)?.as_slice(), PADDED.as_slice());
+    assert!(rt; unit.padding() == [1, 2].as_slice());
+    same(&rt, written(rt.alloc(), &unit)?.as_slice(), &PADDED);
     let (again, size) = little(rt.alloc(), &TYPED, &PADDED)?;
-    assert_eq!(rt; size, 23);
-    assert_eq!(rt; written(rt.alloc(), &again)?.as_slice(), PADDED.as_slice());
+    assert!(rt; size == 23);
+    same(&rt, written(rt.alloc(), &again)?.as_slice(), &PADDED);
     Ok(())
 }
 
@@ -96,34 +84,27 @@ fn refused_values(rt: HostRuntime) -> Result<(), Fail> {
     let child = Uleb::least(2);
     let wrong = Err(Refusal::WrongValues);
     let text = direct(Value::Text(&[0x61]));
-    assert_eq!(rt;
-        builder.open(Uleb::least(0), &[]),
-        Err(Refusal::UnknownCode)
-    );
-    assert_eq!(rt; builder.open(root, &[]), wrong);
-    assert_eq!(rt; builder.open(root, &[text, text]), wrong);
-    assert_eq!(rt;
-        builder.open(root, &[direct(Value::Text(&[0x61, 0, 0x62]))]),
-        wrong
-    );
-    assert_eq!(rt;
+    assert!(rt; builder.open(Uleb::least(0), &[]) == Err(Refusal::UnknownCode));
+    assert!(rt; builder.open(root, &[]) == wrong);
+    assert!(rt; builder.open(root, &[text, text]) == wrong);
+    assert!(rt; builder.open(root, &[direct(Value::Text(&[0x61, 0, 0x62]))]) == wrong);
+    assert!(rt;
         builder.open(
             root,
             &[direct(Value::Block {
                 width: 1,
                 bytes: &[0x61]
             })]
-        ),
-        wrong
+        ) == wrong
     );
     let through = AttrValue {
         via: Some(Uleb::least(0x08)),
         value: Value::Text(&[0x61]),
     };
-    assert_eq!(rt; builder.open(root, &[through]), wrong);
+    assert!(rt; builder.open(root, &[through]) == wrong);
     builder.open(root, &[direct(Value::Text(&[]))])?;
-    assert_eq!(rt; builder.open(child, &[direct(Value::Num(256))]), wrong);
-    assert_eq!(rt; builder.open(child, &[direct(Value::Wide(4))]), wrong);
+    assert!(rt; builder.open(child, &[direct(Value::Num(256))]) == wrong);
+    assert!(rt; builder.open(child, &[direct(Value::Wide(4))]) == wrong);
     builder.open(child, &[direct(Value::Num(255))])?;
     Ok(())
 }
@@ -141,19 +122,16 @@ fn indirect_and_implicit_values(rt: HostRuntime) -> Result<(), Fail> {
         value: five,
     };
     let implicit = direct(Value::Implicit(constant));
-    assert_eq!(rt; builder.open(code, &[direct(five), implicit]), wrong);
-    assert_eq!(rt; builder.open(code, &[through(0x16), implicit]), wrong);
-    assert_eq!(rt; builder.open(code, &[through(0x21), implicit]), wrong);
-    assert_eq!(rt; builder.open(code, &[through(0x02), implicit]), wrong);
-    assert_eq!(rt; builder.open(code, &[through(0x0d), implicit]), wrong);
-    assert_eq!(rt;
-        builder.open(code, &[through(0x0f), direct(Value::Implicit(other))]),
-        wrong
-    );
+    assert!(rt; builder.open(code, &[direct(five), implicit]) == wrong);
+    assert!(rt; builder.open(code, &[through(0x16), implicit]) == wrong);
+    assert!(rt; builder.open(code, &[through(0x21), implicit]) == wrong);
+    assert!(rt; builder.open(code, &[through(0x02), implicit]) == wrong);
+    assert!(rt; builder.open(code, &[through(0x0d), implicit]) == wrong);
+    assert!(rt; builder.open(code, &[through(0x0f), direct(Value::Implicit(other))]) == wrong);
     builder.open(code, &[through(0x0f), implicit])?;
-    assert_eq!(rt; builder.close(1), Err(Refusal::NotOpen));
+    assert!(rt; builder.close(1) == Err(Refusal::NotOpen));
     let unit = finished(builder)?;
-    assert_eq!(rt; written(rt.alloc(), &unit)?.as_slice(), FIVE.as_slice());
+    same(&rt, written(rt.alloc(), &unit)?.as_slice(), &FIVE);
     Ok(())
 }
 
@@ -179,17 +157,17 @@ fn too_deep(rt: HostRuntime) -> Result<(), Fail> {
     for _i in 0..256 {
         opened_bare(&mut builder, 1)?;
     }
-    assert_eq!(rt; opened_bare(&mut builder, 1), Err(Refusal::TooDeep));
+    assert!(rt; opened_bare(&mut builder, 1) == Err(Refusal::TooDeep));
     // Before its code is judged.
-    assert_eq!(rt; opened_bare(&mut builder, 9), Err(Refusal::TooDeep));
+    assert!(rt; opened_bare(&mut builder, 9) == Err(Refusal::TooDeep));
     for _i in 0..256 {
         builder.close(1)?;
     }
-    assert_eq!(rt; opened_bare(&mut builder, 9), Err(Refusal::SecondRoot));
+    assert!(rt; opened_bare(&mut builder, 9) == Err(Refusal::SecondRoot));
     let unit = finished(builder)?;
-    assert_eq!(rt; unit.size(), 524);
+    assert!(rt; unit.size() == 524);
     let want = deepest(rt.alloc())?;
-    assert_eq!(rt; written(rt.alloc(), &unit)?.as_slice(), want.as_slice());
+    same(&rt, written(rt.alloc(), &unit)?.as_slice(), want.as_slice());
     Ok(())
 }
 
@@ -223,16 +201,10 @@ fn too_long(rt: HostRuntime) -> Result<(), Fail> {
     let section = many_blocks(rt.alloc())?;
     let values = blocks(rt.alloc(), bytes.as_slice())?;
     let mut builder = builder(rt.alloc(), section.as_slice(), Format::Dwarf32)?;
-    assert_eq!(rt;
-        builder.open(Uleb::least(1), values.as_slice()),
-        Err(Refusal::TooLong)
-    );
+    assert!(rt; builder.open(Uleb::least(1), values.as_slice()) == Err(Refusal::TooLong));
     // After its values are judged.
-    assert_eq!(rt;
-        builder.open(Uleb::least(1), &[]),
-        Err(Refusal::WrongValues)
-    );
-    assert_eq!(rt; finished(builder).err(), Some(Refusal::NoRoot));
+    assert!(rt; builder.open(Uleb::least(1), &[]) == Err(Refusal::WrongValues));
+    assert!(rt; finished(builder).err() == Some(Refusal::NoRoot));
     Ok(())
 }
 
@@ -242,12 +214,12 @@ fn in_the_64_bit_format(rt: HostRuntime) -> Result<(), Fail> {
     builder.open(Uleb::least(1), &[])?;
     builder.close(1)?;
     let unit = finished(builder)?;
-    assert_eq!(rt; unit.size(), 26);
+    assert!(rt; unit.size() == 26);
     let want = [
         0xff, 0xff, 0xff, 0xff, 0x0e, 0, 0, 0, 0, 0, 0, 0, 0x05, 0, 0x01, 0x08, 0, 0, 0, 0, 0, 0,
         0, 0, 0x01, 0,
     ];
-    assert_eq!(rt; written(rt.alloc(), &unit)?.as_slice(), want.as_slice());
+    same(&rt, written(rt.alloc(), &unit)?.as_slice(), want.as_slice());
     Ok(())
 }
 
@@ -276,12 +248,12 @@ fn a_refused_growth_is_asked_again(rt: HostRuntime) -> Result<(), Fail> {
         builder.pad(1)?;
     }
     let unit = finished(builder)?;
-    assert_eq!(rt; unit.size(), 19);
-    assert_eq!(rt; unit.padding(), [1].as_slice());
+    assert!(rt; unit.size() == 19);
+    assert!(rt; unit.padding() == [1].as_slice());
     let want = [
         0x0f, 0, 0, 0, 0x05, 0, 0x01, 0x08, 0, 0, 0, 0, 0x01, 0x61, 0, 0x02, 0x04, 0, 0,
     ];
-    assert_eq!(rt; written(rt.alloc(), &unit)?.as_slice(), want.as_slice());
+    same(&rt, written(rt.alloc(), &unit)?.as_slice(), want.as_slice());
     Ok(())
 }
 
@@ -300,9 +272,9 @@ fn numbers_and_names_of_refusals(rt: HostRuntime) -> Result<(), Fail> {
         (10, Refusal::NoMemory, "NoMemory"),
     ];
     for (number, refusal, name) in refusals {
-        assert_eq!(rt; refusal as u8, number);
+        assert!(rt; refusal as u8 == number);
         let text = format!(in rt.alloc(); "{}", refusal)?;
-        assert_eq!(rt; text.as_str(), name);
+        assert!(rt; text.as_str() == name);
     }
     Ok(())
 }

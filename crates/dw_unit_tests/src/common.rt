@@ -4,6 +4,7 @@ use dw_form::{AttrValue, Value};
 use dw_leb::{Fault, Order, ReadError, Reason, Section, Watched, WriteError};
 use dw_unit::{AttrRef, Refusal, Unit, UnitBuilder, read_unit, write_unit};
 use std::alloc::Global;
+use std::process::Abort;
 
 /// One declaration: code 1, DW_TAG_compile_unit, no children, DW_AT_name as DW_FORM_string.
 pub const NAMED: [u8; 8] = [0x01, 0x11, 0, 0x03, 0x08, 0, 0, 0];
@@ -99,4 +100,9 @@ pub fn finished(builder: UnitBuilder) -> Result<Unit, Refusal> {
         Ok(unit) => Ok(unit),
         Err((refusal, _)) => Err(refusal),
     }
+}
+
+/// These are the same bytes. An assertion of two slices where it is made costs the prover far more.
+pub fn same(rt: &impl Abort, got: &[u8], want: &[u8]) {
+    assert_eq!(rt; got, want);
 }

@@ -4,7 +4,7 @@
 ghost use Rattle.std.specs.Prelude.{IsTrue};
 ghost use Rattle.dw_unit.specs.Draft.{BegunFits, BegunShort};
 
-use crate::common::{PADDED, TYPED, written};
+use crate::common::{PADDED, TYPED, same, written};
 use dw_abbrev::{Table, Tables};
 use dw_form::{AttrValue, Value, fits, size_of};
 use dw_leb::{Format, Order, Uleb};
@@ -176,27 +176,27 @@ fn built(alloc: Global) -> Result<Unit, Fail> {
 #[test]
 fn a_unit_step_by_step(rt: HostRuntime) -> Result<(), Fail> {
     let mut draft = Draft::new(rt.alloc(), header()?, table(rt.alloc())?);
-    assert_eq!(rt; draft.size(), 12);
-    assert_eq!(rt; draft.is_empty(), true);
+    assert!(rt; draft.size() == 12);
+    assert!(rt; draft.is_empty() == true);
     begun(&mut draft, Uleb::with_width(1, 2).ok_or("no such width")?)?;
-    assert_eq!(rt; draft.size(), 14);
-    assert_eq!(rt; draft.is_empty(), true);
+    assert!(rt; draft.size() == 14);
+    assert!(rt; draft.is_empty() == true);
     given(&mut draft, name())?;
-    assert_eq!(rt; draft.depth(), 1);
+    assert!(rt; draft.depth() == 1);
     begun(&mut draft, Uleb::least(2))?;
     given(&mut draft, four())?;
-    assert_eq!(rt; draft.depth(), 1);
+    assert!(rt; draft.depth() == 1);
     closed(&mut draft, 2)?;
-    assert_eq!(rt; draft.depth(), 0);
-    assert_eq!(rt; draft.is_empty(), false);
+    assert!(rt; draft.depth() == 0);
+    assert!(rt; draft.is_empty() == false);
     padded(&mut draft, 1)?;
     padded(&mut draft, 2)?;
-    assert_eq!(rt; draft.size(), 23);
+    assert!(rt; draft.size() == 23);
     let unit = finished(draft)?;
-    assert_eq!(rt; unit.size(), 23);
-    assert_eq!(rt; written(rt.alloc(), &unit)?.as_slice(), PADDED.as_slice());
+    assert!(rt; unit.size() == 23);
+    same(&rt, written(rt.alloc(), &unit)?.as_slice(), &PADDED);
     let other = built(rt.alloc())?;
-    assert_eq!(rt; written(rt.alloc(), &other)?.as_slice(), PADDED.as_slice());
+    same(&rt, written(rt.alloc(), &other)?.as_slice(), &PADDED);
     Ok(())
 }
 
@@ -206,31 +206,31 @@ fn a_name_in_pieces(rt: HostRuntime) -> Result<(), Fail> {
     begun(&mut draft, Uleb::with_width(1, 2).ok_or("no such width")?)?;
     started(&mut draft)?;
     lengthened(&mut draft, &[])?;
-    assert_eq!(rt; draft.content(), [].as_slice());
+    assert!(rt; draft.content() == [].as_slice());
     lengthened(&mut draft, &[0x61])?;
-    assert_eq!(rt; draft.content(), [0x61].as_slice());
-    assert_eq!(rt;
+    assert!(rt; draft.content() == [0x61].as_slice());
+    assert!(rt;
         draft
             .begun()
-            .map(|begun| begun.value == Value::Text(&[0x61])),
-        Some(true)
+            .map(|begun| begun.value == Value::Text(&[0x61]))
+            == Some(true)
     );
-    assert_eq!(rt; draft.size(), 14);
+    assert!(rt; draft.size() == 14);
     ended(&mut draft)?;
-    assert_eq!(rt; draft.begun().is_none(), true);
-    assert_eq!(rt; draft.size(), 16);
+    assert!(rt; draft.begun().is_none() == true);
+    assert!(rt; draft.size() == 16);
     begun(&mut draft, Uleb::least(1))?;
     started(&mut draft)?;
     lengthened(&mut draft, &[0x62, 0x63])?;
     draft.undo();
-    assert_eq!(rt; draft.content(), [0x61].as_slice());
+    assert!(rt; draft.content() == [0x61].as_slice());
     begun(&mut draft, Uleb::least(2))?;
     given(&mut draft, four())?;
     closed(&mut draft, 2)?;
     padded(&mut draft, 1)?;
     padded(&mut draft, 2)?;
     let unit = finished(draft)?;
-    assert_eq!(rt; written(rt.alloc(), &unit)?.as_slice(), PADDED.as_slice());
+    same(&rt, written(rt.alloc(), &unit)?.as_slice(), &PADDED);
     Ok(())
 }
 
@@ -242,7 +242,7 @@ fn a_wrong_name_in_pieces(rt: HostRuntime) -> Result<(), Fail> {
     started(&mut draft)?;
     lengthened(&mut draft, &[0x61, 0])?;
     assert!(rt; !can_end(&draft));
-    assert_eq!(rt; draft.content(), [0x61, 0].as_slice());
+    assert!(rt; draft.content() == [0x61, 0].as_slice());
     Ok(())
 }
 
@@ -251,10 +251,10 @@ fn an_entry_is_taken_back(rt: HostRuntime) -> Result<(), Fail> {
     let mut draft = Draft::new(rt.alloc(), header()?, table(rt.alloc())?);
     begun(&mut draft, Uleb::least(1))?;
     let pair = draft.next_pair().ok_or("no entry is read")?;
-    assert_eq!(rt; pair.form.value, 0x08);
+    assert!(rt; pair.form.value == 0x08);
     draft.undo();
-    assert_eq!(rt; draft.size(), 12);
-    assert_eq!(rt; draft.next_pair(), None);
+    assert!(rt; draft.size() == 12);
+    assert!(rt; draft.next_pair() == None);
     begun(&mut draft, Uleb::with_width(1, 2).ok_or("no such width")?)?;
     given(&mut draft, name())?;
     begun(&mut draft, Uleb::least(1))?;
@@ -265,6 +265,6 @@ fn an_entry_is_taken_back(rt: HostRuntime) -> Result<(), Fail> {
     padded(&mut draft, 1)?;
     padded(&mut draft, 2)?;
     let unit = finished(draft)?;
-    assert_eq!(rt; written(rt.alloc(), &unit)?.as_slice(), PADDED.as_slice());
+    same(&rt, written(rt.alloc(), &unit)?.as_slice(), &PADDED);
     Ok(())
 }

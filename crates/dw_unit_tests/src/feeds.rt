@@ -3,7 +3,7 @@
 ghost use Rattle.std.specs.Prelude.{◌≡◌, None};
 ghost use Rattle.dw_leb.specs.Watch.{fault_of, told_by_read};
 
-use crate::common::{FIFTEEN, NAMED, SIXTY_FOUR, TYPED, WITH_A_CHILD, text_of};
+use crate::common::{FIFTEEN, NAMED, SIXTY_FOUR, TYPED, WITH_A_CHILD, same, text_of};
 use dw_abbrev::Tables;
 use dw_feed::{read_unit_from, unit_bytes};
 use dw_leb::devices::Stepped;
@@ -61,11 +61,11 @@ fn reads_the_fifteen_bytes(rt: HostRuntime) -> Result<(), Fail> {
     for step in [1, 2, 4, 14, 15, 16, 17, 4096] {
         let mut reader = Watched::new(Stepped::new(bytes.as_slice(), step));
         let unit = little(alloc, &NAMED, &mut reader)?;
-        assert_eq!(rt; unit.size(), 15);
-        assert_eq!(rt; (unit.root().offset(), unit.root().tag()), (12, 0x11));
-        assert_eq!(rt; name_of(&unit), Some(b"a".as_slice()));
-        assert_eq!(rt; reader.fault(), None);
-        assert_eq!(rt; *reader.into_inner().inner(), [0xff, 0xff].as_slice());
+        assert!(rt; unit.size() == 15);
+        assert!(rt; (unit.root().offset(), unit.root().tag()) == (12, 0x11));
+        assert!(rt; name_of(&unit) == Some(b"a".as_slice()));
+        assert!(rt; reader.fault() == None);
+        assert!(rt; *reader.into_inner().inner() == [0xff, 0xff].as_slice());
     }
     Ok(())
 }
@@ -76,15 +76,12 @@ fn reads_a_root_with_a_child(rt: HostRuntime) -> Result<(), Fail> {
     let bytes = followed(alloc, &WITH_A_CHILD, &[0x02])?;
     let mut reader = Watched::new(Stepped::new(bytes.as_slice(), 1));
     let unit = little(alloc, &TYPED, &mut reader)?;
-    assert_eq!(rt; unit.size(), 18);
+    assert!(rt; unit.size() == 18);
     let root = unit.root();
-    assert_eq!(rt; (root.offset(), root.end_offset()), (12, 18));
+    assert!(rt; (root.offset(), root.end_offset()) == (12, 18));
     let child = root.children().next().ok_or("no child")?;
-    assert_eq!(rt;
-        (child.offset(), child.end_offset(), child.tag()),
-        (15, 17, 0x24)
-    );
-    assert_eq!(rt; *reader.into_inner().inner(), [0x02].as_slice());
+    assert!(rt; (child.offset(), child.end_offset(), child.tag()) == (15, 17, 0x24));
+    assert!(rt; *reader.into_inner().inner() == [0x02].as_slice());
     Ok(())
 }
 
@@ -94,8 +91,8 @@ fn reads_the_sixty_four_bit_format(rt: HostRuntime) -> Result<(), Fail> {
     let bytes = followed(alloc, &SIXTY_FOUR, &[0xff])?;
     let mut reader = Watched::new(Stepped::new(bytes.as_slice(), 1));
     let unit = little(alloc, &NAMED, &mut reader)?;
-    assert_eq!(rt; (unit.size(), unit.root().offset()), (27, 24));
-    assert_eq!(rt; *reader.into_inner().inner(), [0xff].as_slice());
+    assert!(rt; (unit.size(), unit.root().offset()) == (27, 24));
+    assert!(rt; *reader.into_inner().inner() == [0xff].as_slice());
     Ok(())
 }
 
@@ -111,10 +108,10 @@ fn reads_a_long_unit(rt: HostRuntime) -> Result<(), Fail> {
     for step in [1, 4095, 4096, 4097, 100_000] {
         let mut reader = Watched::new(Stepped::new(bytes.as_slice(), step));
         let unit = little(alloc, &NAMED, &mut reader)?;
-        assert_eq!(rt; unit.size(), 9014);
+        assert!(rt; unit.size() == 9014);
         let name = name_of(&unit).ok_or("no name")?;
-        assert_eq!(rt; name.len(), 9000);
-        assert_eq!(rt; *reader.into_inner().inner(), [0xff].as_slice());
+        assert!(rt; name.len() == 9000);
+        assert!(rt; *reader.into_inner().inner() == [0xff].as_slice());
     }
     Ok(())
 }
@@ -124,9 +121,9 @@ fn reads_one_unit_and_then_the_next(rt: HostRuntime) -> Result<(), Fail> {
     let alloc = rt.alloc();
     let bytes = followed(alloc, &FIFTEEN, &FIFTEEN)?;
     let mut reader = Watched::new(Stepped::new(bytes.as_slice(), 4));
-    assert_eq!(rt; little(alloc, &NAMED, &mut reader)?.size(), 15);
-    assert_eq!(rt; little(alloc, &NAMED, &mut reader)?.size(), 15);
-    assert_eq!(rt; reader.into_inner().inner().len(), 0);
+    assert!(rt; little(alloc, &NAMED, &mut reader)?.size() == 15);
+    assert!(rt; little(alloc, &NAMED, &mut reader)?.size() == 15);
+    assert!(rt; reader.into_inner().inner().len() == 0);
     Ok(())
 }
 
@@ -135,15 +132,15 @@ fn tells_where_the_input_ends(rt: HostRuntime) {
     let alloc = rt.alloc();
     let little = Order::Little;
     let cut = refused(alloc, little, &NAMED, &FIFTEEN[..14]);
-    assert_eq!(rt; cut, Some((13, Reason::Truncated, 0)));
+    assert!(rt; cut == Some((13, Reason::Truncated, 0)));
     let header = refused(alloc, little, &NAMED, &FIFTEEN[..5]);
-    assert_eq!(rt; header, Some((4, Reason::Truncated, 0)));
+    assert!(rt; header == Some((4, Reason::Truncated, 0)));
     let short = refused(alloc, little, &NAMED, &FIFTEEN[..3]);
-    assert_eq!(rt; short, Some((0, Reason::Truncated, 0)));
+    assert!(rt; short == Some((0, Reason::Truncated, 0)));
     let wide = refused(alloc, little, &NAMED, &SIXTY_FOUR[..11]);
-    assert_eq!(rt; wide, Some((0, Reason::Truncated, 0)));
+    assert!(rt; wide == Some((0, Reason::Truncated, 0)));
     let nothing = refused(alloc, little, &NAMED, &[]);
-    assert_eq!(rt; nothing, Some((0, Reason::Truncated, 0)));
+    assert!(rt; nothing == Some((0, Reason::Truncated, 0)));
 }
 
 /// The unit ends before the null of its children, and before a third entry that would be read as it.
@@ -153,7 +150,7 @@ fn takes_nothing_past_the_units_end(rt: HostRuntime) {
         0x0d, 0, 0, 0, 0x05, 0, 0x01, 0x08, 0, 0, 0, 0, 0x01, 0x61, 0, 0x02, 0x04, 0, 0xff,
     ];
     let answer = refused(rt.alloc(), Order::Little, &TYPED, &missing);
-    assert_eq!(rt; answer, Some((17, Reason::PastUnit, 2)));
+    assert!(rt; answer == Some((17, Reason::PastUnit, 2)));
     let old = [
         0x0b, 0, 0, 0, 0x04, 0, 0x01, 0x08, 0, 0, 0, 0, 0x01, 0x61, 0, 0xff, 0xff,
     ];
@@ -166,15 +163,15 @@ fn takes_nothing_past_a_refused_length(rt: HostRuntime) {
     let alloc = rt.alloc();
     let first = [0xf0, 0xff, 0xff, 0xff, 1, 2, 3, 4, 5, 6, 7, 8, 9];
     let answer = refused(alloc, Order::Little, &NAMED, &first);
-    assert_eq!(rt; answer, Some((0, Reason::ReservedLength, 9)));
+    assert!(rt; answer == Some((0, Reason::ReservedLength, 9)));
     let last = [0xff, 0xff, 0xff, 0xfe, 1, 2, 3, 4, 5, 6, 7, 8, 9];
     let answer = refused(alloc, Order::Big, &NAMED, &last);
-    assert_eq!(rt; answer, Some((0, Reason::ReservedLength, 9)));
+    assert!(rt; answer == Some((0, Reason::ReservedLength, 9)));
     let far = [
         0xff, 0xff, 0xff, 0xff, 0xff, 0xff, 0xff, 0xff, 0xff, 0xff, 0xff, 0x7f, 1, 2, 3,
     ];
     let answer = refused(alloc, Order::Little, &NAMED, &far);
-    assert_eq!(rt; answer, Some((0, Reason::LengthTooBig, 3)));
+    assert!(rt; answer == Some((0, Reason::LengthTooBig, 3)));
 }
 
 /// A length of almost 4 GB, of which 15 bytes come: the next null of the padding is cut. No more room
@@ -184,10 +181,10 @@ fn believes_no_announced_length(rt: HostRuntime) -> Result<(), Fail> {
     let alloc = rt.alloc();
     let bytes = followed(alloc, &[0xef, 0xff, 0xff, 0xff], &FIFTEEN[4..])?;
     let answer = refused(alloc, Order::Little, &NAMED, bytes.as_slice());
-    assert_eq!(rt; answer, Some((15, Reason::Truncated, 0)));
+    assert!(rt; answer == Some((15, Reason::Truncated, 0)));
     let mut reader = Watched::new(bytes.as_slice());
     let taken = unit_bytes(alloc, Order::Little, &mut reader)?;
-    assert_eq!(rt; taken.as_slice(), bytes.as_slice());
+    same(&rt, taken.as_slice(), bytes.as_slice());
     assert!(rt; taken.capacity() < 10_000);
     Ok(())
 }
@@ -201,13 +198,13 @@ fn tells_a_readers_fault(rt: HostRuntime) -> Result<(), Fail> {
             let mut reader = Watched::new(device);
             let answer = little(alloc, &NAMED, &mut reader);
             assert!(rt; matches!(answer, Err(ReadError::Io(told)) if told == kind));
-            assert_eq!(rt; reader.fault(), Some(kind));
+            assert!(rt; reader.fault() == Some(kind));
             let left = reader.into_inner().inner().len() as u64;
-            assert_eq!(rt; left, 15 - after);
+            assert!(rt; left == 15 - after);
         }
     }
     let device = Stepped::failing(FIFTEEN.as_slice(), 1, 15, ErrorKind::TimedOut);
     let mut reader = Watched::new(device);
-    assert_eq!(rt; little(alloc, &NAMED, &mut reader)?.size(), 15);
+    assert!(rt; little(alloc, &NAMED, &mut reader)?.size() == 15);
     Ok(())
 }

@@ -5,7 +5,7 @@ ghost use Rattle.dw_leb.specs.View.{uleb_of};
 ghost use Rattle.dw_tree.specs.Steps.{closed_at, end_of};
 ghost use Rattle.dw_unit_tests.specs.Samples.{two_codes as two_codes_table, bare_code as bare_code_table, little, with_name, with_size};
 
-use crate::common::{BARE, TYPED, number_of, text_of};
+use crate::common::{BARE, TYPED, number_of, same, text_of};
 use dw_abbrev::{Table, Tables};
 use dw_form::{AttrValue, Ctx, Value};
 use dw_leb::devices::Stepped;
@@ -210,8 +210,8 @@ fn a_name_in_pieces(rt: HostRuntime) -> Result<(), Fail> {
     let alloc = rt.alloc();
     let tree = root_in_pieces(alloc)?;
     let bytes = written(alloc, &tree)?;
-    assert_eq!(rt; bytes.as_slice(), [0x01, 0x61, 0, 0x02, 0x04, 0].as_slice());
-    assert_eq!(rt; place(&tree.root()), (12, 18, 1, 0x11));
+    same(&rt, bytes.as_slice(), &[0x01, 0x61, 0, 0x02, 0x04, 0]);
+    assert!(rt; place(&tree.root()) == (12, 18, 1, 0x11));
     Ok(())
 }
 
@@ -222,14 +222,14 @@ fn keeps_the_bytes_of_texts_alone(rt: HostRuntime) -> Result<(), Fail> {
     let mut draft = TreeDraft::new(alloc, context(), two_codes(alloc)?, 12);
     named(&mut draft, 1)?;
     sized(&mut draft, 1)?;
-    assert_eq!(rt; draft.content(), [0x61].as_slice());
+    assert!(rt; draft.content() == [0x61].as_slice());
     near(&draft)?;
     draft.begin(in_width(1, 1)?)?;
     draft.start(None, None)?;
     draft.bytes(&[0x62, 0x63])?;
-    assert_eq!(rt; draft.content(), [0x61, 0x62, 0x63].as_slice());
+    assert!(rt; draft.content() == [0x61, 0x62, 0x63].as_slice());
     draft.undo();
-    assert_eq!(rt; draft.content(), [0x61].as_slice());
+    assert!(rt; draft.content() == [0x61].as_slice());
     Ok(())
 }
 
@@ -237,19 +237,19 @@ fn keeps_the_bytes_of_texts_alone(rt: HostRuntime) -> Result<(), Fail> {
 fn a_root_with_a_child(rt: HostRuntime) -> Result<(), Fail> {
     let tree = root_with_child(rt.alloc(), 1, 1)?;
     let root = tree.root();
-    assert_eq!(rt; place(&root), (12, 18, 1, 0x11));
-    assert_eq!(rt; (root.code().value, root.code().width), (1, 1));
+    assert!(rt; place(&root) == (12, 18, 1, 0x11));
+    assert!(rt; (root.code().value, root.code().width) == (1, 1));
     let mut children = root.children();
     let child = children.next().ok_or("no child")?;
-    assert_eq!(rt; place(&child), (15, 17, 2, 0x24));
-    assert_eq!(rt; (child.code().value, child.code().width), (2, 1));
+    assert!(rt; place(&child) == (15, 17, 2, 0x24));
+    assert!(rt; (child.code().value, child.code().width) == (2, 1));
     assert!(rt; children.next().is_none());
     assert!(rt; child.children().next().is_none());
     let mut entries = tree.entries();
     let first = entries.next().ok_or("no entry")?;
-    assert_eq!(rt; place(&first), (12, 18, 1, 0x11));
+    assert!(rt; place(&first) == (12, 18, 1, 0x11));
     let second = entries.next().ok_or("one entry")?;
-    assert_eq!(rt; place(&second), (15, 17, 2, 0x24));
+    assert!(rt; place(&second) == (15, 17, 2, 0x24));
     assert!(rt; entries.next().is_none());
     Ok(())
 }
@@ -260,17 +260,17 @@ fn attributes_of_a_root_and_its_child(rt: HostRuntime) -> Result<(), Fail> {
     let root = tree.root();
     let mut attrs = root.attrs();
     let name = attrs.next().ok_or("no attribute")?;
-    assert_eq!(rt; (name.name, name.form, name.offset), (0x03, 0x08, 13));
-    assert_eq!(rt; text_of(&name), Some([0x61].as_slice()));
+    assert!(rt; (name.name, name.form, name.offset) == (0x03, 0x08, 13));
+    assert!(rt; text_of(&name) == Some([0x61].as_slice()));
     assert!(rt; attrs.next().is_none());
     let child = root.children().next().ok_or("no child")?;
     let mut attrs = child.attrs();
     let size = attrs.next().ok_or("no attribute")?;
-    assert_eq!(rt; (size.name, size.form, size.offset), (0x0b, 0x0b, 16));
-    assert_eq!(rt; number_of(&size), Some(4));
+    assert!(rt; (size.name, size.form, size.offset) == (0x0b, 0x0b, 16));
+    assert!(rt; number_of(&size) == Some(4));
     assert!(rt; attrs.next().is_none());
     let same = child.attr(0x0b).ok_or("no size")?;
-    assert_eq!(rt; (same.offset, number_of(&same)), (16, Some(4)));
+    assert!(rt; (same.offset, number_of(&same)) == (16, Some(4)));
     assert!(rt; child.attr(0x03).is_none());
     Ok(())
 }
@@ -278,8 +278,8 @@ fn attributes_of_a_root_and_its_child(rt: HostRuntime) -> Result<(), Fail> {
 #[test]
 fn entries_by_their_offsets(rt: HostRuntime) -> Result<(), Fail> {
     let tree = root_with_child(rt.alloc(), 1, 1)?;
-    assert_eq!(rt; place_at(&tree, 12), Some((12, 18, 1, 0x11)));
-    assert_eq!(rt; place_at(&tree, 15), Some((15, 17, 2, 0x24)));
+    assert!(rt; place_at(&tree, 12) == Some((12, 18, 1, 0x11)));
+    assert!(rt; place_at(&tree, 15) == Some((15, 17, 2, 0x24)));
     for nowhere in [0, 11, 13, 14, 16, 17, 18, u64::MAX] {
         assert_eq!(rt; place_at(&tree, nowhere), None, "at {nowhere}");
     }
@@ -290,26 +290,30 @@ fn entries_by_their_offsets(rt: HostRuntime) -> Result<(), Fail> {
 fn children_and_not_their_children(rt: HostRuntime) -> Result<(), Fail> {
     let tree = three_levels(rt.alloc())?;
     let root = tree.root();
-    assert_eq!(rt; place(&root), (12, 24, 1, 0x11));
+    assert!(rt; place(&root) == (12, 24, 1, 0x11));
     let mut children = root.children();
     let inner = children.next().ok_or("no child")?;
-    assert_eq!(rt; place(&inner), (15, 21, 2, 0x11));
+    assert!(rt; place(&inner) == (15, 21, 2, 0x11));
     let last = children.next().ok_or("one child")?;
-    assert_eq!(rt; place(&last), (21, 23, 2, 0x24));
+    assert!(rt; place(&last) == (21, 23, 2, 0x24));
     assert!(rt; children.next().is_none());
     let below = inner.children().next().ok_or("no grandchild")?;
-    assert_eq!(rt; place(&below), (18, 20, 3, 0x24));
+    assert!(rt; place(&below) == (18, 20, 3, 0x24));
     let mut entries = tree.entries();
     for offset in [12, 15, 18, 21] {
         let entry = entries.next().ok_or("too few entries")?;
-        assert_eq!(rt; entry.offset(), offset);
+        assert!(rt; entry.offset() == offset);
         assert_eq!(rt; place_at(&tree, offset), Some(place(&entry)), "at {offset}");
     }
     assert!(rt; entries.next().is_none());
-    assert_eq!(rt; place_at(&tree, 20), None);
-    assert_eq!(rt; place_at(&tree, 23), None);
+    assert!(rt; place_at(&tree, 20) == None);
+    assert!(rt; place_at(&tree, 23) == None);
     let bytes = [0x01, 0x61, 0, 0x01, 0x61, 0, 0x02, 0x04, 0, 0x02, 0x04, 0];
-    assert_eq!(rt; written(rt.alloc(), &tree)?.as_slice(), bytes.as_slice());
+    same(
+        &rt,
+        written(rt.alloc(), &tree)?.as_slice(),
+        bytes.as_slice(),
+    );
     Ok(())
 }
 
@@ -318,41 +322,45 @@ fn writes_each_width(rt: HostRuntime) -> Result<(), Fail> {
     let alloc = rt.alloc();
     let tree = root_with_child(alloc, 1, 1)?;
     let bytes = [0x01, 0x61, 0, 0x02, 0x04, 0];
-    assert_eq!(rt; written(alloc, &tree)?.as_slice(), bytes.as_slice());
+    same(&rt, written(alloc, &tree)?.as_slice(), bytes.as_slice());
     let padded = root_with_child(alloc, 2, 2)?;
     let bytes = [0x81, 0, 0x61, 0, 0x02, 0x04, 0x80, 0];
-    assert_eq!(rt; written(alloc, &padded)?.as_slice(), bytes.as_slice());
+    same(&rt, written(alloc, &padded)?.as_slice(), bytes.as_slice());
     let root = padded.root();
-    assert_eq!(rt; place(&root), (12, 20, 1, 0x11));
-    assert_eq!(rt; (root.code().value, root.code().width), (1, 2));
-    assert_eq!(rt; place_at(&padded, 16), Some((16, 18, 2, 0x24)));
-    assert_eq!(rt; place_at(&padded, 18), None);
+    assert!(rt; place(&root) == (12, 20, 1, 0x11));
+    assert!(rt; (root.code().value, root.code().width) == (1, 2));
+    assert!(rt; place_at(&padded, 16) == Some((16, 18, 2, 0x24)));
+    assert!(rt; place_at(&padded, 18) == None);
     Ok(())
 }
 
 #[test]
 fn takes_an_entry_back(rt: HostRuntime) -> Result<(), Fail> {
     let tree = child_begun_twice(rt.alloc())?;
-    assert_eq!(rt; place(&tree.root()), (12, 18, 1, 0x11));
+    assert!(rt; place(&tree.root()) == (12, 18, 1, 0x11));
     let bytes = [0x01, 0x61, 0, 0x02, 0x04, 0];
-    assert_eq!(rt; written(rt.alloc(), &tree)?.as_slice(), bytes.as_slice());
+    same(
+        &rt,
+        written(rt.alloc(), &tree)?.as_slice(),
+        bytes.as_slice(),
+    );
     Ok(())
 }
 
 #[test]
 fn the_deepest_tree(rt: HostRuntime) -> Result<(), Fail> {
     let tree = nested(rt.alloc())?;
-    assert_eq!(rt; place(&tree.root()), (12, 524, 1, 0x11));
-    assert_eq!(rt; place_at(&tree, 267), Some((267, 269, 256, 0x11)));
-    assert_eq!(rt; place_at(&tree, 268), None);
+    assert!(rt; place(&tree.root()) == (12, 524, 1, 0x11));
+    assert!(rt; place_at(&tree, 267) == Some((267, 269, 256, 0x11)));
+    assert!(rt; place_at(&tree, 268) == None);
     let mut entries = tree.entries();
     for offset in 12..268u64 {
         let entry = entries.next().ok_or("too few entries")?;
-        assert_eq!(rt; (entry.offset(), entry.depth()), (offset, offset - 11));
+        assert!(rt; (entry.offset(), entry.depth()) == (offset, offset - 11));
     }
     assert!(rt; entries.next().is_none());
     let bytes = written(rt.alloc(), &tree)?;
-    assert_eq!(rt; bytes.len(), 512);
+    assert!(rt; bytes.len() == 512);
     for (at, byte) in bytes.iter().enumerate() {
         let code = if at < 256 { 1 } else { 0 };
         assert_eq!(rt; *byte, code, "at {at}");
@@ -366,10 +374,10 @@ fn keeps_a_writers_fault(rt: HostRuntime) -> Result<(), Fail> {
     let device = Stepped::failing(Vec::new(rt.alloc()), 1, 4, ErrorKind::Other);
     let mut writer = Watched::new(device);
     let answer = tree.write(&mut writer);
-    assert_eq!(rt; answer, Err(WriteError::Io(ErrorKind::Other)));
-    assert_eq!(rt; writer.fault(), Some(ErrorKind::Other));
+    assert!(rt; answer == Err(WriteError::Io(ErrorKind::Other)));
+    assert!(rt; writer.fault() == Some(ErrorKind::Other));
     let device = writer.into_inner();
-    assert_eq!(rt; device.inner().as_slice(), [0x01, 0x61, 0, 0x02].as_slice());
+    same(&rt, device.inner().as_slice(), &[0x01, 0x61, 0, 0x02]);
     Ok(())
 }
 
@@ -378,6 +386,6 @@ fn writes_a_null(rt: HostRuntime) -> Result<(), Fail> {
     let mut writer = Watched::new(Vec::new(rt.alloc()));
     write_null(3, &mut writer)?;
     let bytes = writer.into_inner();
-    assert_eq!(rt; bytes.as_slice(), [0x80, 0x80, 0].as_slice());
+    same(&rt, bytes.as_slice(), &[0x80, 0x80, 0]);
     Ok(())
 }

@@ -1,6 +1,6 @@
 //! What no clause says: units of several entries whose bytes and offsets come from the standard,
 //! read with memory to spare.
-use crate::common::{BARE, TYPED, WITH_A_CHILD, in_info, little, refusal, written};
+use crate::common::{BARE, TYPED, WITH_A_CHILD, in_info, little, refusal, same, written};
 use dw_leb::{Order, Reason};
 use std::alloc::{AllocError, Global};
 use std::test::Fail;
@@ -17,18 +17,12 @@ fn headed(alloc: Global, length: [u8; 2]) -> Result<Vec<u8>, AllocError> {
 #[test]
 fn reads_a_child(rt: HostRuntime) -> Result<(), Fail> {
     let (unit, taken) = little(rt.alloc(), &TYPED, &WITH_A_CHILD)?;
-    assert_eq!(rt; (taken, unit.size()), (18, 18));
+    assert!(rt; (taken, unit.size()) == (18, 18));
     let root = unit.root();
-    assert_eq!(rt;
-        (root.offset(), root.depth(), root.end_offset()),
-        (12, 1, 18)
-    );
+    assert!(rt; (root.offset(), root.depth(), root.end_offset()) == (12, 1, 18));
     let child = root.children().next().ok_or("no child")?;
-    assert_eq!(rt;
-        (child.offset(), child.depth(), child.end_offset()),
-        (15, 2, 17)
-    );
-    assert_eq!(rt; (child.tag(), child.code().value), (0x24, 2));
+    assert!(rt; (child.offset(), child.depth(), child.end_offset()) == (15, 2, 17));
+    assert!(rt; (child.tag(), child.code().value) == (0x24, 2));
     assert!(rt; child.children().next().is_none());
     Ok(())
 }
@@ -37,7 +31,7 @@ fn reads_a_child(rt: HostRuntime) -> Result<(), Fail> {
 fn writes_a_child_back(rt: HostRuntime) -> Result<(), Fail> {
     let (unit, _) = little(rt.alloc(), &TYPED, &WITH_A_CHILD)?;
     let bytes = written(rt.alloc(), &unit)?;
-    assert_eq!(rt; bytes.as_slice(), WITH_A_CHILD.as_slice());
+    same(&rt, bytes.as_slice(), &WITH_A_CHILD);
     Ok(())
 }
 
@@ -49,10 +43,10 @@ const WIDE_NULLS: [u8; 21] = [
 #[test]
 fn keeps_the_widths_of_nulls(rt: HostRuntime) -> Result<(), Fail> {
     let (unit, _) = little(rt.alloc(), &TYPED, &WIDE_NULLS)?;
-    assert_eq!(rt; unit.padding(), [2].as_slice());
-    assert_eq!(rt; unit.root().end_offset(), 19);
+    assert!(rt; unit.padding() == [2].as_slice());
+    assert!(rt; unit.root().end_offset() == 19);
     let bytes = written(rt.alloc(), &unit)?;
-    assert_eq!(rt; bytes.as_slice(), WIDE_NULLS.as_slice());
+    same(&rt, bytes.as_slice(), &WIDE_NULLS);
     Ok(())
 }
 
@@ -60,16 +54,12 @@ fn keeps_the_widths_of_nulls(rt: HostRuntime) -> Result<(), Fail> {
 fn the_end_of_the_unit_closes_no_children(rt: HostRuntime) -> Result<(), Fail> {
     let mut bytes = headed(rt.alloc(), [0x0d, 0])?;
     bytes.extend_from_slice(&[0x01, 0x61, 0, 0x02, 0x04])?;
-    assert_eq!(rt;
-        refusal(rt.alloc(), Order::Little, &TYPED, &bytes),
-        in_info(17, Reason::PastUnit)
+    assert!(rt;
+        refusal(rt.alloc(), Order::Little, &TYPED, &bytes) == in_info(17, Reason::PastUnit)
     );
     let mut cut = headed(rt.alloc(), [0x0e, 0])?;
     cut.extend_from_slice(&[0x01, 0x61, 0, 0x02, 0x04])?;
-    assert_eq!(rt;
-        refusal(rt.alloc(), Order::Little, &TYPED, &cut),
-        in_info(17, Reason::Truncated)
-    );
+    assert!(rt; refusal(rt.alloc(), Order::Little, &TYPED, &cut) == in_info(17, Reason::Truncated));
     Ok(())
 }
 
@@ -77,15 +67,13 @@ fn the_end_of_the_unit_closes_no_children(rt: HostRuntime) -> Result<(), Fail> {
 fn refuses_in_a_child(rt: HostRuntime) -> Result<(), Fail> {
     let mut unknown = headed(rt.alloc(), [0x0e, 0])?;
     unknown.extend_from_slice(&[0x01, 0x61, 0, 0x07, 0x04, 0])?;
-    assert_eq!(rt;
-        refusal(rt.alloc(), Order::Little, &TYPED, &unknown),
-        in_info(15, Reason::UnknownCode)
+    assert!(rt;
+        refusal(rt.alloc(), Order::Little, &TYPED, &unknown) == in_info(15, Reason::UnknownCode)
     );
     let mut second = headed(rt.alloc(), [0x0f, 0])?;
     second.extend_from_slice(&[0x01, 0x61, 0, 0x02, 0x04, 0, 0x02])?;
-    assert_eq!(rt;
-        refusal(rt.alloc(), Order::Little, &TYPED, &second),
-        in_info(18, Reason::SecondRoot)
+    assert!(rt;
+        refusal(rt.alloc(), Order::Little, &TYPED, &second) == in_info(18, Reason::SecondRoot)
     );
     Ok(())
 }
@@ -99,11 +87,11 @@ const TYPE_UNIT: [u8; 28] = [
 #[test]
 fn reads_a_type_unit(rt: HostRuntime) -> Result<(), Fail> {
     let (unit, taken) = little(rt.alloc(), &SIGNED, &TYPE_UNIT)?;
-    assert_eq!(rt; (taken, unit.root().offset()), (28, 24));
+    assert!(rt; (taken, unit.root().offset()) == (28, 24));
     let child = unit.root().children().next().ok_or("no child")?;
-    assert_eq!(rt; child.offset(), 25);
+    assert!(rt; child.offset() == 25);
     let bytes = written(rt.alloc(), &unit)?;
-    assert_eq!(rt; bytes.as_slice(), TYPE_UNIT.as_slice());
+    same(&rt, bytes.as_slice(), &TYPE_UNIT);
     Ok(())
 }
 
@@ -123,23 +111,20 @@ fn nest(alloc: Global, length: [u8; 2], levels: u16) -> Result<Vec<u8>, AllocErr
 fn reads_256_levels(rt: HostRuntime) -> Result<(), Fail> {
     let bytes = nest(rt.alloc(), [0x08, 0x02], 256)?;
     let (unit, taken) = little(rt.alloc(), &BARE, &bytes)?;
-    assert_eq!(rt; (taken, unit.size()), (524, 524));
+    assert!(rt; (taken, unit.size()) == (524, 524));
     let mut deepest = 0;
     for entry in unit.entries() {
         deepest = entry.depth();
     }
-    assert_eq!(rt; deepest, 256);
+    assert!(rt; deepest == 256);
     let back = written(rt.alloc(), &unit)?;
-    assert_eq!(rt; back.as_slice(), bytes.as_slice());
+    same(&rt, back.as_slice(), bytes.as_slice());
     Ok(())
 }
 
 #[test]
 fn refuses_257_levels(rt: HostRuntime) -> Result<(), Fail> {
     let bytes = nest(rt.alloc(), [0x0a, 0x02], 257)?;
-    assert_eq!(rt;
-        refusal(rt.alloc(), Order::Little, &BARE, &bytes),
-        in_info(268, Reason::TooDeep)
-    );
+    assert!(rt; refusal(rt.alloc(), Order::Little, &BARE, &bytes) == in_info(268, Reason::TooDeep));
     Ok(())
 }

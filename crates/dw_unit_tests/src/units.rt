@@ -1,7 +1,7 @@
 //! What no clause says: units whose values are known from the standard, each call once with memory
 //! to spare, and writers that take little or fail.
 use crate::common::{
-    FIFTEEN, NAMED, SIXTY_FOUR, in_info, little, number_of, refusal, text_of, written,
+    FIFTEEN, NAMED, SIXTY_FOUR, in_info, little, number_of, refusal, same, text_of, written,
 };
 use dw_abbrev::Tables;
 use dw_form::Value;
@@ -43,28 +43,28 @@ fn in_abbrev(offset: u64, reason: Reason) -> Option<Fault> {
 #[test]
 fn reads_the_fifteen_bytes(rt: HostRuntime) -> Result<(), Fail> {
     let (unit, size) = little(rt.alloc(), &NAMED, &FIFTEEN)?;
-    assert_eq!(rt; size, 15);
-    assert_eq!(rt; unit.size(), 15);
+    assert!(rt; size == 15);
+    assert!(rt; unit.size() == 15);
     assert!(rt; unit.padding().is_empty());
     let header = unit.header();
-    assert_eq!(rt; header.order(), Order::Little);
-    assert_eq!(rt; header.format(), Format::Dwarf32);
-    assert_eq!(rt; header.kind(), Kind::Compile);
-    assert_eq!(rt; header.address_size(), 8);
-    assert_eq!(rt; header.abbrev_offset(), 0);
-    assert_eq!(rt; header.context().address_size, 8);
+    assert!(rt; header.order() == Order::Little);
+    assert!(rt; header.format() == Format::Dwarf32);
+    assert!(rt; header.kind() == Kind::Compile);
+    assert!(rt; header.address_size() == 8);
+    assert!(rt; header.abbrev_offset() == 0);
+    assert!(rt; header.context().address_size == 8);
     let root = unit.root();
-    assert_eq!(rt; root.offset(), 12);
-    assert_eq!(rt; root.depth(), 1);
-    assert_eq!(rt; (root.code().value, root.code().width), (1, 1));
-    assert_eq!(rt; root.tag(), 0x11);
+    assert!(rt; root.offset() == 12);
+    assert!(rt; root.depth() == 1);
+    assert!(rt; (root.code().value, root.code().width) == (1, 1));
+    assert!(rt; root.tag() == 0x11);
     let mut attrs = root.attrs();
     let name = attrs.next().ok_or("no attribute")?;
-    assert_eq!(rt; (name.name, name.form, name.offset), (3, 8, 13));
+    assert!(rt; (name.name, name.form, name.offset) == (3, 8, 13));
     assert!(rt; name.attr.via.is_none());
-    assert_eq!(rt; text_of(&name), Some([0x61].as_slice()));
+    assert!(rt; text_of(&name) == Some([0x61].as_slice()));
     assert!(rt; attrs.next().is_none());
-    assert_eq!(rt; written(rt.alloc(), &unit)?.as_slice(), FIFTEEN.as_slice());
+    same(&rt, written(rt.alloc(), &unit)?.as_slice(), &FIFTEEN);
     Ok(())
 }
 
@@ -73,8 +73,8 @@ fn stops_at_the_units_end(rt: HostRuntime) -> Result<(), Fail> {
     let alloc = rt.alloc();
     let longer = compiled(alloc, 0x0b, 0, &[0x01, 0x61, 0, 0x02, 0x02])?;
     let (unit, size) = little(alloc, &NAMED, longer.as_slice())?;
-    assert_eq!(rt; (size, unit.size()), (15, 15));
-    assert_eq!(rt; written(alloc, &unit)?.as_slice(), FIFTEEN.as_slice());
+    assert!(rt; (size, unit.size()) == (15, 15));
+    same(&rt, written(alloc, &unit)?.as_slice(), &FIFTEEN);
     Ok(())
 }
 
@@ -83,12 +83,12 @@ fn keeps_the_width_of_a_code(rt: HostRuntime) -> Result<(), Fail> {
     let alloc = rt.alloc();
     let padded = compiled(alloc, 0x0c, 0, &[0x81, 0, 0x61, 0])?;
     let (unit, size) = little(alloc, &NAMED, padded.as_slice())?;
-    assert_eq!(rt; size, 16);
+    assert!(rt; size == 16);
     let root = unit.root();
-    assert_eq!(rt; (root.code().value, root.code().width), (1, 2));
+    assert!(rt; (root.code().value, root.code().width) == (1, 2));
     let name = root.attrs().next().ok_or("no attribute")?;
-    assert_eq!(rt; name.offset, 14);
-    assert_eq!(rt; written(alloc, &unit)?.as_slice(), padded.as_slice());
+    assert!(rt; name.offset == 14);
+    same(&rt, written(alloc, &unit)?.as_slice(), padded.as_slice());
     Ok(())
 }
 
@@ -97,9 +97,9 @@ fn keeps_the_padding(rt: HostRuntime) -> Result<(), Fail> {
     let alloc = rt.alloc();
     let padded = compiled(alloc, 0x0e, 0, &[0x01, 0x61, 0, 0, 0x80, 0])?;
     let (unit, size) = little(alloc, &NAMED, padded.as_slice())?;
-    assert_eq!(rt; (size, unit.size()), (18, 18));
-    assert_eq!(rt; unit.padding(), [1, 2].as_slice());
-    assert_eq!(rt; written(alloc, &unit)?.as_slice(), padded.as_slice());
+    assert!(rt; (size, unit.size()) == (18, 18));
+    assert!(rt; unit.padding() == [1, 2].as_slice());
+    same(&rt, written(alloc, &unit)?.as_slice(), padded.as_slice());
     Ok(())
 }
 
@@ -122,10 +122,10 @@ fn four_kinds(rt: HostRuntime) -> Result<(), Fail> {
         (SKELETON.as_slice(), skeleton, 20),
     ] {
         let (unit, size) = little(alloc, &NAMED, bytes)?;
-        assert_eq!(rt; size, bytes.len());
-        assert_eq!(rt; unit.header().kind(), kind);
-        assert_eq!(rt; unit.root().offset(), root_at);
-        assert_eq!(rt; written(alloc, &unit)?.as_slice(), bytes);
+        assert!(rt; size == bytes.len());
+        assert!(rt; unit.header().kind() == kind);
+        assert!(rt; unit.root().offset() == root_at);
+        assert!(rt; written(alloc, &unit)?.as_slice() == bytes);
     }
     Ok(())
 }
@@ -133,15 +133,12 @@ fn four_kinds(rt: HostRuntime) -> Result<(), Fail> {
 #[test]
 fn sixty_four_bit_format(rt: HostRuntime) -> Result<(), Fail> {
     let (unit, size) = little(rt.alloc(), &NAMED, &SIXTY_FOUR)?;
-    assert_eq!(rt; (size, unit.size()), (27, 27));
-    assert_eq!(rt; unit.header().format(), Format::Dwarf64);
-    assert_eq!(rt; unit.root().offset(), 24);
+    assert!(rt; (size, unit.size()) == (27, 27));
+    assert!(rt; unit.header().format() == Format::Dwarf64);
+    assert!(rt; unit.root().offset() == 24);
     let name = unit.root().attrs().next().ok_or("no attribute")?;
-    assert_eq!(rt; name.offset, 25);
-    assert_eq!(rt;
-        written(rt.alloc(), &unit)?.as_slice(),
-        SIXTY_FOUR.as_slice()
-    );
+    assert!(rt; name.offset == 25);
+    same(&rt, written(rt.alloc(), &unit)?.as_slice(), &SIXTY_FOUR);
     Ok(())
 }
 
@@ -153,11 +150,11 @@ fn big_endian(rt: HostRuntime) -> Result<(), Fail> {
     ];
     let mut tables = Tables::new(alloc, &NAMED);
     let (unit, size) = read_unit(alloc, Order::Big, &mut tables, &bytes)?;
-    assert_eq!(rt; size, 15);
-    assert_eq!(rt; unit.header().order(), Order::Big);
-    assert_eq!(rt; written(alloc, &unit)?.as_slice(), bytes.as_slice());
+    assert!(rt; size == 15);
+    assert!(rt; unit.header().order() == Order::Big);
+    same(&rt, written(alloc, &unit)?.as_slice(), bytes.as_slice());
     let swapped = refusal(alloc, Order::Big, &NAMED, &FIFTEEN);
-    assert_eq!(rt; swapped, in_info(4, Reason::BadVersion));
+    assert!(rt; swapped == in_info(4, Reason::BadVersion));
     Ok(())
 }
 
@@ -168,15 +165,12 @@ fn second_of_two_tables(rt: HostRuntime) -> Result<(), Fail> {
     section.extend_from_slice(&[0x01, 0x11, 0, 0x49, 0x10, 0, 0, 0])?;
     let bytes = compiled(alloc, 0x0d, 0x08, &[0x01, 0x0c, 0, 0, 0])?;
     let (unit, size) = little(alloc, section.as_slice(), bytes.as_slice())?;
-    assert_eq!(rt; size, 17);
-    assert_eq!(rt; unit.header().abbrev_offset(), 8);
+    assert!(rt; size == 17);
+    assert!(rt; unit.header().abbrev_offset() == 8);
     let reference = unit.root().attrs().next().ok_or("no attribute")?;
-    assert_eq!(rt;
-        (reference.name, reference.form, reference.offset),
-        (0x49, 0x10, 13)
-    );
-    assert_eq!(rt; number_of(&reference), Some(12));
-    assert_eq!(rt; written(alloc, &unit)?.as_slice(), bytes.as_slice());
+    assert!(rt; (reference.name, reference.form, reference.offset) == (0x49, 0x10, 13));
+    assert!(rt; number_of(&reference) == Some(12));
+    same(&rt, written(alloc, &unit)?.as_slice(), bytes.as_slice());
     Ok(())
 }
 
@@ -186,16 +180,16 @@ fn two_attributes_in_their_order(rt: HostRuntime) -> Result<(), Fail> {
     let section = [0x01, 0x11, 0, 0x72, 0x17, 0x03, 0x25, 0, 0, 0];
     let bytes = compiled(alloc, 0x0e, 0, &[0x01, 0x08, 0, 0, 0, 0x01])?;
     let (unit, size) = little(alloc, &section, bytes.as_slice())?;
-    assert_eq!(rt; size, 18);
+    assert!(rt; size == 18);
     let mut attrs = unit.root().attrs();
     let base = attrs.next().ok_or("no attribute")?;
-    assert_eq!(rt; (base.name, base.form, base.offset), (0x72, 0x17, 13));
-    assert_eq!(rt; number_of(&base), Some(8));
+    assert!(rt; (base.name, base.form, base.offset) == (0x72, 0x17, 13));
+    assert!(rt; number_of(&base) == Some(8));
     let name = attrs.next().ok_or("one attribute")?;
-    assert_eq!(rt; (name.name, name.form, name.offset), (0x03, 0x25, 17));
-    assert_eq!(rt; number_of(&name), Some(1));
+    assert!(rt; (name.name, name.form, name.offset) == (0x03, 0x25, 17));
+    assert!(rt; number_of(&name) == Some(1));
     assert!(rt; attrs.next().is_none());
-    assert_eq!(rt; written(alloc, &unit)?.as_slice(), bytes.as_slice());
+    same(&rt, written(alloc, &unit)?.as_slice(), bytes.as_slice());
     Ok(())
 }
 
@@ -205,10 +199,10 @@ fn form_of_an_indirect_value(rt: HostRuntime) -> Result<(), Fail> {
     let section = [0x01, 0x11, 0, 0x0b, 0x16, 0, 0, 0];
     let bytes = compiled(alloc, 0x0c, 0, &[0x01, 0x0f, 0x85, 0])?;
     let (unit, size) = little(alloc, &section, bytes.as_slice())?;
-    assert_eq!(rt; size, 16);
+    assert!(rt; size == 16);
     let size_attribute = unit.root().attrs().next().ok_or("no attribute")?;
-    assert_eq!(rt; (size_attribute.form, size_attribute.offset), (0x0f, 13));
-    assert_eq!(rt; written(alloc, &unit)?.as_slice(), bytes.as_slice());
+    assert!(rt; (size_attribute.form, size_attribute.offset) == (0x0f, 13));
+    same(&rt, written(alloc, &unit)?.as_slice(), bytes.as_slice());
     Ok(())
 }
 
@@ -270,8 +264,8 @@ fn refused_headers(rt: HostRuntime) {
         (&TYPE_UNIT[..20], 20, Reason::Truncated),
     ] {
         let fault = refusal(alloc, Order::Little, &NAMED, bytes);
-        assert_eq!(rt; fault, in_info(offset, reason));
-        assert_eq!(rt; read_header(Order::Little, bytes).err(), fault);
+        assert!(rt; fault == in_info(offset, reason));
+        assert!(rt; read_header(Order::Little, bytes).err() == fault);
     }
 }
 
@@ -307,19 +301,19 @@ fn refused_tables(rt: HostRuntime) -> Result<(), Fail> {
         ([0x01, 0x11, 0, 0x03, 0x08].as_slice(), 5, Reason::Truncated),
     ] {
         let fault = refusal(alloc, Order::Little, section, &FIFTEEN);
-        assert_eq!(rt; fault, in_abbrev(offset, reason));
+        assert!(rt; fault == in_abbrev(offset, reason));
     }
     // The table is judged behind the header and before the root.
     for root in [0x01, 0] {
         let past = compiled(alloc, 0x0b, 0x08, &[root, 0x61, 0])?;
         let fault = refusal(alloc, Order::Little, &NAMED, past.as_slice());
-        assert_eq!(rt; fault, in_abbrev(8, Reason::AbbrevOffset));
+        assert!(rt; fault == in_abbrev(8, Reason::AbbrevOffset));
     }
     let mut both = FIFTEEN;
     both[7] = 0;
     both[8] = 0x08;
     let fault = refusal(alloc, Order::Little, &NAMED, &both);
-    assert_eq!(rt; fault, in_info(7, Reason::BadAddressSize));
+    assert!(rt; fault == in_info(7, Reason::BadAddressSize));
     Ok(())
 }
 
@@ -329,7 +323,7 @@ fn fault_of_the_third_value(rt: HostRuntime) -> Result<(), Fail> {
     let section = [0x01, 0x11, 0, 0x03, 0x08, 0x0b, 0x0b, 0x0b, 0x05, 0, 0, 0];
     let bytes = compiled(alloc, 0x0d, 0, &[0x01, 0x61, 0, 0x04, 0x01])?;
     let fault = refusal(alloc, Order::Little, &section, bytes.as_slice());
-    assert_eq!(rt; fault, in_info(16, Reason::PastUnit));
+    assert!(rt; fault == in_info(16, Reason::PastUnit));
     Ok(())
 }
 
@@ -339,9 +333,9 @@ fn writes_byte_by_byte(rt: HostRuntime) -> Result<(), Fail> {
     let (unit, _) = little(alloc, &NAMED, &TYPE_UNIT)?;
     let mut writer = Watched::new(Stepped::new(Vec::new(alloc), 1));
     write_unit(&unit, &mut writer)?;
-    assert_eq!(rt; writer.fault(), None);
+    assert!(rt; writer.fault() == None);
     let device = writer.into_inner();
-    assert_eq!(rt; device.inner().as_slice(), TYPE_UNIT.as_slice());
+    same(&rt, device.inner().as_slice(), &TYPE_UNIT);
     Ok(())
 }
 
@@ -361,13 +355,13 @@ fn keeps_a_writers_fault(rt: HostRuntime) -> Result<(), Fail> {
         let device = Stepped::failing(Vec::new(alloc), 1, after, ErrorKind::Other);
         let mut writer = Watched::new(device);
         let answer = write_unit(&unit, &mut writer);
-        assert_eq!(rt; answer, Err(WriteError::Io(ErrorKind::Other)));
-        assert_eq!(rt; writer.fault(), Some(ErrorKind::Other));
+        assert!(rt; answer == Err(WriteError::Io(ErrorKind::Other)));
+        assert!(rt; writer.fault() == Some(ErrorKind::Other));
         let device = writer.into_inner();
-        assert_eq!(rt; device.inner().as_slice(), taken);
+        assert!(rt; device.inner().as_slice() == taken);
     }
     let mut stuck = Watched::new(Stepped::new(Vec::new(alloc), 0));
     let answer = write_unit(&unit, &mut stuck);
-    assert_eq!(rt; answer, Err(WriteError::Io(ErrorKind::WriteZero)));
+    assert!(rt; answer == Err(WriteError::Io(ErrorKind::WriteZero)));
     Ok(())
 }
