@@ -60,8 +60,7 @@ def print_table(seen, whole, passed):
     for crate in crates_in_order():
         row = [cost.get((crate, part), 0) for part in PARTS]
         cells = " | ".join(f"{it:.1f}" if it >= 0.05 else "" for it in row)
-        cells = cells.rpartition("|")
-        print(f"| `{crate}` | {cells[0]}|{cells[2]} | {edits_of(crate) or ''} | {sum(row):.1f} |")
+        print(f"| `{crate}` | {cells} | {edits_of(crate) or ''} | {sum(row):.1f} |")
     sums = [sum(it for (_, part), it in cost.items() if part == which) for which in PARTS]
     count = sum(edits_of(it) for it in crates_in_order())
     print(f"| rest | | | | | {whole - sum(sums):.1f} |")
