@@ -8,7 +8,9 @@ ghost use Rattle.dw_leb.specs.Watch.{inner_of, fault_of, told_by_write, Wrote};
 ghost use Rattle.dw_abbrev.specs.Table.{zero_of};
 ghost use Rattle.dw_abbrev.specs.Build.{width_refusal};
 ghost use Rattle.dw_abbrev.specs.Spelling.{flag_bytes};
-ghost use Rattle.dw_leb.specs.ReadNumber.{read_uleb, read_sleb};
+ghost use Rattle.dw_leb.specs.ReadNumber.{read_fixed as fixed_reader, read_uleb, read_sleb};
+ghost use Rattle.dw_leb.specs.Reader.{outcome_of};
+ghost use Rattle.dw_leb.specs.declared.order.Order.TheVariants.{Little};
 ghost use Rattle.dw_abbrev.specs.ReadTable.{read_flag, flag_number};
 ghost use Rattle.dw_abbrev.specs.Place.{Gives, Fails, fault_at};
 ghost use Rattle.dw_abbrev.specs.Tells.{IsFault};
@@ -69,6 +71,14 @@ pub(crate) fn sleb_at(section: &[u8], at: usize) -> Result<(Sleb, usize), ReadEr
     }
 }
 
+/// The first byte, as the plain reader's outcome.
+fn byte(b: &[u8], lim: u64) -> Result<u128, Reason>
+    ensures exact { fixed_reader Little 1 b.now lim ≡ outcome_of (λ x. x) (λ _. 1) result }
+    ensures room { IfOk result (λ _. (1 ≤ length b.now) × (1 ≤ lim)) }
+{
+    read_fixed(Order::Little, 1, b, lim)
+}
+
 /// The children flag at `at`, and where what follows begins.
 pub(crate) fn flag_at(section: &[u8], at: usize) -> Result<(bool, usize), ReadError>
     requires { at ≤ length section.now }
@@ -76,7 +86,7 @@ pub(crate) fn flag_at(section: &[u8], at: usize) -> Result<(bool, usize), ReadEr
     ensures forward { IfOk result (λ x. (at < x.1) × (x.1 ≤ length section.now)) }
     ensures err { IfErr result (λ e. Fails read_flag section.now at e) }
 {
-    match read_fixed(Order::Little, 1, &section[at..], u64::MAX) {
+    match byte(&section[at..], u64::MAX) {
         Ok(0) => Ok((false, at + 1)),
         Ok(1) => Ok((true, at + 1)),
         Ok(_) => Err(fault(at, Reason::BadChildren)),

@@ -11,12 +11,10 @@ ghost use Rattle.dw_abbrev.specs.Build.{constant_belongs, pair_refusal, ArePairs
 
 use crate::fields::{fault, sleb_at, uleb_at, write_sleb, write_uleb};
 use crate::refusal::TableRefusal;
+use dw_leb::constants::form::DW_FORM_IMPLICIT_CONST;
 use dw_leb::{ReadError, Reason, Sleb, Uleb, Watched, WriteError};
 use std::alloc::Global;
 use std::io::Write;
-
-/// The form of attributes whose value stands in the declaration, `DW_FORM_implicit_const`.
-const IMPLICIT_CONST: u64 = 0x21;
 
 /// The most pairs of a declaration.
 pub(crate) const MOST_PAIRS: usize = 1024;
@@ -39,7 +37,7 @@ pub(crate) fn misfit(pair: Pair) -> Option<TableRefusal>
     if pair.name.value == 0 || pair.form.value == 0 {
         return Some(TableRefusal::HalfPair);
     }
-    if pair.constant.is_some() != (pair.form.value == IMPLICIT_CONST) {
+    if pair.constant.is_some() != (pair.form.value == DW_FORM_IMPLICIT_CONST) {
         return Some(TableRefusal::WrongConstant);
     }
     None
@@ -102,7 +100,7 @@ fn constant_at(
     ensures belongs { IfOk result (λ x. constant_belongs (uleb_of form) (option_map sleb_of x.0) ≡ true) }
     ensures err { IfErr result (λ e. Fails (read_constant (uleb_of name, uleb_of form)) section.now at e) }
 {
-    if form.value != IMPLICIT_CONST {
+    if form.value != DW_FORM_IMPLICIT_CONST {
         return Ok((None, at));
     }
     let (constant, next) = sleb_at(section, at)?;

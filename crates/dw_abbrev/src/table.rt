@@ -108,11 +108,13 @@ impl Table {
         self.decls.get(&code)
     }
 
-    /// Writes the table, each number in its own width. It takes no memory. After an error a
-    /// beginning of the table was written.
+    /// Writes the table: its one spelling, which each table has, with each number in its own width. So
+    /// the table stands where it was written (`laws::written_stands`). It takes no memory. After an error
+    /// a beginning of the table was written.
     pub fn write<W: Write>(&self, writer: &mut Watched<W>) -> Result<(), WriteError>
         requires { fault_of writer.old ≡ None }
         ensures written { Wrote (W.contents (inner_of writer.old)) (W.contents (inner_of writer.new)) (part.spell self.now) result }
+        ensures fits { part.Fits self.now }
         ensures fault { fault_of writer.new ≡ told_by_write result }
     {
         write_decls(writer, &self.decls)?;

@@ -13,23 +13,23 @@ use Rattle.dw_leb.specs.declared.order.Order.TheVariants.{Little, Big}
 use Rattle.dw_leb.specs.declared.order.Format.{Format}
 use Rattle.dw_leb.specs.declared.order.Format.TheVariants.{Dwarf32, Dwarf64}
 use Rattle.dw_leb.specs.Part.{Taken, optional}
-use Rattle.dw_leb.specs.Number.{initial_length, length_limit, length_size, fixed, fixed_bytes, reserved, too_far}
+use Rattle.dw_leb.specs.Number.{length_field, initial_length, length_limit, length_size, fixed, fixed_bytes, reserved, too_far}
 use Rattle.dw_leb.specs.Stay.{one_front, no_break}
 use Rattle.dw_leb.specs.Digits.{fixed_decides, length-fixed}
 use Rattle.dw_leb.specs.DecideNumber.{initial_length_decides, initial-size, initial_within}
 use Rattle.dw_leb.specs.ReadNumber.{read_length, read_fixed}
-use Rattle.dw_header.specs.Header.{fields}
-use Rattle.dw_unit.specs.Unit.{Fails, header_of, body_bytes}
+use Rattle.dw_header.specs.Header.{fields, fields_of, context_of}
+use Rattle.dw_header.specs.HeadRead.{head_size}
+use Rattle.dw_unit.specs.Unit.{WholeUnit, body_bytes, bytes_of, UnitAt, Fails, left_behind}
 use Rattle.dw_unit.specs.DecideUnit.{unit_fault, fault_stays}
 use Rattle.dw_unit.specs.ReadUnit.{Fault}
-use Rattle.dw_unit.specs.WholeUnit.{WholeUnit, UnitAt, bytes_of, contents_of}
 use Rattle.dw_feed.specs.Feed.{escape, InField, IsField, FieldRefused, UnitHeld}
 use Rattle.dw_feed.specs.Laws.{HoldsUnit}
 use Rattle.dw_feed.specs.Uncut.{refuses_where, refuses_unless}
 use Rattle.dw_feed.specs.UncutUnit.{fields_uncut, entries_uncut}
 
 abbrev length_bytes : Order → Format × ℕ → List ℕ
-length_bytes order x = (initial_length order 0).spell x
+length_bytes order x = (length_field order).spell x
 
 -- a field's front has one length
 pub same_length : (order : Order) (x y : Format × ℕ) (a b : List ℕ) → (initial_length order 0).Fits x → (initial_length order 0).Fits y → length_bytes order x ++ a ≡ length_bytes order y ++ b → (x ≡ y) × (a ≡ b)
@@ -52,25 +52,17 @@ module _ (order : Order) (bytes : List ℕ) (h : HoldsUnit order bytes) where
       absurd (no_break (initial_length order 0) (read_length order 0) (initial_length_decides order 0) h.0 h.1.rest length_limit offset reason h.1.fits (initial_within order 0 h.0.0 h.0.1) (rw h.1.split at one))
   whole_uncut section offset reason (inl (inr (format, n, rest, own, fits, split, sum, breaks))) =
       fields_uncut order format rest n own reason (behind_length format n rest fits split) breaks
-  whole_uncut section offset reason (inr (format, n, x, rest, t, own, headed, is_table, sum, breaks)) =
-      let f : List ℕ = (fields order format).spell x in
-      let left : n ≤ length (f ++ rest) = behind_length format n (f ++ rest) headed.length_fits headed.split in
-      let len : length (f ++ rest) ≡ length f + length rest = length-append f rest in
-      entries_uncut (header_of order format x) t rest (n - length f) own reason (omega arith) breaks
+  whole_uncut section offset reason (inr b) =
+      let head = b.stands.2 in
+      let f : List ℕ = (fields order b.header.format).spell (fields_of b.header) in
+      let left : b.count ≤ length (f ++ b.stands.1) = behind_length b.header.format b.count (f ++ b.stands.1) head.length_fits head.split in
+      let sized = head_size order bytes b.header b.count b.stands in
+      let enough : left_behind b.header b.count ≤ length b.stands.1 = omega (arith, left, sized, length-append f b.stands.1, initial-size order 0 b.header.format b.count) in
+      entries_uncut (context_of b.header) b.table b.stands.1 (left_behind b.header b.count) b.own reason enough b.breaks
 
   pub whole_fault : (section tail : List ℕ) (s : Section) (offset : ℕ) (reason : Reason) → Fails order section bytes s offset reason → Fails order section (bytes ++ tail) s offset reason
   whole_fault section tail s offset reason fails =
       fault_stays order section bytes tail s offset reason (λ info. whole_uncut section offset reason (subst (λ (z : Section). Fails order section bytes z offset reason) info fails)) fails
-
-pub unit_longer : (order : Order) (section bytes tail : List ℕ) (u : WholeUnit) (size : ℕ) → UnitAt section order bytes u size → UnitAt section order (bytes ++ tail) u size
-unit_longer order section bytes tail u size h = record {
-  order_is = h.order_is;
-  table_at = h.table_at;
-  fits = h.fits;
-  rest = h.rest ++ tail;
-  split = ap (λ (b : List ℕ). b ++ tail) h.split ∙ append_assoc (bytes_of u) h.rest tail;
-  is_size = h.is_size;
-}
 
 same_reason : (s z : Section) (m n : ℕ) (r q : Reason) → Fault s m r ≡ Fault z n q → r ≡ q
 same_reason s z m n r q e = cc
@@ -106,24 +98,24 @@ pub held_unit : (order : Order) (section bytes : List ℕ) (new : Option (List �
 held_unit order section bytes new u size held h = by held
   where
     own : List ℕ
-    own = body_bytes u.table (contents_of u)
+    own = body_bytes u
 
-    split : bytes ≡ length_bytes order (u.header.format, length own) ++ (own ++ h.rest)
-    split = subst (λ (o : Order). bytes ≡ length_bytes o (u.header.format, length own) ++ (own ++ h.rest)) h.order_is
-        (h.split ∙ append_assoc (length_bytes u.header.order (u.header.format, length own)) own h.rest)
+    split : bytes ≡ length_bytes order (u.header.format, length own) ++ (own ++ h.front.rest)
+    split = subst (λ (o : Order). bytes ≡ length_bytes o (u.header.format, length own) ++ (own ++ h.front.rest)) h.front.order_is
+        (h.front.split ∙ append_assoc (length_bytes u.header.order (u.header.format, length own)) own h.front.rest)
 
     fits : (initial_length order 0).Fits (u.header.format, length own)
-    fits = subst (λ (o : Order). (initial_length o 0).Fits (u.header.format, length own)) h.order_is h.fits.length_fits
+    fits = subst (λ (o : Order). (initial_length o 0).Fits (u.header.format, length own)) h.front.order_is h.front.fits.length_fits
 
     by : FieldRefused order bytes new ⊎ UnitHeld order bytes new → bytes ≡ bytes_of u
-    by (inl g) = absurd (no_break (initial_length order 0) (read_length order 0) (initial_length_decides order 0) (u.header.format, length own) (own ++ h.rest) length_limit 0 g.reason fits (initial_within order 0 u.header.format (length own)) (rw split at g.breaks))
+    by (inl g) = absurd (no_break (initial_length order 0) (read_length order 0) (initial_length_decides order 0) (u.header.format, length own) (own ++ h.front.rest) length_limit 0 g.reason fits (initial_within order 0 u.header.format (length own)) (rw split at g.breaks))
     by (inr g) =
-        let same = same_length order (g.format, g.count) (u.header.format, length own) g.field.rest (own ++ h.rest) g.field.fits fits (sym g.field.split ∙ split) in
+        let same = same_length order (g.format, g.count) (u.header.format, length own) g.field.rest (own ++ h.front.rest) g.field.fits fits (sym g.field.split ∙ split) in
         let count : g.count ≡ length own = ap (λ (x : Format × ℕ). x.1) same.0 in
         let format : length_size g.format ≡ length_size u.header.format = ap (λ (x : Format × ℕ). length_size x.0) same.0 in
         let head : length (length_bytes u.header.order (u.header.format, length own)) ≡ length_size u.header.format = initial-size u.header.order 0 u.header.format (length own) in
         let total : length (bytes_of u) ≡ length (length_bytes u.header.order (u.header.format, length own)) + length own = length-append (length_bytes u.header.order (u.header.format, length own)) own in
-        no_rest bytes (bytes_of u) h.rest h.split (omega (arith, g.inside))
+        no_rest bytes (bytes_of u) h.front.rest h.front.split (omega (arith, g.inside))
 
 -- ---- length fields
 

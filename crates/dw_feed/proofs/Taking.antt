@@ -1,16 +1,20 @@
 -- What is taken of a reader, step by step.
-use Rattle.std.proofs.Common.{◌≡◌, ℕ, ◌+◌, ◌≤◌, List, [], ◌++◌, length, take, Option, Some, None, refl, ap, subst, ◌∙◌, append_assoc, arith, inl, inr, ◌⊎◌}
+use Rattle.std.proofs.Common.{◌≡◌, ℕ, ◌+◌, ◌<◌, ◌≤◌, List, [], ◌++◌, length, take, Option, Some, None, Err, refl, ap, subst, ◌∙◌, append_assoc, arith, inl, inr, ◌⊎◌}
 use Rattle.std.proofs.lemmas.List.{length-append, length-take, take-append-le, take_all}
 use Rattle.std.specs.Io.KnownBytes.{Consumes, IsAtEnd}
 use Rattle.dw_leb.specs.declared.errors.ReadError.{ReadError}
 use Rattle.dw_leb.specs.declared.errors.ReadError.TheVariants as reads
 use Rattle.dw_leb.specs.declared.order.Order.{Order}
 use Rattle.dw_leb.specs.declared.order.Format.{Format}
+use Rattle.dw_leb.specs.declared.order.Format.TheVariants.{Dwarf32, Dwarf64}
 use Rattle.dw_leb.specs.Part.{Taken}
-use Rattle.dw_leb.specs.Number.{initial_length, length_limit, length_size}
-use Rattle.dw_leb.specs.Watch.{ConsumesUpTo}
+use Rattle.dw_leb.specs.Number.{length_field, initial_length, length_limit, length_size}
+use Rattle.dw_leb.specs.Watch.{ConsumesUpTo, KeptSome}
 use Rattle.dw_leb.specs.Known.{consumes_more}
-use Rattle.dw_unit.specs.WholeUnit.{WholeUnit, UnitAt, TellsFault, bytes_of}
+use Rattle.dw_unit.specs.Unit.{WholeUnit, bytes_of, UnitAt}
+use Rattle.dw_abbrev.specs.Tells.{refused_memory}
+use Rattle.dw_header.specs.HeadRead.{head_room}
+use Rattle.dw_unit.specs.UnitView.{TellsFault, NamesTable}
 use Rattle.dw_feed.specs.Feed.{Had, escape, InField, InUnit, Takes, TakesInUnit, TakesUnit, TellsFirst, TakesNoUnit, FieldRefused, UnitHeld, FailsUpTo, FailsInField, FailsInUnit}
 use Rattle.dw_feed.proofs.Cut.{held_fault, held_unit}
 
@@ -41,7 +45,7 @@ field_longer bytes rest n (inr twelve) =
     inr (twelve.0, take-append-le 4 bytes rest le ∙ twelve.1)
 
 taken_longer : (order : Order) (bytes rest : List ℕ) (x : Format × ℕ) (size : ℕ) → Taken (initial_length order 0) bytes length_limit x size → Taken (initial_length order 0) (bytes ++ rest) length_limit x size
-taken_longer order bytes rest x size h = record { rest = h.rest ++ rest; fits = h.fits; split = ap (λ (b : List ℕ). b ++ rest) h.split ∙ append_assoc ((initial_length order 0).spell x) h.rest rest; is_size = h.is_size; within = h.within }
+taken_longer order bytes rest x size h = record { rest = h.rest ++ rest; fits = h.fits; split = ap (λ (b : List ℕ). b ++ rest) h.split ∙ append_assoc ((length_field order).spell x) h.rest rest; is_size = h.is_size; within = h.within }
 
 held_inside : (order : Order) (bytes rest : List ℕ) (new : Option (List ℕ)) → FieldRefused order bytes new ⊎ UnitHeld order bytes new → InUnit order (bytes ++ rest) (length bytes)
 held_inside order bytes rest new (inl h) = inl (field_longer bytes rest (length bytes) h.inside)
@@ -63,7 +67,7 @@ module _ (section : List ℕ) (order : Order) (old new : Option (List ℕ)) (byt
       let same : bytes ≡ bytes_of u = held_unit order section bytes new u size held h in (
         bytes ++ left_of new,
         had_before old new bytes took,
-        record { order_is = h.order_is; table_at = h.table_at; fits = h.fits; rest = left_of new; split = ap (λ (b : List ℕ). b ++ left_of new) same; is_size = refl },
+        record { table_at = h.table_at; front = record { order_is = h.front.order_is; fits = h.front.fits; rest = left_of new; split = ap (λ (b : List ℕ). b ++ left_of new) same; is_size = refl } },
         subst (λ (b : List ℕ). Consumes old new b) same took,
       )
 
@@ -131,3 +135,23 @@ pub unit_error : (section : List ℕ) (order : Order) (old new : Option (List �
 unit_error section order old new (reads.Fault f) h = absurd h
 unit_error section order old new reads.NoMemory h = (h.0, h.1, tt, h.2)
 unit_error section order old new (reads.Io kind) h = (h.0, h.1, tt, h.2)
+
+-- ---- want of memory
+
+-- what was taken before is kept too
+pub kept_more : (old mid new : Option (List ℕ)) (bytes : List ℕ) (e : ReadError) → Consumes old mid bytes → KeptSome {X = Unit {0}} mid new (Err e) → KeptSome {X = Unit {0}} old new (Err e)
+kept_more old mid new bytes (reads.Fault f) took kept = tt
+kept_more old mid new bytes (reads.Io kind) took kept = tt
+kept_more old mid new bytes reads.NoMemory took kept = (bytes ++ kept.0, omega (arith, kept.1, length-append bytes kept.0), consumes_more old mid new bytes kept.0 took kept.2)
+
+length_some : (f : Format) → 0 < length_size f
+length_some Dwarf32 = omega arith
+length_some Dwarf64 = omega arith
+
+-- a header was taken where a unit's table or its entries need memory
+pub kept_unit : (section : List ℕ) (order : Order) (old new : Option (List ℕ)) (bytes : List ℕ) (e : ReadError) → Consumes old new bytes → (e ≡ refused_memory → NamesTable section order bytes) → KeptSome {X = Unit {0}} old new (Err e)
+kept_unit section order old new bytes (reads.Fault f) took names = tt
+kept_unit section order old new bytes (reads.Io kind) took names = tt
+kept_unit section order old new bytes reads.NoMemory took names =
+    let h = names refl in
+    (bytes, omega (arith, head_room order bytes h.header h.count h.stands, length_some h.header.format), took)

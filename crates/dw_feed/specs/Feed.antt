@@ -10,8 +10,7 @@ use Rattle.dw_leb.specs.declared.order.Format.{Format}
 use Rattle.dw_leb.specs.Part.{Taken}
 use Rattle.dw_leb.specs.Number.{initial_length, length_limit, length_size}
 use Rattle.dw_leb.specs.Watch.{ConsumesUpTo}
-use Rattle.dw_unit.specs.Unit.{Fails}
-use Rattle.dw_unit.specs.WholeUnit.{WholeUnit, UnitAt, bytes_of}
+use Rattle.dw_unit.specs.Unit.{WholeUnit, bytes_of, UnitAt, Fails}
 
 -- All that a reader had left. A reader that doesn't tell its bytes had some.
 abbrev pub Had : Option (List ℕ) → List ℕ → Type 0

@@ -10,7 +10,6 @@ use Rattle.dw_leb.specs.declared.order.Format.{Format}
 use Rattle.dw_leb.specs.Part.{Taken}
 use Rattle.dw_leb.specs.Number.{initial_length, length_limit, length_size}
 use Rattle.dw_unit.specs.Unit.{Fails}
-use Rattle.dw_unit.specs.WholeUnit.{WholeUnit, UnitAt}
 
 -- the bytes begin with a length field, and hold all that it tells
 abbrev pub HoldsUnit : Order → List ℕ → Type 0
@@ -28,7 +27,3 @@ FaultsStayInside = (order : Order) (section bytes tail : List ℕ) (s : Section)
 abbrev pub FaultsComeFromInside : Type 0
 FaultsComeFromInside = (order : Order) (section bytes tail : List ℕ) (s : Section) (offset : ℕ) (reason : Reason) → AllByRecursion (λ b. b < 256) section → AllByRecursion (λ b. b < 256) bytes
     → HoldsUnit order bytes → Fails order section (bytes ++ tail) s offset reason → Fails order section bytes s offset reason
-
--- the unit that stands at their front stands there whatever follows
-abbrev pub UnitsStay : Type 0
-UnitsStay = (order : Order) (section bytes tail : List ℕ) (u : WholeUnit) (size : ℕ) → UnitAt section order bytes u size → UnitAt section order (bytes ++ tail) u size

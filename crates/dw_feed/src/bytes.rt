@@ -1,6 +1,6 @@
 //! The bytes of a unit, taken from a reader.
 ghost use Rattle.std.specs.Prelude.{◌≡◌, None, vec_items};
-ghost use Rattle.dw_leb.specs.Watch.{inner_of, fault_of, told_by_read};
+ghost use Rattle.dw_leb.specs.Watch.{inner_of, fault_of, told_by_read, KeptSome};
 ghost use Rattle.dw_feed.specs.Feed.{ReadsBytes, ReadsField, ReadsUpTo, IsEscape};
 
 use dw_leb::{Order, ReadError, Watched, read_length};
@@ -11,7 +11,8 @@ const CHUNK: usize = 4096;
 
 /// The bytes of the unit at the front of what the reader has left: as many as its initial length
 /// tells (sections 7.2.2 and 7.4), or fewer where the reader has no more. Where the initial length is
-/// cut or refused, the bytes of that field alone.
+/// cut or refused, the bytes of that field alone. `NoMemory` is answered where a growth was refused, and
+/// only where at least a byte was taken.
 pub fn unit_bytes<R: Read>(
     alloc: Global,
     order: Order,
@@ -22,6 +23,7 @@ pub fn unit_bytes<R: Read>(
         (R.remaining (inner_of reader.old))
         (R.remaining (inner_of reader.new))
         result }
+    ensures memory { KeptSome (R.remaining (inner_of reader.old)) (R.remaining (inner_of reader.new)) result }
     ensures fault { fault_of reader.new ≡ told_by_read result }
 {
     let mut bytes = field_bytes(alloc, reader)?;
@@ -41,6 +43,7 @@ fn field_bytes<R: Read>(alloc: Global, reader: &mut Watched<R>) -> Result<Vec<u8
         (R.remaining (inner_of reader.old))
         (R.remaining (inner_of reader.new))
         result }
+    ensures memory { KeptSome (R.remaining (inner_of reader.old)) (R.remaining (inner_of reader.new)) result }
     ensures fault { fault_of reader.new ≡ told_by_read result }
 {
     let mut bytes = Vec::new(alloc);
@@ -70,6 +73,7 @@ fn read_up_to<R: Read>(
         (R.remaining (inner_of reader.old))
         (R.remaining (inner_of reader.new))
         most result }
+    ensures memory { KeptSome (R.remaining (inner_of reader.old)) (R.remaining (inner_of reader.new)) result }
     ensures fault { fault_of reader.new ≡ told_by_read result }
 {
     let mut chunk = [0u8; CHUNK];

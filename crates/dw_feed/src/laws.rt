@@ -1,12 +1,11 @@
 //! The law of the unit's end. It calls nothing.
-ghost use Rattle.dw_feed.specs.Laws.{NoneIsCut, FaultsStayInside, FaultsComeFromInside, UnitsStay};
+ghost use Rattle.dw_feed.specs.Laws.{NoneIsCut, FaultsStayInside, FaultsComeFromInside};
 
 /// Bytes that begin with an initial length and hold all that it tells (sections 7.2.2 and 7.5.1) have
-/// no fault `Truncated` in `.debug_info`, and whatever bytes follow, the same unit or the same fault.
-/// So a unit can be read as soon as its own bytes are there.
+/// no fault `Truncated` in `.debug_info`, and whatever bytes follow, the same fault. A unit stays whatever
+/// follows (`outcomes_are_stable` of `dw_unit`). So a unit can be read as soon as its own bytes are there.
 pub fn units_end_as_their_length_says()
     ensures none_is_cut { NoneIsCut }
     ensures faults_stay { FaultsStayInside }
     ensures faults_come { FaultsComeFromInside }
-    ensures units_stay { UnitsStay }
 {}

@@ -1,6 +1,6 @@
 //! Reading a unit from a reader.
 ghost use Rattle.std.specs.Prelude.{◌≡◌, None, IfOk, IfErr};
-ghost use Rattle.dw_leb.specs.Watch.{inner_of, fault_of, told_by_read};
+ghost use Rattle.dw_leb.specs.Watch.{inner_of, fault_of, told_by_read, KeptSome};
 ghost use Rattle.dw_feed.specs.Feed.{TakesUnit, TakesNoUnit};
 
 use crate::bytes::unit_bytes;
@@ -16,8 +16,9 @@ use std::io::Read;
 /// A fault is the first one of all that the reader had left, as `read_unit` of `dw_unit` tells it,
 /// so `Truncated` comes only where the reader has no more: a short read is no end, and a read of 0
 /// bytes is. `Io` is answered exactly where the reader failed, with the kind that `fault()` tells
-/// then, and `NoMemory` where a growth was refused. After an error no byte past the unit's end was
-/// taken, and none past the length field (sections 7.2.2 and 7.4) while that is unread or refused.
+/// then, and `NoMemory` where a growth was refused, and only where at least a byte was taken. After an
+/// error no byte past the unit's end was taken, and none past the length field (sections 7.2.2 and 7.4)
+/// while that is unread or refused.
 ///
 /// Memory grows by the bytes that came, never by a length that was only announced.
 pub fn read_unit_from<R: Read>(
@@ -33,6 +34,7 @@ pub fn read_unit_from<R: Read>(
     ensures broken { IfErr result (TakesNoUnit tables.old order
         (R.remaining (inner_of reader.old))
         (R.remaining (inner_of reader.new))) }
+    ensures memory { KeptSome (R.remaining (inner_of reader.old)) (R.remaining (inner_of reader.new)) result }
     ensures tables { tables.new ≡ tables.old }
     ensures fault { fault_of reader.new ≡ told_by_read result }
 {

@@ -22,6 +22,28 @@ value_of (values.Text bytes) = grammar.Text bytes.now
 value_of values.Present = grammar.Present
 value_of (values.Implicit s) = grammar.Implicit (sleb_of s)
 
+-- the number that a value is, unless it is signed or has more than eight bytes
+abbrev pub number_in : grammar.Value → Option ℕ
+number_in (grammar.Num x) = Some x
+number_in (grammar.Wide x) = None
+number_in (grammar.Uleb u) = Some u.value
+number_in (grammar.Sleb s) = None
+number_in (grammar.Block width bytes) = None
+number_in (grammar.Text bytes) = None
+number_in grammar.Present = None
+number_in (grammar.Implicit s) = None
+
+-- the text that stands in the unit itself
+abbrev pub text_in : grammar.Value → Option (List ℕ)
+text_in (grammar.Num x) = None
+text_in (grammar.Wide x) = None
+text_in (grammar.Uleb u) = None
+text_in (grammar.Sleb s) = None
+text_in (grammar.Block width bytes) = None
+text_in (grammar.Text bytes) = Some bytes
+text_in grammar.Present = None
+text_in (grammar.Implicit s) = None
+
 -- the attribute's value that is lent
 abbrev pub attribute_of : AttrValue → grammar.Attribute
 attribute_of a = record { via = option_map uleb_of a.via; value = value_of a.value }

@@ -8,6 +8,7 @@ ghost use Rattle.dw_form.specs.Fit.{value_fits, form_fits, shape_fits, is_text a
 use crate::lend::zero_at;
 use crate::shape::{Ctx, Shape};
 use crate::value::{AttrValue, Value};
+use dw_leb::constants::form::{DW_FORM_IMPLICIT_CONST, DW_FORM_INDIRECT};
 use dw_leb::{Sleb, Uleb};
 
 /// Whether a value has a spelling under form `form` (section 7.5.6): it is one of the form's shape, or
@@ -27,12 +28,12 @@ fn is_fitting(ctx: Ctx, form: u64, implicit: Option<Sleb>, value: &AttrValue<'_>
     ensures { result ≡ value_fits ctx form (option_map sleb_of implicit) (attribute_of value.now) }
 {
     match value.via {
-        None => form != 0x16 && is_of_form(ctx, form, implicit, &value.value),
+        None => form != DW_FORM_INDIRECT && is_of_form(ctx, form, implicit, &value.value),
         Some(via) => {
             let inner = via.value;
-            form == 0x16
-                && inner != 0x16
-                && inner != 0x21
+            form == DW_FORM_INDIRECT
+                && inner != DW_FORM_INDIRECT
+                && inner != DW_FORM_IMPLICIT_CONST
                 && is_of_form(ctx, inner, None, &value.value)
         }
     }

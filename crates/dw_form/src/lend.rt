@@ -2,8 +2,8 @@
 ghost use Rattle.std.specs.Prelude.{◌≡◌, ◌==◌, ◌≤◌, ◌<◌, ◌+◌, ◌^◌, ℕ, length, min, take, IfOk, IfErr, IfSome, IsOkAnd, option_map};
 ghost use Rattle.dw_leb.specs.Part.{Taken};
 ghost use Rattle.dw_leb.specs.Number.{unended};
-ghost use Rattle.dw_leb.specs.View.{sleb_of};
-ghost use Rattle.dw_leb.specs.Reader.{made, ◌and_then◌};
+ghost use Rattle.dw_leb.specs.View.{sleb_of, uleb_of};
+ghost use Rattle.dw_leb.specs.Reader.{made, outcome_of, ◌and_then◌};
 ghost use Rattle.dw_leb.specs.ReadNumber.{before_zero, bytes_of, read_text, read_uleb, read_sleb, read_fixed as fixed_reader};
 ghost use Rattle.dw_form.specs.Form.{Attribute, attribute, Block as TheBlock, IsFixedSize, ShapeFits, IsContext};
 ghost use Rattle.dw_form.specs.ReadForm.{fixed_from, indirect_from, read_shaped, read_formed, read_indirect, read_by_indirection, read_attribute};
@@ -13,7 +13,8 @@ ghost use Rattle.dw_form.specs.Pieces.{HasSpelling, spelling};
 use crate::shape::{Ctx, Shape};
 use crate::value::{AttrValue, Value};
 use bstr::ByteSlice;
-use dw_leb::{Reason, Sleb, Uleb, read_fixed};
+use dw_leb::constants::form::{DW_FORM_IMPLICIT_CONST, DW_FORM_INDIRECT};
+use dw_leb::{Order, Reason, Sleb, Uleb, read_fixed};
 
 /// The first `n` bytes: the content of a block of this length.
 fn content(n: u64, b: &[u8], lim: u64) -> Result<(&[u8], usize), Reason>
@@ -60,6 +61,34 @@ fn unended_text(m: u64, lim: u64) -> Reason
     }
 }
 
+/// An unsigned number, as the plain reader's outcome.
+fn unsigned(b: &[u8], lim: u64) -> Result<Uleb, Reason>
+    ensures exact { read_uleb b.now lim ≡ outcome_of uleb_of (λ x. x.width) result }
+    ensures room { IfOk result (λ x. (x.width ≤ length b.now) × (x.width ≤ lim)) }
+{
+    Uleb::read(b, lim)
+}
+
+/// A signed number, as the plain reader's outcome.
+fn signed(b: &[u8], lim: u64) -> Result<Sleb, Reason>
+    ensures exact { read_sleb b.now lim ≡ outcome_of sleb_of (λ x. x.width) result }
+    ensures room { IfOk result (λ x. (x.width ≤ length b.now) × (x.width ≤ lim)) }
+{
+    Sleb::read(b, lim)
+}
+
+/// A number of `n` bytes, as the plain reader's outcome.
+fn number(order: Order, n: u8, b: &[u8], lim: u64) -> Result<u128, Reason>
+    requires some { 1 ≤ n }
+    requires most { n ≤ 16 }
+    ensures exact { fixed_reader order n b.now lim ≡ outcome_of (λ x. x) (λ _. n) result }
+    ensures small { IfOk result (λ x. x < 256 ^ n) }
+    ensures word { n ≤ 8 → IfOk result (λ x. x < 2 ^ 64) }
+    ensures room { IfOk result (λ _. (n ≤ length b.now) × (n ≤ lim)) }
+{
+    read_fixed(order, n, b, lim)
+}
+
 /// A number of `n` bytes.
 fn fixed(ctx: Ctx, n: u8, b: &[u8], lim: u64) -> Result<(Value<'_>, usize), Reason>
     requires { IsFixedSize n }
@@ -67,7 +96,7 @@ fn fixed(ctx: Ctx, n: u8, b: &[u8], lim: u64) -> Result<(Value<'_>, usize), Reas
         (made (fixed_from n) (fixed_reader ctx.order n) b.now lim) }
     ensures room { IfOk result (λ x. (x.1 ≤ length b.now) × (x.1 ≤ lim)) }
 {
-    let x = read_fixed(ctx.order, n, b, lim)?;
+    let x = number(ctx.order, n, b, lim)?;
     if n == 16 {
         Ok((Value::Wide(x), 16))
     } else {
@@ -83,7 +112,7 @@ fn counted(ctx: Ctx, n: u8, b: &[u8], lim: u64) -> Result<(Value<'_>, usize), Re
         (made (λ x. TheBlock n x.1) (fixed_reader ctx.order n and_then bytes_of) b.now lim) }
     ensures room { IfOk result (λ x. (x.1 ≤ length b.now) × (x.1 ≤ lim)) }
 {
-    let count = read_fixed(ctx.order, n, b, lim)? as u64;
+    let count = number(ctx.order, n, b, lim)? as u64;
     let (bytes, size) = content(count, &b[n as usize..], lim - n as u64)?;
     Ok((Value::Block { width: n, bytes }, n as usize + size))
 }
@@ -94,7 +123,7 @@ fn counted_uleb(b: &[u8], lim: u64) -> Result<(Value<'_>, usize), Reason>
         (made (λ x. TheBlock x.0.width x.1) (read_uleb and_then λ u. bytes_of u.value) b.now lim) }
     ensures room { IfOk result (λ x. (x.1 ≤ length b.now) × (x.1 ≤ lim)) }
 {
-    let count = Uleb::read(b, lim)?;
+    let count = unsigned(b, lim)?;
     let width = count.width;
     let (bytes, size) = content(count.value, &b[width as usize..], lim - width as u64)?;
     Ok((Value::Block { width, bytes }, width as usize + size))
@@ -116,11 +145,11 @@ fn shaped(
     match shape {
         Shape::Fixed(n) => fixed(ctx, n, b, lim),
         Shape::Uleb => {
-            let x = Uleb::read(b, lim)?;
+            let x = unsigned(b, lim)?;
             Ok((Value::Uleb(x), x.width as usize))
         }
         Shape::Sleb => {
-            let x = Sleb::read(b, lim)?;
+            let x = signed(b, lim)?;
             Ok((Value::Sleb(x), x.width as usize))
         }
         Shape::Counted(n) => counted(ctx, n, b, lim),
@@ -163,8 +192,8 @@ fn indirect(ctx: Ctx, b: &[u8], lim: u64) -> Result<(AttrValue<'_>, usize), Reas
     ensures exact { Lends attribute_of result (made indirect_from (read_indirect ctx) b.now lim) }
     ensures room { IfOk result (λ x. (x.1 ≤ length b.now) × (x.1 ≤ lim)) }
 {
-    let form = Uleb::read(b, lim)?;
-    if form.value == 0x16 || form.value == 0x21 {
+    let form = unsigned(b, lim)?;
+    if form.value == DW_FORM_INDIRECT || form.value == DW_FORM_IMPLICIT_CONST {
         return Err(Reason::BadIndirect);
     }
     let width = form.width as usize;
@@ -186,13 +215,29 @@ fn by_form(
         (read_by_indirection ctx (option_map sleb_of implicit) form (form == 0x16) b.now lim) }
     ensures room { IfOk result (λ x. (x.1 ≤ length b.now) × (x.1 ≤ lim)) }
 {
-    if form == 0x16 {
+    if form == DW_FORM_INDIRECT {
         return indirect(ctx, b, lim);
     }
     match formed(ctx, form, implicit, b, lim) {
         Ok((value, size)) => Ok((AttrValue { via: None, value }, size)),
         Err(reason) => Err(reason),
     }
+}
+
+/// A value of a form as one field, as the plain reader's outcome.
+fn value_at(
+    ctx: Ctx,
+    form: u64,
+    implicit: Option<Sleb>,
+    b: &[u8],
+    lim: u64,
+) -> Result<(AttrValue<'_>, usize), Reason>
+    requires { IsContext ctx }
+    ensures exact { read_attribute ctx form (option_map sleb_of implicit) b.now lim
+        ≡ lent_outcome attribute_of result }
+    ensures room { IfOk result (λ x. (x.1 ≤ length b.now) × (x.1 ≤ lim)) }
+{
+    by_form(ctx, form, implicit, b, lim)
 }
 
 /// The value of form `form` at the front of `b`, where `lim` bytes are left to the unit's end, and
@@ -228,9 +273,7 @@ pub fn lend_value(
     ensures bytes { IfOk result (λ x. spelling ctx form (attribute_of x.0) ≡ take x.1 b.now) }
     ensures broken { IfErr result (λ reason.
         (attribute ctx form (option_map sleb_of implicit)).Break b.now lim 0 reason) }
-    ensures exact { read_attribute ctx form (option_map sleb_of implicit) b.now lim
-        ≡ lent_outcome attribute_of result }
     ensures room { IfOk result (λ x. (x.1 ≤ length b.now) × (x.1 ≤ lim)) }
 {
-    by_form(ctx, form, implicit, b, lim)
+    value_at(ctx, form, implicit, b, lim)
 }

@@ -2,6 +2,7 @@
 ghost use Rattle.std.specs.Prelude.{◌≡◌, ◌≤◌, None, Some, IfSome};
 ghost use Rattle.dw_form.specs.Form.{shape, ShapeFits};
 
+use dw_leb::constants::form::*;
 use dw_leb::{Format, Order};
 
 /// What the bytes of a unit's values depend on besides their forms. The order is that of the file;
@@ -51,24 +52,40 @@ impl Shape {
     {
         let offset = format.offset_size();
         match form {
-            0x01 => Some(Shape::Fixed(address_size)),
-            0x0b | 0x0c | 0x11 | 0x25 | 0x29 => Some(Shape::Fixed(1)),
-            0x05 | 0x12 | 0x26 | 0x2a => Some(Shape::Fixed(2)),
-            0x27 | 0x2b => Some(Shape::Fixed(3)),
-            0x06 | 0x13 | 0x1c | 0x28 | 0x2c => Some(Shape::Fixed(4)),
-            0x07 | 0x14 | 0x20 | 0x24 => Some(Shape::Fixed(8)),
-            0x1e => Some(Shape::Fixed(16)),
-            0x0e | 0x10 | 0x17 | 0x1d | 0x1f | 0x1f20 | 0x1f21 => Some(Shape::Fixed(offset)),
-            0x0f | 0x15 | 0x1a | 0x1b | 0x22 | 0x23 => Some(Shape::Uleb),
-            0x0d => Some(Shape::Sleb),
-            0x0a => Some(Shape::Counted(1)),
-            0x03 => Some(Shape::Counted(2)),
-            0x04 => Some(Shape::Counted(4)),
-            0x09 | 0x18 => Some(Shape::CountedUleb),
-            0x08 => Some(Shape::Text),
-            0x16 => Some(Shape::Indirect),
-            0x19 => Some(Shape::Present),
-            0x21 => Some(Shape::Implicit),
+            DW_FORM_ADDR => Some(Shape::Fixed(address_size)),
+            DW_FORM_DATA1 | DW_FORM_FLAG | DW_FORM_REF1 | DW_FORM_STRX1 | DW_FORM_ADDRX1 => Some(
+                Shape::Fixed(1),
+            ),
+            DW_FORM_DATA2 | DW_FORM_REF2 | DW_FORM_STRX2 | DW_FORM_ADDRX2 => Some(Shape::Fixed(2)),
+            DW_FORM_STRX3 | DW_FORM_ADDRX3 => Some(Shape::Fixed(3)),
+            DW_FORM_DATA4 | DW_FORM_REF4 | DW_FORM_REF_SUP4 | DW_FORM_STRX4 | DW_FORM_ADDRX4 =>
+                Some(Shape::Fixed(4)),
+            DW_FORM_DATA8 | DW_FORM_REF8 | DW_FORM_REF_SIG8 | DW_FORM_REF_SUP8 => Some(Shape::Fixed(
+                8,
+            )),
+            DW_FORM_DATA16 => Some(Shape::Fixed(16)),
+            DW_FORM_STRP
+            | DW_FORM_REF_ADDR
+            | DW_FORM_SEC_OFFSET
+            | DW_FORM_STRP_SUP
+            | DW_FORM_LINE_STRP
+            | DW_FORM_GNU_REF_ALT
+            | DW_FORM_GNU_STRP_ALT => Some(Shape::Fixed(offset)),
+            DW_FORM_UDATA
+            | DW_FORM_REF_UDATA
+            | DW_FORM_STRX
+            | DW_FORM_ADDRX
+            | DW_FORM_LOCLISTX
+            | DW_FORM_RNGLISTX => Some(Shape::Uleb),
+            DW_FORM_SDATA => Some(Shape::Sleb),
+            DW_FORM_BLOCK1 => Some(Shape::Counted(1)),
+            DW_FORM_BLOCK2 => Some(Shape::Counted(2)),
+            DW_FORM_BLOCK4 => Some(Shape::Counted(4)),
+            DW_FORM_BLOCK | DW_FORM_EXPRLOC => Some(Shape::CountedUleb),
+            DW_FORM_STRING => Some(Shape::Text),
+            DW_FORM_INDIRECT => Some(Shape::Indirect),
+            DW_FORM_FLAG_PRESENT => Some(Shape::Present),
+            DW_FORM_IMPLICIT_CONST => Some(Shape::Implicit),
             _ => None,
         }
     }

@@ -1,4 +1,6 @@
 //! Values of attributes, lent from the bytes that hold them.
+ghost use Rattle.std.specs.Prelude.{◌≡◌, None, option_map};
+ghost use Rattle.dw_form.specs.Lent.{number_in, text_in, value_of};
 
 use dw_leb::{Sleb, Uleb};
 
@@ -37,4 +39,38 @@ pub struct AttrValue<'a> {
     pub via: Option<Uleb>,
     /// The value: of the form in `via`, or where that is None of the form in the declaration.
     pub value: Value<'a>,
+}
+
+impl<'a> AttrValue<'a> {
+    /// The number that the value is: a fixed one of 1 to 8 bytes, or an unsigned LEB128 one. None for
+    /// any other value.
+    pub fn as_number(&self) -> Option<u64>
+        ensures { result ≡ number_in (value_of self.now.value) }
+    {
+        match self.value {
+            Value::Num(number) => Some(number),
+            Value::Uleb(number) => Some(number.value),
+            _ => None,
+        }
+    }
+
+    /// The bytes of a text that stands in the unit itself (DW_FORM_string), without the zero byte that
+    /// ends it. None for any other value.
+    pub fn as_text(&self) -> Option<&'a [u8]>
+        ensures { option_map (λ text. text.now) result ≡ text_in (value_of self.now.value) }
+    {
+        match self.value {
+            Value::Text(text) => Some(text),
+            _ => None,
+        }
+    }
+}
+
+/// A value under any form but indirect.
+impl<'a> From<Value<'a>> for AttrValue<'a> {
+    ghost from_gives = { λ value attr. (attr.via ≡ None) × (attr.value ≡ value) };
+
+    fn from(value: Value<'a>) -> AttrValue<'a> {
+        AttrValue { via: None, value }
+    }
 }

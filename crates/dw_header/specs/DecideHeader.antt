@@ -6,7 +6,7 @@ use Rattle.dw_leb.specs.declared.order.Order.{Order}
 use Rattle.dw_leb.specs.declared.order.Format.{Format}
 use Rattle.dw_leb.specs.declared.errors.Reason.{Reason}
 use Rattle.dw_leb.specs.declared.errors.Reason.TheVariants.{Truncated}
-use Rattle.dw_leb.specs.Number.{offset_size, fixed, initial_length, length_limit}
+use Rattle.dw_leb.specs.Number.{offset_size, fixed, length_field, length_limit}
 use Rattle.dw_leb.specs.Reader.{returned}
 use Rattle.dw_leb.specs.Decide.{Decides, then_decides, judged_decides, seen_decides, nothing_decides}
 use Rattle.dw_leb.specs.Stay.{Stays, then_stays, judged_stays, nothing_stays}
@@ -64,12 +64,12 @@ fields_stays order format =
 pub header_stays : (order : Order) (bytes tail : List ℕ) (offset : ℕ) (reason : Reason) → reason ≢ Truncated → HeaderBreaks order bytes offset reason → HeaderBreaks order (bytes ++ tail) offset reason
 header_stays order bytes tail offset reason ne (inl one) = inl (initial_length_stays order 0 bytes tail length_limit offset reason ne one)
 header_stays order bytes tail offset reason ne (inr (format, n, rest, own, fits, split, sum, breaks)) =
-    inr (format, n, rest ++ tail, own, fits, ap (λ (b : List ℕ). b ++ tail) split ∙ append_assoc ((initial_length order 0).spell (format, n)) rest tail, sum, fields_stays order format rest tail n own reason ne breaks)
+    inr (format, n, rest ++ tail, own, fits, ap (λ (b : List ℕ). b ++ tail) split ∙ append_assoc ((length_field order).spell (format, n)) rest tail, sum, fields_stays order format rest tail n own reason ne breaks)
 
 pub headed_stays : (order : Order) (bytes tail : List ℕ) (format : Format) (n : ℕ) (x : Fields) (rest : List ℕ) → Headed order bytes format n x rest → Headed order (bytes ++ tail) format n x (rest ++ tail)
 headed_stays order bytes tail format n x rest h = record {
   length_fits = h.length_fits;
   fields_fit = h.fields_fit;
   within = h.within;
-  split = ap (λ (b : List ℕ). b ++ tail) h.split ∙ append_assoc ((initial_length order 0).spell (format, n)) ((fields order format).spell x ++ rest) tail ∙ ap (λ (b : List ℕ). (initial_length order 0).spell (format, n) ++ b) (append_assoc ((fields order format).spell x) rest tail);
+  split = ap (λ (b : List ℕ). b ++ tail) h.split ∙ append_assoc ((length_field order).spell (format, n)) ((fields order format).spell x ++ rest) tail ∙ ap (λ (b : List ℕ). (length_field order).spell (format, n) ++ b) (append_assoc ((fields order format).spell x) rest tail);
 }

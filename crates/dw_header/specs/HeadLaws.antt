@@ -8,7 +8,7 @@ use Rattle.dw_leb.specs.declared.errors.Reason.{Reason}
 use Rattle.dw_leb.specs.declared.errors.Reason.TheVariants.{Truncated}
 use Rattle.dw_leb.specs.declared.order.Order.{Order}
 use Rattle.dw_leb.specs.declared.order.Format.{Format}
-use Rattle.dw_leb.specs.Number.{initial_length, length_limit}
+use Rattle.dw_leb.specs.Number.{length_field, initial_length, length_limit}
 use Rattle.dw_leb.specs.Reader.{Outcome, Found, Broken}
 use Rattle.dw_leb.specs.Decide.{found, broken, found_value}
 use Rattle.dw_leb.specs.DecideNumber.{initial_length_decides, initial_within}
@@ -16,11 +16,11 @@ use Rattle.dw_header.specs.Header.{Header, HeaderFits, fields, fields_of}
 use Rattle.dw_header.specs.HeaderLemmas.{fields_fit, header_fits, header_back}
 use Rattle.dw_header.specs.Headed.{Headed, HeaderBreaks, HeaderAt, header_bytes}
 use Rattle.dw_header.specs.ReadHeader.{read_fields, header_from, Heading, head_fields, head_length, read_head}
-use Rattle.dw_header.specs.DecideHeader.{fields_decides, header_stays}
+use Rattle.dw_header.specs.DecideHeader.{fields_decides, header_stays, headed_stays}
 use Rattle.dw_header.specs.HeadRead.{HeadSays, head_says}
 
 abbrev length_bytes : Order → Format → ℕ → List ℕ
-length_bytes order format n = (initial_length order 0).spell (format, n)
+length_bytes order format n = (length_field order).spell (format, n)
 
 abbrev field_bytes : Order → Header → List ℕ
 field_bytes order h = (fields order h.format).spell (fields_of h)
@@ -64,6 +64,10 @@ HeaderOrBreak = (order : Order) (bytes : List ℕ) → AllByRecursion (λ b. b <
 abbrev pub HeaderBreaksStay : Type 0
 HeaderBreaksStay = (order : Order) (bytes tail : List ℕ) (offset : ℕ) (reason : Reason) → reason ≢ Truncated → HeaderBreaks order bytes offset reason → HeaderBreaks order (bytes ++ tail) offset reason
 
+-- a header at the front stays there whatever bytes follow
+abbrev pub HeadersStay : Type 0
+HeadersStay = (order : Order) (bytes tail : List ℕ) (h : Header) (n : ℕ) → HeaderAt order bytes h n → HeaderAt order (bytes ++ tail) h n
+
 -- ---- the plain reader
 
 abbrev pub heading : Header → ℕ → Heading
@@ -97,6 +101,10 @@ pub same_heading : (h g : Header) (m n j k : ℕ) → found (heading h m) j ≡ 
 same_heading h g m n j k e =
     let both : heading h m ≡ heading g n = (found_value (heading h m) (heading g n) j k e).0 in
     (ap (λ (x : Heading). x.0) both, ap (λ (x : Heading). x.1) both)
+
+-- bytes have one header at the front
+pub one_header : (order : Order) (bytes : List ℕ) (h g : Header) (m n : ℕ) → HeaderAt order bytes h m → HeaderAt order bytes g n → (h ≡ g) × (m ≡ n)
+one_header order bytes h g m n a b = same_heading h g m n _ _ (sym (head_take order bytes h m a) ∙ head_take order bytes g n b)
 
 same_break : (m n : ℕ) (r q : Reason) → broken Heading m r ≡ broken Heading n q → (m ≡ n) × (r ≡ q)
 same_break m n r q e = (cc, cc)
@@ -157,3 +165,6 @@ header_or_break order bytes fit = header_or_break_by order bytes (read_head orde
 
 pub header_breaks_stay : HeaderBreaksStay
 header_breaks_stay = header_stays
+
+pub headers_stay : HeadersStay
+headers_stay order bytes tail h n (order_is, rest, headed) = (order_is, rest ++ tail, headed_stays order bytes tail h.format n (fields_of h) rest headed)

@@ -1,10 +1,10 @@
 -- A header and its unit_length: what the plain reader reads stands there.
 use Rattle.std.specs.Prelude.{◌≡◌, ℕ, ◌+◌, ◌-◌, ◌≤◌, ◌<◌, ◌^◌, List, ◌++◌, length, drop}
-use Rattle.std.proofs.Common.{refl, sym, ap, subst, ◌∙◌, arith, inl, inr}
+use Rattle.std.proofs.Common.{refl, sym, ap, subst, ◌∙◌, append_assoc, arith, inl, inr}
 use Rattle.std.proofs.lemmas.List.{drop_at, length-append}
 use Rattle.dw_leb.specs.declared.order.Order.{Order}
 use Rattle.dw_leb.specs.declared.order.Format.{Format}
-use Rattle.dw_leb.specs.Number.{initial_length, length_limit, length_size}
+use Rattle.dw_leb.specs.Number.{length_field, initial_length, length_limit, length_size}
 use Rattle.dw_leb.specs.Reader.{Outcome, Found, Broken}
 use Rattle.dw_leb.specs.ReadNumber.{read_length}
 use Rattle.dw_leb.specs.Decide.{Says, AreBytes, AreBytes-behind}
@@ -19,7 +19,7 @@ abbrev pub HeadSays : Order → List ℕ → Outcome Heading → Type 0
 HeadSays order bytes (Found x size) = HeaderAt order bytes x.0 x.1
 HeadSays order bytes (Broken offset reason) = HeaderBreaks order bytes offset reason
 
-fields_say : (order : Order) (bytes : List ℕ) (format : Format) (n : ℕ) (after : List ℕ) (size : ℕ) → (initial_length order 0).Fits (format, n) → bytes ≡ (initial_length order 0).spell (format, n) ++ after → length ((initial_length order 0).spell (format, n)) ≡ size
+fields_say : (order : Order) (bytes : List ℕ) (format : Format) (n : ℕ) (after : List ℕ) (size : ℕ) → (initial_length order 0).Fits (format, n) → bytes ≡ (length_field order).spell (format, n) ++ after → length ((length_field order).spell (format, n)) ≡ size
     → (o : Outcome Fields) → Says (fields order format) after n o → HeadSays order bytes (head_fields order format n size o)
 fields_say order bytes format n after size fits split sized (Broken own reason) h = inr (format, n, after, own, fits, split, ap (λ (k : ℕ). k + own) (sym sized), h)
 fields_say order bytes format n after size fits split sized (Found x more) h =
@@ -29,7 +29,7 @@ fields_say order bytes format n after size fits split sized (Found x more) h =
       record {
         length_fits = fits;
         fields_fit = subst (λ (z : Fields). (fields order format).Fits z) (sym same) h.fits;
-        split = split ∙ ap (λ (b : List ℕ). (initial_length order 0).spell (format, n) ++ b) (h.split ∙ ap (λ (z : Fields). (fields order format).spell z ++ h.rest) (sym same));
+        split = split ∙ ap (λ (b : List ℕ). (length_field order).spell (format, n) ++ b) (h.split ∙ ap (λ (z : Fields). (fields order format).spell z ++ h.rest) (sym same));
         within = subst (λ (z : Fields). length ((fields order format).spell z) ≤ n) (sym same) (omega (arith, h.is_size, h.within));
       },
     )
@@ -37,7 +37,7 @@ fields_say order bytes format n after size fits split sized (Found x more) h =
 length_say : (order : Order) (bytes : List ℕ) → AreBytes bytes → (o : Outcome (Format × ℕ)) → Says (initial_length order 0) bytes length_limit o → HeadSays order bytes (head_length order bytes o)
 length_say order bytes fit (Broken offset reason) h = inl h
 length_say order bytes fit (Found x size) h =
-    let s : List ℕ = (initial_length order 0).spell x in
+    let s : List ℕ = (length_field order).spell x in
     let d : drop size bytes ≡ h.rest = ap (λ (t : List ℕ). drop size t) h.split ∙ drop_at s h.rest size h.is_size in
     let fit2 : AreBytes h.rest = AreBytes-behind s h.rest (rw h.split at fit) in
     rw d (fields_say order bytes x.0 x.1 h.rest size h.fits h.split h.is_size (read_fields order x.0 h.rest x.1) ((fields_decides order x.0).says h.rest x.1 fit2))
@@ -52,16 +52,29 @@ module _ (order : Order) (bytes : List ℕ) (h : Header) (n : ℕ) (stands : Hea
   same_fields = ap (λ (q : Order). length ((fields q h.format).spell (fields_of h))) (sym stands.0)
 
   -- its bytes, and how many of the unit_length are left behind it
-  pub head_size : length ((initial_length order 0).spell (h.format, n)) + length ((fields order h.format).spell (fields_of h)) ≡ header_size h
+  pub head_size : length ((length_field order).spell (h.format, n)) + length ((fields order h.format).spell (fields_of h)) ≡ header_size h
   head_size = omega (arith, same_fields, initial-size order 0 h.format n)
 
   pub head_left : n - length ((fields order h.format).spell (fields_of h)) ≡ n - (header_size h - length_size h.format)
   head_left = omega (arith, same_fields)
 
+  -- what follows it
+  pub head_rest : drop (header_size h) bytes ≡ stands.1
+  head_rest =
+      let l : List ℕ = (length_field order).spell (h.format, n) in
+      let f : List ℕ = (fields order h.format).spell (fields_of h) in
+      ap (drop (header_size h)) (stands.2.split ∙ sym (append_assoc l f stands.1)) ∙ drop_at (l ++ f) stands.1 (header_size h) (length-append l f ∙ head_size)
+
+  pub head_rest_bytes : AreBytes bytes → AreBytes stands.1
+  head_rest_bytes fit =
+      let l : List ℕ = (length_field order).spell (h.format, n) in
+      let f : List ℕ = (fields order h.format).spell (fields_of h) in
+      AreBytes-behind f stands.1 (AreBytes-behind l (f ++ stands.1) (subst AreBytes stands.2.split fit))
+
   -- it lies within the bytes ..
   pub head_room : header_size h ≤ length bytes
   head_room =
-      let l : List ℕ = (initial_length order 0).spell (h.format, n) in
+      let l : List ℕ = (length_field order).spell (h.format, n) in
       let f : List ℕ = (fields order h.format).spell (fields_of h) in
       omega (arith, same_fields, initial-size order 0 h.format n, ap length stands.2.split, length-append l (f ++ stands.1), length-append f stands.1)
 

@@ -5,12 +5,12 @@ use Rattle.dw_leb.specs.declared.errors.Reason.{Reason}
 use Rattle.dw_leb.specs.declared.errors.Section.TheVariants.{Info}
 use Rattle.dw_leb.specs.declared.order.Order.{Order}
 use Rattle.dw_leb.specs.declared.order.Format.{Format}
-use Rattle.dw_leb.specs.Number.{initial_length, length_limit, length_size}
+use Rattle.dw_leb.specs.Number.{length_field, initial_length, length_limit, length_size}
 use Rattle.dw_header.specs.Header.{Header, Fields, fields, fields_of}
 
 -- the one spelling of a header with its unit_length
 abbrev pub header_bytes : Header → ℕ → List ℕ
-header_bytes h n = (initial_length h.order 0).spell (h.format, n) ++ (fields h.order h.format).spell (fields_of h)
+header_bytes h n = (length_field h.order).spell (h.format, n) ++ (fields h.order h.format).spell (fields_of h)
 
 -- the bytes of a header, its length field included
 abbrev pub header_size : Header → ℕ
@@ -20,14 +20,14 @@ header_size h = length_size h.format + length ((fields h.order h.format).spell (
 pub record Headed (order : Order) (bytes : List ℕ) (format : Format) (n : ℕ) (x : Fields) (rest : List ℕ) : Type 0 where
   pub length_fits : (initial_length order 0).Fits (format, n)
   pub fields_fit : (fields order format).Fits x
-  pub split : bytes ≡ (initial_length order 0).spell (format, n) ++ ((fields order format).spell x ++ rest)
+  pub split : bytes ≡ (length_field order).spell (format, n) ++ ((fields order format).spell x ++ rest)
   pub within : length ((fields order format).spell x) ≤ n
 
 -- the header breaks in its initial length, or behind it in its fields, with lim the length read
 abbrev pub HeaderBreaks : Order → List ℕ → ℕ → Reason → Type 0
 HeaderBreaks order bytes offset reason = (initial_length order 0).Break bytes length_limit offset reason
-    ⊎ ((format : Format) × (n : ℕ) × (rest : List ℕ) × (own : ℕ) × (initial_length order 0).Fits (format, n) × (bytes ≡ (initial_length order 0).spell (format, n) ++ rest)
-    × (offset ≡ length ((initial_length order 0).spell (format, n)) + own) × (fields order format).Break rest n own reason)
+    ⊎ ((format : Format) × (n : ℕ) × (rest : List ℕ) × (own : ℕ) × (initial_length order 0).Fits (format, n) × (bytes ≡ (length_field order).spell (format, n) ++ rest)
+    × (offset ≡ length ((length_field order).spell (format, n)) + own) × (fields order format).Break rest n own reason)
 
 -- a header in this order, and its unit_length, stand at the front of the bytes
 abbrev pub HeaderAt : Order → List ℕ → Header → ℕ → Type 0

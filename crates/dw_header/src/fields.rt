@@ -1,5 +1,5 @@
 //! The fields of a unit header after its length (section 7.5.1).
-ghost use Rattle.std.specs.Prelude.{◌≡◌, ◌≤◌, ◌<◌, ◌+◌, ◌^◌, ℕ, List, length, IfOk, IfErr};
+ghost use Rattle.std.specs.Prelude.{◌≡◌, ◌≤◌, ◌<◌, ◌+◌, ◌^◌, length, IfOk, IfErr};
 ghost use Rattle.dw_leb.specs.Number.{offset_size};
 ghost use Rattle.dw_leb.specs.Reader.{checked, ◌and_then◌};
 ghost use Rattle.dw_leb.specs.ReadNumber.{read_fixed as fixed_reader};
@@ -26,7 +26,7 @@ fn number(order: Order, n: u8, b: &[u8], lim: u64) -> Result<(u64, usize), Bad>
     ensures exact { fixed_reader order n b.now lim ≡ told (λ x. x) result }
     ensures small { IfOk result (λ x. x.0 < 256 ^ n) }
     ensures room { IfOk result (λ x. (x.1 ≡ n) × (n ≤ length b.now) × (n ≤ lim)) }
-    ensures near { IfErr result (λ e. e.offset ≤ 0) }
+    ensures near { IfErr result (λ e. e.offset ≤ length b.now) }
 {
     match read_fixed(order, n, b, lim) {
         Ok(x) => Ok((x as u64, n as usize)),
@@ -47,7 +47,7 @@ fn added(
     ensures exact { read_numbers order (added_sizes format unit_type) b.now lim ≡ told kind_fields result }
     ensures kind { IfOk result (λ x. kind_number x.0 ≡ unit_type) }
     ensures room { IfOk result (λ x. (x.1 ≤ length b.now) × (x.1 ≤ lim) × (x.1 ≤ 16)) }
-    ensures near { IfErr result (λ e. e.offset ≤ 8) }
+    ensures near { IfErr result (λ e. e.offset ≤ length b.now) }
 {
     match unit_type {
         1 => Ok((Kind::Compile, 0)),
@@ -65,7 +65,7 @@ fn type_fields(order: Order, format: Format, b: &[u8], lim: u64) -> Result<(Kind
     ensures exact { read_numbers order (added_sizes format 2) b.now lim ≡ told kind_fields result }
     ensures kind { IfOk result (λ x. kind_number x.0 ≡ 2) }
     ensures room { IfOk result (λ x. (x.1 ≤ length b.now) × (x.1 ≤ lim) × (x.1 ≤ 16)) }
-    ensures near { IfErr result (λ e. e.offset ≤ 8) }
+    ensures near { IfErr result (λ e. e.offset ≤ length b.now) }
 {
     let (signature, _) = number(order, 8, b, lim)?;
     match number(order, format.offset_size(), &b[8..], lim - 8) {
@@ -93,7 +93,7 @@ fn offsets(
     ensures exact { (fixed_reader order (offset_size format) and_then λ _. read_numbers order (added_sizes format unit_type)) b.now lim ≡ told (λ x. (x.0, kind_fields x.1)) result }
     ensures kind { IfOk result (λ x. kind_number x.0.1 ≡ unit_type) }
     ensures room { IfOk result (λ x. (x.1 ≤ length b.now) × (x.1 ≤ lim) × (x.1 ≤ 24)) }
-    ensures near { IfErr result (λ e. e.offset ≤ 16) }
+    ensures near { IfErr result (λ e. e.offset ≤ length b.now) }
 {
     let (offset, size) = number(order, format.offset_size(), b, lim)?;
     match added(order, format, unit_type, &b[size..], lim - size as u64) {
@@ -115,7 +115,7 @@ fn address(
     ensures exact { (checked (fixed_reader order 1) bad_address_size and_then λ _. fixed_reader order (offset_size format) and_then λ _. read_numbers order (added_sizes format unit_type)) b.now lim ≡ told after_type result }
     ensures kind { IfOk result (λ x. kind_number x.0.kind ≡ unit_type) }
     ensures room { IfOk result (λ x. (x.1 ≤ length b.now) × (x.1 ≤ lim) × (x.1 ≤ 25)) }
-    ensures near { IfErr result (λ e. e.offset ≤ 17) }
+    ensures near { IfErr result (λ e. e.offset ≤ length b.now) }
 {
     let (address_size, _) = number(order, 1, b, lim)?;
     if address_size < 1 || address_size > 8 {
@@ -138,7 +138,7 @@ fn address(
 fn typed(order: Order, format: Format, b: &[u8], lim: u64) -> Result<(HeaderFields, usize), Bad>
     ensures exact { (checked (fixed_reader order 1) bad_type and_then λ kind. checked (fixed_reader order 1) bad_address_size and_then λ _. fixed_reader order (offset_size format) and_then λ _. read_numbers order (added_sizes format kind)) b.now lim ≡ told after_version result }
     ensures room { IfOk result (λ x. (x.1 ≤ length b.now) × (x.1 ≤ lim) × (x.1 ≤ 26)) }
-    ensures near { IfErr result (λ e. e.offset ≤ 18) }
+    ensures near { IfErr result (λ e. e.offset ≤ length b.now) }
 {
     let (unit_type, _) = number(order, 1, b, lim)?;
     if unit_type < 1 || unit_type > 4 {
@@ -160,7 +160,7 @@ pub(crate) fn header_fields(
     ensures exact { read_fields order format b.now lim ≡ told all_fields result }
     ensures fits { IfOk result (λ x. (fields order format).Fits (all_fields x.0)) }
     ensures room { IfOk result (λ x. (x.1 ≤ length b.now) × (x.1 ≤ lim) × (x.1 ≤ 28)) }
-    ensures near { IfErr result (λ e. e.offset ≤ 20) }
+    ensures near { IfErr result (λ e. e.offset ≤ length b.now) }
 {
     versioned(order, format, b, lim)
 }
@@ -169,7 +169,7 @@ pub(crate) fn header_fields(
 fn versioned(order: Order, format: Format, b: &[u8], lim: u64) -> Result<(HeaderFields, usize), Bad>
     ensures exact { read_fields order format b.now lim ≡ told all_fields result }
     ensures room { IfOk result (λ x. (x.1 ≤ length b.now) × (x.1 ≤ lim) × (x.1 ≤ 28)) }
-    ensures near { IfErr result (λ e. e.offset ≤ 20) }
+    ensures near { IfErr result (λ e. e.offset ≤ length b.now) }
 {
     let (version, _) = number(order, 2, b, lim)?;
     if version != 5 {

@@ -3,20 +3,22 @@ ghost use Rattle.std.specs.Prelude.{◌≡◌, ◌≤◌, ◌<◌, ◌+◌, ◌^
 ghost use Rattle.dw_leb.specs.declared.errors.Fault.{Fault as TheFault};
 ghost use Rattle.dw_leb.specs.declared.errors.Section.TheVariants.{Info};
 ghost use Rattle.dw_header.specs.Header.{Header as TheHeader};
-ghost use Rattle.dw_leb.specs.Number.{length_size};
+ghost use Rattle.dw_leb.specs.Number.{length_limit, length_size};
+ghost use Rattle.dw_leb.specs.Reader.{outcome_of};
+ghost use Rattle.dw_leb.specs.ReadNumber.{read_length as length_reader};
 ghost use Rattle.dw_header.specs.Headed.{HeaderAt, HeaderFault, header_size};
 ghost use Rattle.dw_header.specs.ReadHeader.{read_head};
 ghost use Rattle.dw_leb.specs.Told.{told};
 
 use crate::fields::header_fields;
 use crate::header::Header;
-use dw_leb::{Bad, Fault, Order, Section, read_length};
+use dw_leb::{Bad, Fault, Format, Order, Reason, Section, read_length};
 
 /// The header at the front of `b`, and the unit_length: the count of bytes that the unit has after
 /// its initial length. No memory is taken.
 ///
 /// The fault is that of the first bad field, in `.debug_info`, its offset from the first byte of
-/// `b`. The unit_length is never compared with the count of bytes in `b`: a field past the unit's
+/// `b`, and at most the count of its bytes. The unit_length is never compared with the count of bytes in `b`: a field past the unit's
 /// end is `PastUnit`, before it could be `Truncated`.
 pub fn read_header(order: Order, b: &[u8]) -> Result<(Header, u64), Fault>
     ensures found { IfOk result (λ x. HeaderAt order b.now x.0 x.1) }
@@ -25,6 +27,7 @@ pub fn read_header(order: Order, b: &[u8]) -> Result<(Header, u64), Fault>
     ensures end { IfOk result (λ x. length_size x.0.format + x.1 < 2 ^ 63) }
     ensures only { (h : TheHeader) (n : ℕ) → HeaderAt order b.now h n → IsOkAnd result (λ x. (x.0 ≡ h) × (x.1 ≡ n)) }
     ensures broken { IfErr result (HeaderFault order b.now) }
+    ensures near { IfErr result (λ f. f.offset ≤ length b.now) }
     ensures first { (f : TheFault) → HeaderFault order b.now f → result ≡ Err f }
 {
     match head_at(order, b) {
@@ -44,13 +47,22 @@ fn info_fault(e: Bad) -> Fault
     }
 }
 
+/// The initial length, as the plain reader's outcome.
+fn length_at(order: Order, b: &[u8]) -> Result<(Format, u64), Reason>
+    ensures exact { length_reader order 0 b.now length_limit ≡ outcome_of (λ x. x) (λ x. length_size x.0) result }
+    ensures room { IfOk result (λ x. length_size x.0 ≤ length b.now) }
+    ensures end { IfOk result (λ x. x.1 < 2 ^ 63) }
+{
+    read_length(order, 0, b)
+}
+
 /// The header with its unit_length, and the count of the bytes of both.
 fn head_at(order: Order, b: &[u8]) -> Result<((Header, u64), usize), Bad>
     ensures exact { read_head order b.now ≡ told (λ x. x) result }
     ensures room { IfOk result (λ x. x.1 ≤ length b.now) }
-    ensures near { IfErr result (λ e. e.offset ≤ 32) }
+    ensures near { IfErr result (λ e. e.offset ≤ length b.now) }
 {
-    let (format, unit_length) = match read_length(order, 0, b) {
+    let (format, unit_length) = match length_at(order, b) {
         Ok(found) => found,
         Err(reason) => return Err(Bad::here(reason)),
     };

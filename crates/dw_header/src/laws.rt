@@ -4,7 +4,7 @@ ghost use Rattle.dw_leb.specs.Stay.{Stays};
 ghost use Rattle.dw_leb.specs.declared.order.Order.{Order};
 ghost use Rattle.dw_leb.specs.declared.order.Format.{Format};
 ghost use Rattle.dw_header.specs.Header.{fields};
-ghost use Rattle.dw_header.specs.HeadLaws.{NoHeaderBegins, HeadersAreSpelled, SpelledHeadersStand, OneHeaderBreak, NoHeaderAndBreak, HeaderOrBreak, HeaderBreaksStay};
+ghost use Rattle.dw_header.specs.HeadLaws.{NoHeaderBegins, HeadersAreSpelled, SpelledHeadersStand, OneHeaderBreak, NoHeaderAndBreak, HeaderOrBreak, HeaderBreaksStay, HeadersStay};
 
 /// One spelling: no spelling of a header's fields begins another, nor with the initial length before
 /// them (sections 7.2.2 and 7.5.1) in one byte order. So each header with its unit_length has one
@@ -24,8 +24,10 @@ pub fn one_outcome()
     ensures some { HeaderOrBreak }
 {}
 
-/// Outcomes are stable: a break whose reason isn't `Truncated` stays whatever bytes follow.
+/// Outcomes are stable: a header at the front stays there whatever bytes follow, and so does a break
+/// whose reason isn't `Truncated`.
 pub fn outcomes_are_stable()
     ensures fields { (order : Order) (format : Format) → Stays (fields order format).Break }
-    ensures headers { HeaderBreaksStay }
+    ensures breaks { HeaderBreaksStay }
+    ensures headers { HeadersStay }
 {}

@@ -6,9 +6,9 @@ use Rattle.std.proofs.lemmas.Bool.{ltb-true, ltb-false, lt-ltb, le-ltb, eqb-true
 use Rattle.std.proofs.lemmas.List.{length-append}
 use Rattle.dw_leb.specs.Part.{LebTooBig, LengthTooBig, Part, ◌then◌, judged, seen, viewed, optional}
 use Rattle.dw_leb.specs.Field.{IsField}
-use Rattle.dw_leb.specs.Number.{UlebFits, SlebFits, marked, fixed_bytes, length_size, length_limit, Order, Format, Dwarf32, Dwarf64, fixed, groups, Unsigned, Signed, uleb_groups, UlebHolds, SlebHolds, above_u64, uleb, extent, residue, sleb_groups, outside_i64, sleb, reserved, as_initial, too_far, initial_length}
+use Rattle.dw_leb.specs.Number.{UlebFits, SlebFits, marked, fixed_bytes, length_size, length_limit, Order, Format, Dwarf32, Dwarf64, fixed, groups, Unsigned, Signed, uleb_groups, UlebHolds, SlebHolds, above_u64, uleb, extent, residue, sleb_groups, outside_i64, sleb, reserved, as_initial, too_far, length_field, initial_length}
 use Rattle.dw_leb.specs.Reader.{made}
-use Rattle.dw_leb.specs.ReadNumber.{undigits, read_fixed, read_groups, uleb_from, signed_from, sleb_from, read_uleb, read_sleb, initial_from, read_length}
+use Rattle.dw_leb.specs.ReadNumber.{undigits, read_fixed, read_groups, uleb_from, signed_from, sleb_from, read_uleb, read_sleb, initial_from, read_length_field, read_length}
 use Rattle.dw_leb.specs.Decide.{IsTotalView, viewed_decides, Decides, IsView, then_decides, judged_decides, whole_decides, seen_decides, optional_decides}
 use Rattle.dw_leb.specs.Stay.{Stays, then_stays, judged_stays, whole_stays, optional_stays}
 use Rattle.dw_leb.specs.Digits.{length-marked, digits_below, length-fixed, length-digits, undigits-digits, undigits_below, digits-undigits, fixed_decides, groups_decides, Short_stays, groups_stays}
@@ -92,14 +92,20 @@ initial_view order = record { back = λ x a e fits. back x.0 x.1 a e; there = λ
     there x None fits = refl
     there x (Some n) fits = wide x n (x == 0xffffffff) refl fits
 
+pub length_field_decides : (order : Order) → Decides (length_field order) (read_length_field order)
+length_field_decides order =
+    whole_decides _ _ (seen_decides (initial order) _ as_initial initial_from (initial_view order)
+    (then_decides _ _ _ _ (judged_decides (fixed order 4) (read_fixed order 4) reserved (fixed_decides order 4)) (λ x. optional_decides (x == 0xffffffff) (fixed order 8) (read_fixed order 8) (fixed_decides order 8))))
+
+pub length_field_stays : (order : Order) → Stays (length_field order).Break
+length_field_stays order =
+    whole_stays (seen as_initial (initial order)) (then_stays (judged (fixed order 4) reserved) (λ x. optional (x == 0xffffffff) (fixed order 8)) (judged_stays (fixed order 4) reserved (Short_stays 4)) (λ x. optional_stays (x == 0xffffffff) (fixed order 8) (Short_stays 8)))
+
 pub initial_length_decides : (order : Order) (start : ℕ) → Decides (initial_length order start) (read_length order start)
-initial_length_decides order start =
-    judged_decides _ _ (too_far start) (whole_decides _ _ (seen_decides (initial order) _ as_initial initial_from (initial_view order)
-    (then_decides _ _ _ _ (judged_decides (fixed order 4) (read_fixed order 4) reserved (fixed_decides order 4)) (λ x. optional_decides (x == 0xffffffff) (fixed order 8) (read_fixed order 8) (fixed_decides order 8)))))
+initial_length_decides order start = judged_decides (length_field order) (read_length_field order) (too_far start) (length_field_decides order)
 
 pub initial_length_stays : (order : Order) (start : ℕ) → Stays (initial_length order start).Break
-initial_length_stays order start =
-    judged_stays _ (too_far start) (whole_stays (seen as_initial (initial order)) (then_stays (judged (fixed order 4) reserved) (λ x. optional (x == 0xffffffff) (fixed order 8)) (judged_stays (fixed order 4) reserved (Short_stays 4)) (λ x. optional_stays (x == 0xffffffff) (fixed order 8) (Short_stays 8))))
+initial_length_stays order start = judged_stays (length_field order) (too_far start) (length_field_stays order)
 
 -- ---- a number takes at least one byte
 
@@ -168,6 +174,6 @@ sleb_field bytes lim offset reason (inr h) = h.here
 pub fixed_field : (order : Order) (n : ℕ) → IsField (fixed order n)
 fixed_field order n bytes lim offset reason h = h.0
 
-pub length_field : (order : Order) (start : ℕ) → IsField (initial_length order start)
-length_field order start bytes lim offset reason (inl h) = h.0
-length_field order start bytes lim offset reason (inr h) = h.here
+pub initial_length_field : (order : Order) (start : ℕ) → IsField (initial_length order start)
+initial_length_field order start bytes lim offset reason (inl h) = h.0
+initial_length_field order start bytes lim offset reason (inr h) = h.here

@@ -50,15 +50,13 @@ pub word_by : (n : ℕ) (r : Result ℕ Reason) → n ≤ 8 → IfOk r (λ x. x 
 word_by n (Ok x) short h = let p : 256 ^ n ≤ 256 ^ 8 = pow-le-pow_right {n = 256} (omega arith) short in omega (arith, h, p)
 word_by n (Err reason) short h = tt
 
--- ---- the plain reader's outcome, by what a call answers
-
-module _ {X : Type 0} (P : Part X) (R : Reader X) (it : Decides P R) (bytes : List ℕ) (lim : ℕ) where
-  outcome_said : (size : X → ℕ) → ((x : X) → P.Fits x → length (P.spell x) ≡ size x) → IsField P → (o : Outcome X) → Says P bytes lim o → o ≡ outcome_of (λ x. x) size (answer o)
-  outcome_said size sized field (Found x n) h = ap (λ (k : ℕ). found x k) (sym h.is_size ∙ sized x h.fits)
-  outcome_said size sized field (Broken offset reason) h = ap (λ (k : ℕ). broken X k reason) (field bytes lim offset reason h)
-
-  pub outcome_by : (size : X → ℕ) → ((x : X) → P.Fits x → length (P.spell x) ≡ size x) → IsField P → AreBytes bytes → (r : Result X Reason) → r ≡ answer (R bytes lim) → R bytes lim ≡ outcome_of (λ x. x) size r
-  outcome_by size sized field fit r e = outcome_said size sized field (R bytes lim) (it.says bytes lim fit) ∙ ap (outcome_of (λ x. x) size) (sym e)
+-- the plain reader's outcome, by what a call answers of the grammar: what it found is taken, what it refused breaks
+pub outcome_by : {X Y : Type 0} (P : Part Y) (R : Reader Y) → Decides P R → (bytes : List ℕ) (lim : ℕ) (view : X → Y) (size : Y → ℕ) (r : Result X Reason)
+    → IfOk r (λ x. Taken P bytes lim (view x) (size (view x))) → IfErr r (λ e. P.Break bytes lim 0 e) → R bytes lim ≡ outcome_of view size r
+outcome_by P R it bytes lim view size (Ok x) h g =
+    let within : length (P.spell (view x)) ≤ lim = omega (arith, h.is_size, h.within) in
+    ap (λ (b : List ℕ). R b lim) h.split ∙ it.takes (view x) h.rest lim h.fits within ∙ ap (λ (k : ℕ). found (view x) k) h.is_size
+outcome_by P R it bytes lim view size (Err reason) h g = it.faults bytes lim 0 reason g
 
 -- ---- answers that are seen by a view
 
@@ -74,7 +72,3 @@ module _ {X Y : Type 0} (view : X → Y) where
   pub only_seen : (r : Result X Reason) (y : Y) → seen_by view r ≡ Ok y → IsOkAnd r (λ x. view x ≡ y)
   only_seen (Ok x) y h = cc
   only_seen (Err reason) y h = absurd cc
-
-  pub outcome_seen : (size : Y → ℕ) (r : Result X Reason) → outcome_of (λ y. y) size (seen_by view r) ≡ outcome_of view size r
-  outcome_seen size (Ok x) = refl
-  outcome_seen size (Err reason) = refl

@@ -10,6 +10,7 @@ pub mod DecideNumber
 pub mod DecideRepeat
 pub mod Scan
 pub mod Field
+pub mod ErrorText
 pub mod Watch
 pub mod Known
 pub mod Devices

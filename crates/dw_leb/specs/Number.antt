@@ -149,9 +149,13 @@ as_initial (Dwarf64, n) = Some (0xffffffff, Some n)
 abbrev pub too_far : ℕ → Format × ℕ → Option Reason
 too_far start x = if nat_lt (start + length_size x.0 + x.1) (2 ^ 63) then None else Some LengthTooBig
 
--- An initial length: the format, and the bytes after the field. One field, its ff ff ff ff included.
+-- The spelling of an initial length: the format, and the count of bytes after the field. One field, its ff ff ff ff included.
+abbrev pub length_field : Order → Part (Format × ℕ)
+length_field order = whole (seen as_initial (judged (fixed order 4) reserved then λ x. optional (x == 0xffffffff) (fixed order 8)))
+
+-- the initial length of a unit that begins at start: so spelled, and with the unit's end where it may be
 abbrev pub initial_length : Order → ℕ → Part (Format × ℕ)
-initial_length order start = judged (whole (seen as_initial (judged (fixed order 4) reserved then λ x. optional (x == 0xffffffff) (fixed order 8)))) (too_far start)
+initial_length order start = judged (length_field order) (too_far start)
 
 -- The lim under which an initial length is read: its largest size. What is read alone has no end of its own, and no field of
 -- the length reaches past this, so that it breaks for Truncated and never for PastUnit.

@@ -66,5 +66,8 @@ abbrev pub initial_from : ℕ × Option ℕ → Format × ℕ
 initial_from (n, None) = (Dwarf32, n)
 initial_from (n, Some m) = (Dwarf64, m)
 
+abbrev pub read_length_field : Order → Reader (Format × ℕ)
+read_length_field order = one_field (made initial_from (checked (read_fixed order 4) reserved and_then λ x. read_optional (x == 0xffffffff) (read_fixed order 8)))
+
 abbrev pub read_length : Order → ℕ → Reader (Format × ℕ)
-read_length order start = checked (one_field (made initial_from (checked (read_fixed order 4) reserved and_then λ x. read_optional (x == 0xffffffff) (read_fixed order 8)))) (too_far start)
+read_length order start = checked (read_length_field order) (too_far start)

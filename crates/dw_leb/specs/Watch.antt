@@ -10,9 +10,6 @@ use Rattle.dw_leb.specs.declared.errors.ReadError.{ReadError}
 use Rattle.dw_leb.specs.declared.errors.ReadError.TheVariants as reads
 use Rattle.dw_leb.specs.declared.errors.WriteError.{WriteError}
 use Rattle.dw_leb.specs.declared.errors.WriteError.TheVariants as writes
-use Rattle.dw_leb.specs.declared.errors.Fault.{Fault}
-use Rattle.dw_leb.specs.declared.errors.Section.TheVariants as sections
-use Rattle.dw_leb.specs.declared.errors.Reason.TheVariants as reasons
 
 -- the reader or writer that is watched
 abbrev pub inner_of : {T : Type 0} → Watched T → T
@@ -52,31 +49,6 @@ ConsumesUpTo old new n = (bytes : List ℕ) × (length bytes ≤ n) × Consumes 
 -- known bytes grow by a beginning of these
 abbrev pub AppendsFront : Option (List ℕ) → Option (List ℕ) → List ℕ → Type 0
 AppendsFront old new bytes = (n : ℕ) × (n ≤ length bytes) × Appends old new (take n bytes)
-
--- the fault of an input that ends too early
-abbrev pub truncated : Fault
-truncated = record { section = sections.Info; offset = 0; reason = reasons.Truncated }
-
--- What a read of exactly n bytes answers and takes, by the bytes left before and after. An answer that
--- tells a truncated input took all that was left, which was less; after any other error at most n bytes are taken.
-abbrev pub ReadsExactly : {X : Type 0} → (X → List ℕ) → Option (List ℕ) → Option (List ℕ) → ℕ → Result X ReadError → Type 0
-ReadsExactly view old new n (Ok x) = (length (view x) ≡ n) × Consumes old new (view x)
-ReadsExactly view old new n (Err (reads.Fault f)) = (f ≡ truncated) × ((bytes : List ℕ) × (length bytes < n) × Consumes old new bytes) × IsAtEnd new
-ReadsExactly view old new n (Err reads.NoMemory) = ConsumesUpTo old new n
-ReadsExactly view old new n (Err (reads.Io kind)) = ConsumesUpTo old new n
-
--- an error of one read: the input is at its end, or nothing was taken
-abbrev pub FailsToRead : Option (List ℕ) → Option (List ℕ) → ReadError → Type 0
-FailsToRead old new (reads.Fault f) = (f ≡ truncated) × Keeps old new × IsAtEnd new
-FailsToRead old new reads.NoMemory = ⊥
-FailsToRead old new (reads.Io kind) = Keeps old new
-
--- What a read of all that is left answers and takes. After an error some bytes are taken; the end of the input is none.
-abbrev pub ReadsAll : {X : Type 0} → (X → List ℕ) → Option (List ℕ) → Option (List ℕ) → Result X ReadError → Type 0
-ReadsAll view old new (Ok x) = Consumes old new (view x) × IsAtEnd new
-ReadsAll view old new (Err (reads.Fault f)) = ⊥
-ReadsAll view old new (Err reads.NoMemory) = (bytes : List ℕ) × Consumes old new bytes
-ReadsAll view old new (Err (reads.Io kind)) = (bytes : List ℕ) × Consumes old new bytes
 
 -- What a call that writes these bytes wrote: at Ok all of them, after an error a beginning.
 abbrev pub Wrote : {X : Type 0} → Option (List ℕ) → Option (List ℕ) → List ℕ → Result X WriteError → Type 0

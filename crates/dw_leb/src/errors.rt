@@ -1,6 +1,8 @@
 //! Why reading or writing failed, and where.
-ghost use Rattle.std.specs.Prelude.{◌≡◌, ◌<◌, ◌+◌, ◌^◌};
+ghost use Rattle.std.specs.Prelude.{◌≡◌, ◌<◌, ◌+◌, ◌^◌, Some};
+ghost use Rattle.dw_leb.specs.ErrorText.{fault_text, reason_name, section_name};
 
+use std::fmt;
 use std::io::ErrorKind;
 use thiserror::Error;
 
@@ -51,6 +53,45 @@ pub enum Reason {
     NotYet,
 }
 
+impl Reason {
+    fn name(self) -> &'static str
+        ensures { result.now ≡ reason_name self }
+    {
+        match self {
+            Reason::Truncated => "Truncated",
+            Reason::PastUnit => "PastUnit",
+            Reason::ReservedLength => "ReservedLength",
+            Reason::BadVersion => "BadVersion",
+            Reason::BadUnitType => "BadUnitType",
+            Reason::BadAddressSize => "BadAddressSize",
+            Reason::LebTooLong => "LebTooLong",
+            Reason::LebTooBig => "LebTooBig",
+            Reason::NoRoot => "NoRoot",
+            Reason::UnknownCode => "UnknownCode",
+            Reason::UnknownForm => "UnknownForm",
+            Reason::BadIndirect => "BadIndirect",
+            Reason::TooDeep => "TooDeep",
+            Reason::SecondRoot => "SecondRoot",
+            Reason::AbbrevOffset => "AbbrevOffset",
+            Reason::BadChildren => "BadChildren",
+            Reason::HalfPair => "HalfPair",
+            Reason::DuplicateCode => "DuplicateCode",
+            Reason::TooManyPairs => "TooManyPairs",
+            Reason::LengthTooBig => "LengthTooBig",
+            Reason::NotYet => "NotYet",
+        }
+    }
+}
+
+/// The text is the reason's name, as `Truncated`.
+impl fmt::Display for Reason {
+    ghost output = { λ reason. Some (reason_name reason) };
+
+    fn fmt<W: fmt::Write>(&self, f: &mut fmt::Formatter<W>) -> fmt::Result {
+        f.write_str(self.name())
+    }
+}
+
 /// A broken field among the bytes that were read: where it begins, counted from their first, and why
 /// it is refused.
 #[derive(Clone, Copy, Debug, PartialEq, Eq)]
@@ -90,6 +131,18 @@ pub enum Section {
     Abbrev,
 }
 
+impl Section {
+    // As it stands in the text of a fault.
+    fn name(self) -> &'static str
+        ensures { result.now ≡ section_name self }
+    {
+        match self {
+            Section::Info => "info",
+            Section::Abbrev => "abbrev",
+        }
+    }
+}
+
 /// A broken field.
 #[derive(Clone, Copy, Debug, PartialEq, Eq, Hash)]
 pub struct Fault {
@@ -103,11 +156,24 @@ pub struct Fault {
     pub reason: Reason,
 }
 
+/// The text is one line with no end, as `fault info 0x11 Truncated`: the section, the offset in
+/// hexadecimal digits, and the name of the reason.
+impl fmt::Display for Fault {
+    ghost output = { λ fault. Some (fault_text fault) };
+
+    fn fmt<W: fmt::Write>(&self, f: &mut fmt::Formatter<W>) -> fmt::Result {
+        let section = self.section.name();
+        let offset = self.offset;
+        let reason = self.reason;
+        write!(f, "fault {section} 0x{offset:x} {reason}")
+    }
+}
+
 /// Why a reading gave nothing.
 #[derive(Clone, Copy, Debug, PartialEq, Eq, Error)]
 pub enum ReadError {
     /// The bytes are refused.
-    #[error("fault {0:?}")]
+    #[error("{0}")]
     Fault(Fault),
     /// The allocator refused a growth.
     #[error("memory")]

@@ -2,7 +2,7 @@
 ghost use Rattle.std.specs.Prelude.{◌≡◌, ◌≤◌, ◌<◌, ◌^◌, ℕ, length, Ok, IfOk, IfErr};
 ghost use Rattle.dw_leb.specs.Part.{Taken};
 ghost use Rattle.dw_leb.specs.Number.{fixed, fixed_bytes};
-ghost use Rattle.dw_leb.specs.Reader.{answer, outcome_of};
+ghost use Rattle.dw_leb.specs.Reader.{answer};
 ghost use Rattle.dw_leb.specs.ReadNumber.{read_fixed as fixed_reader};
 ghost use Rattle.dw_leb.specs.Scan.{fixed_scan, fixed_cells};
 
@@ -22,8 +22,18 @@ pub fn read_fixed(order: Order, n: u8, b: &[u8], lim: u64) -> Result<u128, Reaso
     ensures found { IfOk result (λ x. Taken (fixed order n) b.now lim x n) }
     ensures only { (x : ℕ) → Taken (fixed order n) b.now lim x n → result ≡ Ok x }
     ensures broken { IfErr result (λ reason. (fixed order n).Break b.now lim 0 reason) }
+    ensures small { IfOk result (λ x. x < 256 ^ n) }
+    ensures word { n ≤ 8 → IfOk result (λ x. x < 2 ^ 64) }
+    ensures room { IfOk result (λ _. (n ≤ length b.now) × (n ≤ lim)) }
+{
+    number_at(order, n, b, lim)
+}
+
+/// The same, as the plain reader's answer.
+pub(crate) fn number_at(order: Order, n: u8, b: &[u8], lim: u64) -> Result<u128, Reason>
+    requires some { 1 ≤ n }
+    requires most { n ≤ 16 }
     ensures exact { result ≡ answer (fixed_reader order n b.now lim) }
-    ensures outcome { fixed_reader order n b.now lim ≡ outcome_of (λ x. x) (λ _. n) result }
     ensures small { IfOk result (λ x. x < 256 ^ n) }
     ensures word { n ≤ 8 → IfOk result (λ x. x < 2 ^ 64) }
     ensures room { IfOk result (λ _. (n ≤ length b.now) × (n ≤ lim)) }

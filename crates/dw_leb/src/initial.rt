@@ -1,14 +1,12 @@
 //! Initial lengths (sections 7.2.2 and 7.4).
 ghost use Rattle.std.specs.Prelude.{◌≡◌, ◌≤◌, ◌<◌, ◌^◌, ℕ, length, Ok, IfOk, IfErr};
 ghost use Rattle.dw_leb.specs.Part.{Taken};
-ghost use Rattle.dw_leb.specs.Number.{initial_length, length_size, length_limit, FitsLength};
+ghost use Rattle.dw_leb.specs.Number.{initial_length, length_field, length_size, length_limit, FitsLength};
 ghost use Rattle.dw_leb.specs.declared.order.Format.{Format as TheFormat};
-ghost use Rattle.dw_leb.specs.Reader.{answer, outcome_of};
-ghost use Rattle.dw_leb.specs.ReadNumber.{read_length as length_reader};
 ghost use Rattle.dw_leb.specs.Scan.{length_scan, length_within};
 
 use crate::errors::Reason;
-use crate::fixed::{read_fixed, write_fixed};
+use crate::fixed::{number_at, write_fixed};
 use crate::order::{Format, Order};
 use arrayvec::ArrayVec;
 
@@ -27,8 +25,6 @@ pub fn read_length(order: Order, start: u64, b: &[u8]) -> Result<(Format, u64), 
         → Taken (initial_length order start) b.now length_limit (format, n) (length_size format)
         → result ≡ Ok (format, n) }
     ensures broken { IfErr result (λ reason. (initial_length order start).Break b.now length_limit 0 reason) }
-    ensures exact { result ≡ answer (length_reader order start b.now length_limit) }
-    ensures outcome { length_reader order start b.now length_limit ≡ outcome_of (λ x. x) (λ x. length_size x.0) result }
     ensures room { IfOk result (λ x. length_size x.0 ≤ length b.now) }
     ensures end { IfOk result (λ x. x.1 < 2 ^ 63) }
 {
@@ -40,14 +36,14 @@ fn scan(order: Order, start: u64, b: &[u8]) -> Result<(Format, u64), Reason>
     ensures room { IfOk result (λ x. length_size x.0 ≤ length b.now) }
     ensures end { IfOk result (λ x. x.1 < 2 ^ 63) }
 {
-    let first = read_fixed(order, 4, b, 12)?;
+    let first = number_at(order, 4, b, 12)?;
     if first < 0xffff_fff0 {
         return within(start, Format::Dwarf32, first);
     }
     if first < 0xffff_ffff {
         return Err(Reason::ReservedLength);
     }
-    let n = read_fixed(order, 8, &b[4..], 8)?;
+    let n = number_at(order, 8, &b[4..], 8)?;
     within(start, Format::Dwarf64, n)
 }
 
@@ -69,7 +65,7 @@ fn within(start: u64, format: Format, n: u128) -> Result<(Format, u64), Reason>
 /// 0xfffffff0, and 12 in the 64-bit format.
 pub fn write_length(order: Order, format: Format, n: u64) -> ArrayVec<u8, 16>
     requires { FitsLength format n }
-    ensures spelling { result.items ≡ (initial_length order 0).spell (format, n) }
+    ensures spelling { result.items ≡ (length_field order).spell (format, n) }
     ensures length { length result.items ≡ length_size format }
 {
     match format {

@@ -1,6 +1,6 @@
 //! Laws of the definitions. They call nothing.
 ghost use Rattle.std.specs.Prelude.{◌≡◌, ℕ, List};
-ghost use Rattle.dw_leb.specs.Number.{fixed, uleb, sleb, initial_length};
+ghost use Rattle.dw_leb.specs.Number.{fixed, uleb, sleb, length_field, initial_length};
 ghost use Rattle.dw_leb.specs.Laws.{NoneBegins, OneAnswer};
 ghost use Rattle.dw_leb.specs.Stay.{Stays};
 ghost use Rattle.dw_leb.specs.declared.order.Order.{Order};
@@ -11,7 +11,7 @@ pub fn one_spelling()
     ensures fixed_numbers { (order : Order) (n : ℕ) → NoneBegins (fixed order n) }
     ensures unsigned_numbers { NoneBegins uleb }
     ensures signed_numbers { NoneBegins sleb }
-    ensures lengths { (order : Order) (start : ℕ) → NoneBegins (initial_length order start) }
+    ensures lengths { (order : Order) → NoneBegins (length_field order) }
 {}
 
 /// One outcome: bytes have exactly one of a number at the front, within the bytes that are left to

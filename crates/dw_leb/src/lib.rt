@@ -1,5 +1,5 @@
 //! Numbers of DWARF 5 with the widths in which they are written, and readers and writers whose
-//! first fault is kept. No call but `read_exactly` and `read_all` takes memory.
+//! first fault is kept. No call takes memory.
 //!
 //! A number keeps its width, the count of bytes in which it was written, so that it is written back
 //! as it stood. Each read of a number is handed `b`, the rest of the input, and `lim`, the count of
@@ -11,6 +11,7 @@
 //! Sections that the comments name are those of the DWARF 5 standard.
 #![tactic(auto)]
 
+pub mod constants;
 pub mod devices;
 mod errors;
 mod fixed;
@@ -28,6 +29,6 @@ pub use fixed::{read_fixed, write_fixed};
 pub use initial::{read_length, write_length};
 pub use order::{Format, Order};
 pub use signed::Sleb;
-pub use transfer::{read_all, read_exactly, write_all};
+pub use transfer::write_all;
 pub use unsigned::Uleb;
 pub use watch::Watched;

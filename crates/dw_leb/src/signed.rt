@@ -2,8 +2,7 @@
 ghost use Rattle.std.specs.Prelude.{◌≡◌, ◌≤◌, ◌<◌, ◌*◌, ◌^◌, ℕ, negsuc, length, IsSome, IsOkAnd, IfSome, IfOk, IfErr, ◌↔◌};
 ghost use Rattle.dw_leb.specs.Part.{Taken};
 ghost use Rattle.dw_leb.specs.Number.{Signed, SlebFits, sleb, extent};
-ghost use Rattle.dw_leb.specs.Reader.{outcome_of, seen_by};
-ghost use Rattle.dw_leb.specs.ReadNumber.{read_sleb};
+ghost use Rattle.dw_leb.specs.Reader.{seen_by};
 ghost use Rattle.dw_leb.specs.Scan.{front_at, signed_scan};
 
 use crate::errors::Reason;
@@ -34,7 +33,6 @@ impl Sleb {
         ensures found { IfOk result (λ x. Taken sleb b.now lim (sleb_of x) x.width) }
         ensures only { (x : Signed) → Taken sleb b.now lim x x.width → IsOkAnd result (λ y. sleb_of y ≡ x) }
         ensures broken { IfErr result (λ reason. sleb.Break b.now lim 0 reason) }
-        ensures exact { read_sleb b.now lim ≡ outcome_of sleb_of (λ x. x.width) result }
         ensures room { IfOk result (λ x. (x.width ≤ length b.now) × (x.width ≤ lim)) }
     {
         Sleb::scan(b, lim)

@@ -2,8 +2,7 @@
 ghost use Rattle.std.specs.Prelude.{◌≡◌, ◌≤◌, ◌<◌, ◌*◌, ◌^◌, ℕ, length, IsSome, IsOkAnd, IfSome, IfOk, IfErr, ◌↔◌};
 ghost use Rattle.dw_leb.specs.Part.{Taken};
 ghost use Rattle.dw_leb.specs.Number.{Unsigned, UlebFits, uleb};
-ghost use Rattle.dw_leb.specs.Reader.{outcome_of, seen_by};
-ghost use Rattle.dw_leb.specs.ReadNumber.{read_uleb};
+ghost use Rattle.dw_leb.specs.Reader.{seen_by};
 ghost use Rattle.dw_leb.specs.Scan.{front_at, unsigned_scan};
 
 use crate::errors::Reason;
@@ -33,7 +32,6 @@ impl Uleb {
         ensures found { IfOk result (λ x. Taken uleb b.now lim (uleb_of x) x.width) }
         ensures only { (x : Unsigned) → Taken uleb b.now lim x x.width → IsOkAnd result (λ y. uleb_of y ≡ x) }
         ensures broken { IfErr result (λ reason. uleb.Break b.now lim 0 reason) }
-        ensures exact { read_uleb b.now lim ≡ outcome_of uleb_of (λ x. x.width) result }
         ensures room { IfOk result (λ x. (x.width ≤ length b.now) × (x.width ≤ lim)) }
     {
         Uleb::scan(b, lim)

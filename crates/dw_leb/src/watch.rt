@@ -1,12 +1,9 @@
 //! Readers and writers that keep their first fault.
-ghost use Rattle.std.specs.Prelude.{◌≡◌, ◌≤◌, ◌<◌, ◌+◌, ◌-◌, ℕ, List, length, take, None, Some, IfOk, IfErr, OnOk, vec_len, vec_items};
+ghost use Rattle.std.specs.Prelude.{◌≡◌, None};
 ghost use Rattle.std.specs.Io.{ReadsAtMost, WritesAtMost};
-ghost use Rattle.std.specs.Io.KnownBytes.{Appends, Consumes, IsAtEnd, ReadConsumes, WriteAppends};
-ghost use Rattle.dw_leb.specs.Watch.{inner_of, fault_of, read_fault, write_fault, told_by_read, told_by_write, AppendsFront, ReadsExactly, FailsToRead};
+ghost use Rattle.std.specs.Io.KnownBytes.{ReadConsumes, WriteAppends};
+ghost use Rattle.dw_leb.specs.Watch.{inner_of, fault_of, read_fault, write_fault};
 
-use crate::errors::{Fault, ReadError, Reason, Section, WriteError};
-use arrayvec::ArrayVec;
-use std::alloc::Global;
 use std::io;
 use std::io::{ErrorKind, Read, Write};
 

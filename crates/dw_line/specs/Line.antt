@@ -1,5 +1,7 @@
 -- The command line: what the program takes, and what a line says.
-use Rattle.std.specs.Prelude.{◌≡◌, ◌≢◌, ◌⊎◌, true, List, Option, Some, is_some, codes, false, if◌then◌else◌}
+use Rattle.std.specs.Prelude.{◌≡◌, ◌≢◌, ◌⊎◌, ℕ, true, List, Option, Some, is_some, codes, false, if◌then◌else◌, Result, Ok, Err, IsErrAnd}
+use Rattle.std.specs.IoError.{error_kind}
+use Rattle.std.specs.declared.io.Error.{Error as IoError}
 use Rattle.std.specs.Option.{option_map_or}
 use Rattle.std.specs.Str.{bytes_eq}
 use Rattle.clap.specs.Words.{App, Row, Rule, Text, first_of, new_app, new_rule, subcommand_of, with_rule, with_subcommand}
@@ -9,11 +11,15 @@ use Rattle.clap.specs.Values.{kind_of}
 use Rattle.clap.specs.Simple.{on_top}
 use Rattle.clap.specs.declared.builder.action.ArgAction.TheVariants.{Set, SetTrue}
 use Rattle.clap.specs.declared.error.Error.{Error}
-use Rattle.clap.specs.declared.error.kind.ErrorKind.TheVariants.{OutOfMemory}
+use Rattle.clap.specs.declared.error.kind.ErrorKind.{ErrorKind as Kind}
+use Rattle.clap.specs.declared.error.kind.ErrorKind.TheVariants.{DisplayHelp, DisplayVersion, OutOfMemory, ValueValidation}
 use Rattle.dw_leb.specs.declared.order.Order.{Order}
 use Rattle.dw_leb.specs.declared.order.Order.TheVariants.{Little, Big}
 use Rattle.dw_tool.specs.declared.command.Command.{Command}
 use Rattle.dw_tool.specs.declared.command.Command.TheVariants as command
+use Rattle.dw_tool.specs.declared.failure.Failure.{Failure}
+use Rattle.dw_tool.specs.declared.failure.Failure.TheVariants as failure
+use Rattle.dw_tool.specs.Failure.{FailsAs}
 use Rattle.dw_line.specs.declared.outcome.Line.{Line}
 use Rattle.dw_line.specs.declared.outcome.LineError.{LineError}
 use Rattle.dw_line.specs.declared.outcome.LineError.TheVariants.{Parse, Memory}
@@ -100,3 +106,25 @@ Refuses kinds Memory = Unit {0}
 abbrev pub Converts : Error → LineError → Type 0
 Converts e (Parse f) = (f ≡ e) × (kind_of e ≢ OutOfMemory)
 Converts e Memory = kind_of e ≡ OutOfMemory
+
+-- a mistake of the user, want of memory aside
+abbrev pub IsMistake : LineError → Type 0
+IsMistake (Parse e) = kind_of e ≡ ValueValidation
+IsMistake Memory = Unit {0}
+
+-- ---- how the program ends with words that aren't taken
+
+-- help was asked for, and this is its text
+abbrev pub IsHelp : Kind → Type 0
+IsHelp kind = (kind ≡ DisplayHelp) ⊎ (kind ≡ DisplayVersion)
+
+-- after help: 0, and help that couldn't be printed is a failure of standard output
+abbrev pub EndsHelp : Result (Unit {0}) IoError → Result ℕ Failure → Type 0
+EndsHelp (Ok printed) ended = ended ≡ Ok 0
+EndsHelp (Err e) ended = IsErrAnd ended (FailsAs (error_kind e) failure.Output)
+
+-- The exit status, or why the program gives up, by whether the parser's text was printed: after a mistake 2 in any case.
+abbrev pub Ends : LineError → Result (Unit {0}) IoError → Result ℕ Failure → Type 0
+Ends (Parse e) printed ended = (IsHelp (kind_of e) → EndsHelp printed ended)
+    × ((kind_of e ≢ DisplayHelp) → (kind_of e ≢ DisplayVersion) → ended ≡ Ok 2)
+Ends Memory printed ended = ended ≡ Err failure.Memory

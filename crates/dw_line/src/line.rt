@@ -1,14 +1,20 @@
 //! The reading of the command line.
-ghost use Rattle.std.specs.Prelude.{◌≡◌, IfErr, IfOk, [], false, map, option_map, is_some, true};
+ghost use Rattle.std.specs.Prelude.{◌≡◌, ◌≢◌, IfErr, IfOk, [], false, map, option_map, is_some, true};
 ghost use Rattle.clap.specs.Words.{app_of, first_of, found_of, rows_of, rule_of, subcommand_of, subcommand_rows_of};
+ghost use Rattle.clap.specs.Values.{kind_of};
 ghost use Rattle.clap.specs.declared.builder.command.Command.TheViews.{out-Command};
-ghost use Rattle.dw_line.specs.Line.{IsName, Meets, Refuses, Says, SaysBy, big_flag, name_of, order_by, path_option, program, refusals, subcommand};
+ghost use Rattle.clap.specs.declared.error.kind.ErrorKind.TheVariants.{ValueValidation};
+ghost use Rattle.std.specs.declared.io.ErrorKind.TheVariants.{OutOfMemory};
+ghost use Rattle.dw_line.specs.declared.outcome.LineError.TheVariants.{Memory};
+ghost use Rattle.dw_line.specs.Line.{IsMistake, IsName, Meets, Refuses, Says, SaysBy, big_flag, name_of, order_by, path_option, program, refusals, subcommand};
 
 use crate::outcome::{Line, LineError};
+use clap::error::ErrorKind;
 use clap::{Arg, ArgAction, ArgMatches};
 use dw_leb::Order;
 use dw_tool::command::Command;
 use std::alloc::{AllocError, Global};
+use std::io;
 
 /// Reads the words after the program's name: one of the subcommands `show` and `copy`, each with
 /// `--info FILE`, `--abbrev FILE` and the flag `--big`. Options stand after the subcommand, each
@@ -23,6 +29,35 @@ pub fn line<'a>(alloc: Global, words: &'a [&'a str]) -> Result<Line<'a>, LineErr
 {
     let matches = matches_of(alloc, words)?;
     Ok(read(&matches))
+}
+
+/// Why words that could not be read are no command line. `kind` is that of the error with which they
+/// were asked for: `OutOfMemory`, or another where a word is not UTF-8. The program's usage stands in
+/// the error's text.
+///
+/// `Parse` with a mistake for any kind but want of memory; `Memory` for that, and where the text of
+/// the mistake was refused memory.
+pub fn unreadable(alloc: Global, kind: io::ErrorKind) -> LineError
+    ensures memory { kind ≡ OutOfMemory → result ≡ Memory }
+    ensures mistake { kind ≢ OutOfMemory → IsMistake result }
+{
+    if kind == io::ErrorKind::OutOfMemory {
+        return LineError::Memory;
+    }
+    match not_text(alloc) {
+        Ok(error) => LineError::Parse(error),
+        Err(_) => LineError::Memory,
+    }
+}
+
+// A word is not UTF-8.
+fn not_text(alloc: Global) -> Result<clap::Error, AllocError>
+    ensures { IfOk result (λ e. kind_of e ≡ ValueValidation) }
+{
+    parser(alloc)?.error(
+        ErrorKind::ValueValidation,
+        "invalid UTF-8 was detected in one or more arguments",
+    )
 }
 
 fn matches_of<'a>(alloc: Global, words: &'a [&'a str]) -> Result<ArgMatches<'a>, LineError>
@@ -43,6 +78,7 @@ fn parser<'a>(alloc: Global) -> Result<clap::Command<'a>, AllocError>
     let show = subcommand_parser(alloc, "show", "Writes the entries as text")?;
     let copy = subcommand_parser(alloc, "copy", "Writes the bytes of .debug_info back")?;
     clap::Command::new(alloc, "dwarf")
+        .bin_name("dwarf")?
         .about("Reads and writes DWARF 5 debugging entries")
         .no_binary_name(true)
         .subcommand_required(true)

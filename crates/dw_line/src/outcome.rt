@@ -1,13 +1,16 @@
 //! What a command line says, and why words say nothing.
-ghost use Rattle.std.specs.Prelude.{◌≡◌};
+ghost use Rattle.std.specs.Prelude.{◌≡◌, ◌≢◌, Ok};
 ghost use Rattle.clap.specs.Words.{kind_of};
-ghost use Rattle.dw_line.specs.Line.{Converts};
+ghost use Rattle.dw_line.specs.Line.{Converts, Ends, EndsHelp, IsHelp};
+ghost use Rattle.clap.specs.declared.error.kind.ErrorKind.TheVariants.{DisplayHelp, DisplayVersion};
 ghost use Rattle.dw_line.specs.declared.outcome.LineError.TheVariants.{Memory};
 
 use clap::error::ErrorKind;
 use dw_leb::Order;
 use dw_tool::command::Command;
+use dw_tool::failure::Failure;
 use std::alloc::AllocError;
+use std::io;
 use thiserror::Error;
 
 /// A command line.
@@ -35,6 +38,21 @@ pub enum LineError {
     Memory,
 }
 
+impl LineError {
+    /// How the program ends, once the text of `Parse` was printed, or could not be: with the exit status
+    /// 0 after help that was asked for, and 2 after a mistake.
+    ///
+    /// Errors: help that could not be printed is a failure of standard output. `Memory` is one of memory.
+    pub fn ended(&self, printed: io::Result<()>) -> Result<u8, Failure<'static>>
+        ensures { Ends self.now printed result }
+    {
+        match self {
+            LineError::Parse(error) => parse_ended(error, printed),
+            LineError::Memory => Err(Failure::Memory),
+        }
+    }
+}
+
 impl From<clap::Error> for LineError {
     ghost from_gives = { λ e out. Converts e out };
 
@@ -52,5 +70,18 @@ impl From<AllocError> for LineError {
 
     fn from(_error: AllocError) -> LineError {
         LineError::Memory
+    }
+}
+
+fn parse_ended(error: &clap::Error, printed: io::Result<()>) -> Result<u8, Failure<'static>>
+    ensures help { IsHelp (kind_of error.now) → EndsHelp printed result }
+    ensures mistake { (kind_of error.now ≢ DisplayHelp) → (kind_of error.now ≢ DisplayVersion) → result ≡ Ok 2 }
+{
+    if error.use_stderr() {
+        return Ok(2);
+    }
+    match printed {
+        Ok(()) => Ok(0),
+        Err(failed) => Err(Failure::of_output(failed.kind())),
     }
 }

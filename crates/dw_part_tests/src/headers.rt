@@ -1,8 +1,11 @@
 //! What no clause says: headers whose bytes come from section 7.5.1 of the standard, and headers that
 //! are refused. That units of all kinds are read and written is tested with them.
+ghost use Rattle.dw_leb.specs.Number.{FitsLength};
+
 use dw_header::laws::{one_outcome, one_spelling, outcomes_are_stable};
 use dw_header::{Header, Kind, read_header, write_header};
-use dw_leb::{Fault, Format, Order, Reason, Section, Watched};
+use dw_leb::{Fault, Format, Order, Reason, Section, Watched, WriteError};
+use std::alloc::Global;
 use std::test::Fail;
 
 /// The table of each stands there.
@@ -50,6 +53,15 @@ const SKELETON: Kind = Kind::Skeleton {
     dwo_id: 0x0102030405060708,
 };
 
+/// Whether the header is written as these bytes.
+fn spells(alloc: Global, header: Header, unit_length: u64, bytes: &[u8]) -> Result<bool, WriteError>
+    requires { FitsLength header.format unit_length }
+{
+    let mut writer = Watched::new(Vec::new(alloc));
+    write_header(header, unit_length, &mut writer)?;
+    Ok(writer.into_inner().as_slice() == bytes)
+}
+
 #[test]
 fn headers_of_the_kinds(rt: HostRuntime) -> Result<(), Fail> {
     let little_32 = (Order::Little, Format::Dwarf32);
@@ -65,9 +77,10 @@ fn headers_of_the_kinds(rt: HostRuntime) -> Result<(), Fail> {
         (big_64, SKELETON, 8, 23, &SKELETON_64_BIG[..]),
     ] {
         let header = Header::new(order, format, kind, address_size, TABLE).ok_or("no header")?;
-        let mut writer = Watched::new(Vec::new(rt.alloc()));
-        write_header(header, unit_length, &mut writer)?;
-        assert!(rt; writer.into_inner().as_slice() == bytes, "{header:?}");
+        assert!(rt;
+            spells(rt.alloc(), header, unit_length, bytes)?,
+            "{header:?}"
+        );
         assert!(rt; header.size() == bytes.len() as u64, "{header:?}");
         assert!(rt;
             read_header(order, bytes).ok() == Some((header, unit_length)),

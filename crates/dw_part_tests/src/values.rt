@@ -7,6 +7,7 @@ use dw_form::{
 };
 use dw_leb::devices::Stepped;
 use dw_leb::{Format, Order, Reason, Sleb, Uleb, Watched, WriteError};
+use std::alloc::Global;
 use std::io::ErrorKind;
 use std::mem;
 use std::process::Abort;
@@ -94,23 +95,27 @@ fn refuses(rt: &impl Abort, implicit: Option<Sleb>, row: Refused) {
 }
 
 /// A pool of three bytes and no more room isn't touched where the value is refused.
+fn leaves_a_pool(rt: &impl Abort, alloc: Global, row: Refused) -> Result<(), Fail> {
+    let Refused(form, b, lim, reason) = row;
+    let mut pool = Vec::with_capacity(alloc, 3)?;
+    pool.extend_from_slice(&[1, 2, 3])?;
+    let capacity = pool.capacity();
+    let read = read_value(alloc, USUAL, form, None, b, lim, &mut pool);
+    assert_eq!(rt;
+        read.err(),
+        Some(ValueError::Bad(reason)),
+        "of {b:?} under {form}"
+    );
+    same(rt, pool.as_slice(), &[1, 2, 3]);
+    assert_eq!(rt; pool.capacity(), capacity, "of {b:?} under {form}");
+    Ok(())
+}
+
 #[test]
 fn refused_values(rt: HostRuntime) -> Result<(), Fail> {
-    let alloc = rt.alloc();
     for row in REFUSED {
         refuses(&rt, None, row);
-        let Refused(form, b, lim, reason) = row;
-        let mut pool = Vec::with_capacity(alloc, 3)?;
-        pool.extend_from_slice(&[1, 2, 3])?;
-        let capacity = pool.capacity();
-        let read = read_value(alloc, USUAL, form, None, b, lim, &mut pool);
-        assert_eq!(rt;
-            read.err(),
-            Some(ValueError::Bad(reason)),
-            "of {b:?} under {form}"
-        );
-        same(&rt, pool.as_slice(), &[1, 2, 3]);
-        assert_eq!(rt; pool.capacity(), capacity, "of {b:?} under {form}");
+        leaves_a_pool(&rt, rt.alloc(), row)?;
     }
     Ok(())
 }
@@ -285,13 +290,17 @@ fn shapes(rt: HostRuntime) {
     }
 }
 
+fn prints(rt: &impl Abort, alloc: Global, error: ValueError, want: &str) -> Result<(), Fail> {
+    let text = format!(in alloc; "{}", error)?;
+    assert!(rt; text.as_str() == want);
+    Ok(())
+}
+
 #[test]
 fn printed_errors(rt: HostRuntime) -> Result<(), Fail> {
-    let bad = format!(in rt.alloc(); "{}", ValueError::Bad(Reason::UnknownForm))?;
-    assert!(rt; bad.as_str() == "UnknownForm");
-    let memory = format!(in rt.alloc(); "{}", ValueError::NoMemory)?;
-    assert!(rt; memory.as_str() == "memory");
-    Ok(())
+    let bad = ValueError::Bad(Reason::UnknownForm);
+    prints(&rt, rt.alloc(), bad, "UnknownForm")?;
+    prints(&rt, rt.alloc(), ValueError::NoMemory, "memory")
 }
 
 #[test]

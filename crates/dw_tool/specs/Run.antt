@@ -1,13 +1,12 @@
 -- What a run reads, and what it writes.
-use Rattle.std.specs.Prelude.{◌≡◌, ◌<◌, ◌⊎◌, ℕ, List, [], length, Option, Some, None, Result, Ok, Err}
+use Rattle.std.specs.Prelude.{◌≡◌, ◌<◌, ◌⊎◌, ℕ, List, [], length, Option, Some, None, Result, Ok, Err, ⊤}
 use Rattle.std.specs.Io.KnownBytes.{Appends, Consumes, IsAtEnd, Keeps}
 use Rattle.dw_leb.specs.declared.order.Order.{Order}
 use Rattle.dw_leb.specs.declared.errors.Fault.{Fault}
 use Rattle.dw_leb.specs.declared.errors.Reason.TheVariants.{NotYet}
 use Rattle.dw_leb.specs.declared.errors.Section.TheVariants.{Info}
 use Rattle.dw_leb.specs.Watch.{AppendsFront}
-use Rattle.dw_unit.specs.Unit.{Fails}
-use Rattle.dw_unit.specs.WholeUnit.{WholeUnit, UnitAt, bytes_of}
+use Rattle.dw_unit.specs.Unit.{WholeUnit, bytes_of, UnitAt, Fails}
 use Rattle.dw_tool.specs.declared.command.Command.{Command}
 use Rattle.dw_tool.specs.declared.command.Command.TheVariants.{Show, Copy}
 use Rattle.dw_tool.specs.declared.status.Status.{Status}
@@ -37,10 +36,11 @@ GoesOn abbreviations order bytes f = (u : WholeUnit) × (size : ℕ) × UnitAt a
 abbrev pub IsFirstFault : List ℕ → Order → List ℕ → Fault → Type 0
 IsFirstFault abbreviations order bytes f = Fails order abbreviations bytes f.section f.offset f.reason ⊎ GoesOn abbreviations order bytes f
 
--- an error of reading a section whose bytes are there
+-- An error of reading a section whose bytes are there. Of an empty section there is none.
 abbrev pub Tells : List ℕ → Order → List ℕ → ToolError → Type 0
 Tells abbreviations order bytes (tool.Fault f) = (0 < length bytes) × IsFirstFault abbreviations order bytes f
-Tells abbreviations order bytes tool.Memory = Unit {0}
+Tells abbreviations order bytes tool.Memory = 0 < length bytes
+Tells abbreviations order bytes (tool.Refused r) = ⊥
 Tells abbreviations order bytes (tool.Read kind) = ⊥
 Tells abbreviations order bytes (tool.Write kind) = ⊥
 
@@ -58,6 +58,7 @@ Writes old new bytes (Ok x) = Appends old new bytes
 Writes old new bytes (Err (tool.Write kind)) = AppendsFront old new bytes
 Writes old new bytes (Err tool.Memory) = Keeps old new
 Writes old new bytes (Err (tool.Fault f)) = ⊥
+Writes old new bytes (Err (tool.Refused r)) = ⊥
 Writes old new bytes (Err (tool.Read kind)) = ⊥
 
 -- ---- a run
@@ -67,7 +68,7 @@ abbrev pub ReadsWhole : Option (List ℕ) → Option (List ℕ) → List ℕ →
 ReadsWhole left left' bytes = Consumes left left' bytes × IsAtEnd left'
 
 -- What a run answers, by the bytes that its reader has left and its writer holds, before and after. Nothing is
--- written before the whole section was read, and nothing at all where it is refused.
+-- written before the whole section was read, and nothing at all where it is refused. `show` and `copy` refuse no request.
 abbrev pub Runs : Command → Order → List ℕ → Option (List ℕ) → Option (List ℕ) → Option (List ℕ) → Option (List ℕ) → Result Status ToolError → Type 0
 Runs command order abbreviations left left' held held' (Ok status) =
     (bytes : List ℕ) × (u : Option WholeUnit) × ReadsWhole left left' bytes × IsSection abbreviations order bytes u
@@ -77,5 +78,15 @@ Runs command order abbreviations left left' held held' (Err (tool.Write kind)) =
     × AppendsFront held held' (output command bytes u)
 Runs command order abbreviations left left' held held' (Err (tool.Fault f)) =
     (bytes : List ℕ) × ReadsWhole left left' bytes × (0 < length bytes) × IsFirstFault abbreviations order bytes f × Keeps held held'
+Runs command order abbreviations left left' held held' (Err (tool.Refused r)) = ⊥
 Runs command order abbreviations left left' held held' (Err (tool.Read kind)) = ((bytes : List ℕ) × Consumes left left' bytes) × Keeps held held'
 Runs command order abbreviations left left' held held' (Err tool.Memory) = ((bytes : List ℕ) × Consumes left left' bytes) × Keeps held held'
+
+-- At Memory there was something to keep: of known bytes at least one was read.
+abbrev pub KeptSome : {X : Type 0} → Option (List ℕ) → Option (List ℕ) → Result X ToolError → Type 0
+KeptSome left left' (Ok x) = ⊤
+KeptSome left left' (Err (tool.Fault f)) = ⊤
+KeptSome left left' (Err (tool.Refused r)) = ⊤
+KeptSome left left' (Err (tool.Read kind)) = ⊤
+KeptSome left left' (Err (tool.Write kind)) = ⊤
+KeptSome left left' (Err tool.Memory) = (bytes : List ℕ) × (0 < length bytes) × Consumes left left' bytes

@@ -9,7 +9,7 @@ use Rattle.dw_tree.specs.Lent.{LentAttribute, EntryAt, attributes_of, code_of, e
 use Rattle.dw_header.specs.declared.kind.Kind.{Kind}
 use Rattle.dw_header.specs.declared.kind.Kind.TheVariants.{Compile, Partial, TypeUnit, Skeleton}
 use Rattle.dw_header.specs.Header.{Header}
-use Rattle.dw_unit.specs.WholeUnit.{WholeUnit, bytes_of, tree_of}
+use Rattle.dw_unit.specs.Unit.{WholeUnit, bytes_of, tree_of}
 use Rattle.dw_tool.specs.Text.{attribute_text, block, hexadecimal, quoted, tag_text}
 
 abbrev pub value_text : Value → List ℕ

@@ -2,6 +2,8 @@
 #![tactic(auto)]
 
 pub mod command;
+pub mod failure;
+mod input;
 pub mod names;
 pub mod run;
 pub mod show;

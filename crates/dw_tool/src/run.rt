@@ -1,16 +1,18 @@
 //! What the program does with the sections.
-ghost use Rattle.std.specs.Prelude.{◌≡◌, None, Some, IfOk, IfErr};
+ghost use Rattle.std.specs.Prelude.{◌≡◌, None, Some, IfOk, IfErr, IsErrOf, IsSome};
 ghost use Rattle.dw_leb.specs.Watch.{inner_of, fault_of};
-ghost use Rattle.dw_unit.specs.WholeUnit.{bytes_of};
-ghost use Rattle.dw_tool.specs.Run.{IsSection, Runs, Tells, Writes, output, section_bytes};
+ghost use Rattle.dw_unit.specs.Unit.{bytes_of};
+ghost use Rattle.dw_tool.specs.Run.{IsSection, KeptSome, Runs, Tells, Writes, output, section_bytes};
 ghost use Rattle.dw_tool.specs.Show.{unit_text};
 ghost use Rattle.dw_tool.specs.Status.{told_by_reading, told_by_writing};
+ghost use Rattle.dw_tool.specs.declared.status.ToolError.TheVariants as tool;
 
 use crate::command::Command;
+use crate::input::read_all;
 use crate::show::push_unit;
 use crate::status::{Status, ToolError};
 use dw_abbrev::Tables;
-use dw_leb::{Fault, Order, Reason, Section, Watched, read_all, write_all};
+use dw_leb::{Fault, Order, Reason, Section, Watched, write_all};
 use dw_unit::{Unit, read_unit, write_unit};
 use std::alloc::Global;
 use std::io::{Read, Write};
@@ -31,7 +33,8 @@ pub struct Inputs<'a, R> {
 /// section was read, and nothing at all where it is refused.
 ///
 /// Errors: `Fault` with the first fault, `Read` and `Write` where the reader or the writer failed,
-/// `Memory` where a growth was refused. After `Write` a beginning of the output was written.
+/// `Memory` where a growth was refused, which no run over an empty section asks for. After `Write` a
+/// beginning of the output was written.
 pub fn run<R: Read, W: Write>(
     alloc: Global,
     command: Command,
@@ -45,6 +48,10 @@ pub fn run<R: Read, W: Write>(
         (R.remaining (inner_of inputs.exit.1.0.now))
         (W.contents (inner_of writer.old))
         (W.contents (inner_of writer.new))
+        result }
+    ensures memory { KeptSome
+        (R.remaining (inner_of inputs.entry.info.now))
+        (R.remaining (inner_of inputs.exit.1.0.now))
         result }
     ensures read { fault_of inputs.exit.1.0.now ≡ told_by_reading result }
     ensures write { fault_of writer.new ≡ told_by_writing result }
@@ -63,7 +70,7 @@ pub fn run<R: Read, W: Write>(
 /// What stands in a section `.debug_info`: nothing, or one unit that fills it. A fault is the first
 /// one; bytes behind a unit are `NotYet`.
 ///
-/// Errors: `Fault`, or `Memory` where a growth was refused.
+/// Errors: `Fault`, or `Memory` where a growth was refused. An empty section has neither.
 pub fn read_section(
     alloc: Global,
     order: Order,
@@ -97,6 +104,7 @@ fn write_section<W: Write>(
 ) -> Result<(), ToolError>
     requires { fault_of writer.old ≡ None }
     ensures written { Writes (W.contents (inner_of writer.old)) (W.contents (inner_of writer.new)) (output command (section_bytes section.now) section.now) result }
+    ensures memory { IsErrOf result tool.Memory → IsSome section.now }
     ensures fault { fault_of writer.new ≡ told_by_writing result }
 {
     match section {

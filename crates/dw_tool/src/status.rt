@@ -1,10 +1,11 @@
 //! How a run ends.
-ghost use Rattle.std.specs.Prelude.{◌≡◌};
-ghost use Rattle.dw_tool.specs.Status.{refused_read, refused_write};
+ghost use Rattle.std.specs.Prelude.{◌≡◌, Some};
+ghost use Rattle.dw_tool.specs.Status.{refused_name, refused_read, refused_write};
 ghost use Rattle.dw_tool.specs.declared.status.ToolError.TheVariants as tool;
 
 use dw_leb::{Fault, ReadError, WriteError};
 use std::alloc::AllocError;
+use std::fmt;
 use std::io::ErrorKind;
 use thiserror::Error;
 
@@ -17,12 +18,33 @@ pub enum Status {
     Bad,
 }
 
+/// Why a request is refused, though the sections may be right.
+#[derive(Clone, Copy, Debug, PartialEq, Eq, Hash)]
+pub enum Refused {
+    /// No entry begins at the offset that was given.
+    NoEntry,
+}
+
+/// The text is the refusal's name, as `NoEntry`.
+impl fmt::Display for Refused {
+    ghost output = { λ refused. Some (refused_name refused) };
+
+    fn fmt<W: fmt::Write>(&self, f: &mut fmt::Formatter<W>) -> fmt::Result {
+        match self {
+            Refused::NoEntry => f.write_str("NoEntry"),
+        }
+    }
+}
+
 /// Why a run gave up.
 #[derive(Clone, Copy, Debug, PartialEq, Eq, Error)]
 pub enum ToolError {
     /// The sections are refused: the first fault.
-    #[error("fault {0:?}")]
+    #[error("{0}")]
     Fault(Fault),
+    /// The request is refused. `show` and `copy` refuse none.
+    #[error("refused {0}")]
+    Refused(Refused),
     /// The reader of `.debug_info` failed.
     #[error("read {0}")]
     Read(ErrorKind),

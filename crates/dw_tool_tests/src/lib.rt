@@ -9,6 +9,8 @@ mod compilers;
 #[cfg(test)]
 mod examples;
 #[cfg(test)]
+mod failures;
+#[cfg(test)]
 mod large;
 #[cfg(test)]
 mod lines;

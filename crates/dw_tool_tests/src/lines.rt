@@ -44,18 +44,14 @@ fn takes_an_empty_path_and_a_lone_hyphen(rt: HostRuntime) {
     );
 }
 
-// What the program should exit with.
-fn status(outcome: Result<Line<'_>, LineError>) -> i32 {
-    match outcome {
-        Ok(_) => 0,
-        Err(LineError::Parse(error)) => error.exit_code(),
-        Err(LineError::Memory) => 4,
-    }
+// The status with which the program ends, where the words aren't taken and their text is printed.
+fn status(outcome: Result<Line<'_>, LineError>) -> Option<u8> {
+    outcome.err()?.ended(Ok(())).ok()
 }
 
 // The words are a mistake.
 fn is_mistake(alloc: Global, words: &[&str]) -> bool {
-    status(line(alloc, words)) == 2
+    status(line(alloc, words)) == Some(2)
 }
 
 #[test]
@@ -103,9 +99,7 @@ fn tells_help_from_mistakes(rt: HostRuntime) {
         &["help", "show"],
     ];
     for words in asked {
-        let outcome = line(rt.alloc(), words);
-        assert!(rt; outcome.is_err());
-        assert!(rt; status(outcome) == 0, "{words:?}");
+        assert!(rt; status(line(rt.alloc(), words)) == Some(0), "{words:?}");
     }
 }
 
@@ -113,8 +107,19 @@ fn tells_help_from_mistakes(rt: HostRuntime) {
 fn printed_errors(rt: HostRuntime) -> Result<(), Fail> {
     let memory = format!(in rt.alloc(); "{}", LineError::Memory)?;
     assert!(rt; memory.as_str() == "memory");
-    let error = line(rt.alloc(), &["sho"]).err().ok_or("a line")?;
-    let text = format!(in rt.alloc(); "{}", error)?;
-    assert!(rt; text.as_str().starts_with("error: "));
+    for (words, text) in [
+        (
+            ["sho"].as_slice(),
+            "error: unrecognized subcommand 'sho'\n\n  tip: a similar subcommand exists: 'show'\n\nUsage: dwarf <COMMAND>\n\nFor more information, try '--help'.\n",
+        ),
+        (
+            ["show", "--info", "a"].as_slice(),
+            "error: the following required arguments were not provided:\n  --abbrev <FILE>\n\nUsage: dwarf show --info <FILE> --abbrev <FILE>\n\nFor more information, try '--help'.\n",
+        ),
+    ] {
+        let error = line(rt.alloc(), words).err().ok_or("a line")?;
+        let told = format!(in rt.alloc(); "{error}")?;
+        assert!(rt; told.as_str() == text);
+    }
     Ok(())
 }

@@ -3,7 +3,7 @@ use dw_leb::devices::Stepped;
 use dw_leb::{Fault, Order, Reason, Section, Watched};
 use dw_tool::command::Command;
 use dw_tool::run::{Inputs, run};
-use dw_tool::status::{Status, ToolError};
+use dw_tool::status::{Refused, Status, ToolError};
 use std::alloc::Global;
 use std::io::ErrorKind;
 use std::test::Fail;
@@ -278,10 +278,8 @@ fn printed_errors(rt: HostRuntime) -> Result<(), Fail> {
         reason: Reason::Truncated,
     };
     for (error, want) in [
-        (
-            ToolError::Fault(fault),
-            "fault Fault { section: Abbrev, offset: 13, reason: Truncated }",
-        ),
+        (ToolError::Fault(fault), "fault abbrev 0xd Truncated"),
+        (ToolError::Refused(Refused::NoEntry), "refused NoEntry"),
         (ToolError::Read(ErrorKind::TimedOut), "read timed out"),
         (ToolError::Write(ErrorKind::WriteZero), "write write zero"),
         (ToolError::Memory, "memory"),

@@ -15,6 +15,7 @@ use Rattle.dw_tree.specs.declared.attrs.AttrRef.{AttrRef}
 use Rattle.dw_tree.specs.Tree.{Tree, leaf, branch, Forest, none, more, values, pairs_of}
 use Rattle.dw_tree.specs.Spelling.{entry_bytes, tree_bytes}
 use Rattle.dw_tree.specs.Row.{Token, leaf_row, branch_row, null_row, row_bytes, rows_bytes, rows_of, rest_of, head_of}
+use Rattle.dw_tree.specs.Offset.{node_at, offset_at, end_at}
 use Rattle.dw_tree.specs.Steps.{TreeAt}
 use Rattle.dw_tree.specs.Flat.{contents}
 use Rattle.dw_tree.specs.Sound.{level_after, levels_after}
@@ -120,6 +121,16 @@ root_of u = record { context = u.context; table = u.table; node = u.root; offset
 
 abbrev pub entries_of : TreeAt → List EntryAt
 entries_of u = preorder u.context u.table u.root u.start 1
+
+-- A path of child numbers leads from the root to the entry: to its offset, at a level of the path's length and one, and to
+-- where what follows it begins.
+pub record LeadsTo (u : TreeAt) (path : List ℕ) (e : EntryAt) : Type 0 where
+  pub context : e.context ≡ u.context
+  pub table : e.table ≡ u.table
+  pub node : node_at u.root path ≡ Some e.node
+  pub offset : offset_at u.context u.table u.start u.root path ≡ Some e.offset
+  pub end : end_at u.context u.table u.start u.root path ≡ Some (end_offset_of e)
+  pub depth : e.depth ≡ length path + 1
 
 -- the entry that begins at an offset
 abbrev pub find_at : ℕ → List EntryAt → Option EntryAt

@@ -16,6 +16,8 @@ pub mod Sound
 pub mod DraftView
 pub mod TreeView
 pub mod Lent
+pub mod Structure
+pub mod Paths
 pub mod Ends
 pub mod Standing
 pub mod Held

@@ -21,13 +21,14 @@ use dw_leb::{Uleb, Watched, WriteError, write_all};
 use std::io::Write;
 
 impl EntryTree {
-    /// Writes the tree: its one spelling, each number in the width that it holds (section 7.5.2). It
-    /// takes no memory. After an error a beginning of it was written.
+    /// Writes the tree: its one spelling, which each tree has, with each number in the width that it
+    /// holds (section 7.5.2). It takes no memory. After an error a beginning of it was written.
     ///
     /// Errors: `Io` with the kind of the writer's failure, `WriteZero` where it took no byte of some.
     pub fn write<W: Write>(&self, writer: &mut Watched<W>) -> Result<(), WriteError>
         requires { fault_of writer.old ≡ None }
         ensures written { Wrote (W.contents (inner_of writer.old)) (W.contents (inner_of writer.new)) ((part self.now.context self.now.table (nesting - 1)).spell self.now.root) result }
+        ensures fits { (part self.now.context self.now.table (nesting - 1)).Fits self.now.root }
         ensures fault { fault_of writer.new ≡ told_by_write result }
     {
         let mut left = self.rows.as_slice();

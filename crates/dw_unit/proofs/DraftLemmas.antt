@@ -4,7 +4,7 @@ use Rattle.std.proofs.Math.Nat.{one-le-pow}
 use Rattle.std.specs.Prelude.{nat_le, nat_lt, ◌==◌, is_some, IsSome, IfSome, Result, Ok, Err, OnOk, OnErr, ◌↔◌, option_map}
 use Rattle.std.proofs.lemmas.Bool.{leb-true, leb-false, le-leb, lt-ltb, ne_eqb, and_parts}
 use Rattle.dw_leb.specs.Part.{Part}
-use Rattle.dw_leb.specs.Number.{Unsigned, UlebFits, uleb, length_size, initial_length}
+use Rattle.dw_leb.specs.Number.{Unsigned, UlebFits, uleb, length_size, length_field, initial_length}
 use Rattle.dw_leb.specs.DecideNumber.{uleb_fits, length-uleb, initial-size}
 use Rattle.dw_leb.specs.declared.order.Order.{Order}
 use Rattle.dw_leb.specs.declared.order.Format.{Format}
@@ -22,8 +22,8 @@ use Rattle.dw_tree.specs.Next.{next_is}
 use Rattle.dw_tree.specs.Ends.{begun_end, value_end, closed_end}
 use Rattle.dw_header.specs.Header.{fields, fields_of, context_of}
 use Rattle.dw_header.specs.HeaderLemmas.{fields_fit}
-use Rattle.dw_unit.specs.Unit.{body_bytes}
-use Rattle.dw_unit.specs.WholeUnit.{WholeUnit, contents_of, IsUnit}
+use Rattle.dw_unit.specs.Unit.{WholeUnit, body_bytes}
+use Rattle.dw_unit.specs.UnitView.{IsUnit}
 use Rattle.dw_header.specs.Headed.{header_size}
 use Rattle.dw_unit.specs.Draft.{Drafted, tree_in, drafted_size, with_place, begun, given, closed, padded, undone, size_limit, passes_limit, IsOnlyRoot, value_bytes, begun_of, BegunFits, AtMostOne, NoneBefore, HasOneRoot, IsUnread, IsDrafted}
 use Rattle.dw_unit.proofs.EntryLemmas.{prefix_more}
@@ -317,7 +317,7 @@ module _ (d : Drafted) (tree : Growing) (padded_by size : ℕ) (i : IsDrafted d 
     tree_fits = subst (λ (s : TreeAt). (part s.context s.table (nesting - 1)).Fits s.root) tree_same fits
 
     abbrev body : List ℕ
-    body = body_bytes d.table (contents_of unit_here)
+    body = body_bytes unit_here
 
     body_size : length_size d.header.format + length body ≡ size
     body_size =
@@ -329,7 +329,7 @@ module _ (d : Drafted) (tree : Growing) (padded_by size : ℕ) (i : IsDrafted d 
 
     here : IsUnit unit_here same_tree size
     here =
-        let first = (initial_length d.header.order 0).spell (d.header.format, length body) in
+        let first = (length_field d.header.order).spell (d.header.format, length body) in
         record {
           fits = record {
             length_fits = length_fits d.header.order d.header.format (length body) (omega (arith, body_size, sized, i.short));

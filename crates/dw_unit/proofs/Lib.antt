@@ -11,7 +11,6 @@ mod HeaderRows
 mod UnitRows
 mod EntryRows
 mod WrittenRows
-pub mod RoundTrip
 pub mod GivenValue
 pub mod Chain
 pub mod RootRead

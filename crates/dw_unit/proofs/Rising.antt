@@ -1,5 +1,5 @@
 -- The entries of a tree in their order have offsets that rise, so each is found at its own.
-use Rattle.std.proofs.Common.{◌≡◌, ℕ, zero, suc, ◌+◌, ◌<◌, ◌≤◌, List, [], ◌∷◌, ◌++◌, length, get_or, Option, Some, ap, subst, ◌∙◌, arith}
+use Rattle.std.proofs.Common.{◌≡◌, ℕ, zero, suc, ◌+◌, ◌<◌, ◌≤◌, List, [], ◌∷◌, ◌++◌, length, get_or, Option, Some, refl, sym, ap, subst, ◌∙◌, arith}
 use Rattle.std.specs.List.{Contains}
 use Rattle.std.proofs.lemmas.Bool.{ne_eqb, eq-eqb}
 use Rattle.std.proofs.lemmas.List.{length-append}
@@ -66,3 +66,17 @@ found_at lo hi (x ∷ xs) r e (suc i) l is =
 -- an entry is answered at its offset
 pub each_by : (lo hi : ℕ) (xs : List EntryAt) → Rising lo hi xs → (o : ℕ) (r : Option EntryAt) → r ≡ find_at o xs → (e : EntryAt) → Contains xs e → e.offset ≡ o → r ≡ Some e
 each_by lo hi xs rise o r is e c at = is ∙ (subst (λ (p : ℕ). find_at p xs ≡ Some e) at (found_at lo hi xs rise e c.0 c.1 c.2))
+
+-- a later one begins behind
+pub rises : (lo hi : ℕ) (xs : List EntryAt) → Rising lo hi xs → (i j : ℕ) (d : EntryAt) → i < j → j < length xs → (get_or xs i d).offset < (get_or xs j d).offset
+rises lo hi [] r i j d lt l = absurd (omega (arith, l))
+rises lo hi (x ∷ xs) r i zero d lt l = absurd (omega (arith, lt))
+rises lo hi (x ∷ xs) r zero (suc j) d lt l = let b = none_before (suc x.offset) hi xs r.1 j d (omega (arith, l)) in omega (arith, b)
+rises lo hi (x ∷ xs) r (suc i) (suc j) d lt l = rises (suc x.offset) hi xs r.1 i j d (omega (arith, lt)) (omega (arith, l))
+
+some_entry : (e f : EntryAt) → Some e ≡ Some f → e ≡ f
+some_entry e f h = cc
+
+-- two of them have two offsets
+pub one_at : (lo hi : ℕ) (xs : List EntryAt) → Rising lo hi xs → (e f : EntryAt) → Contains xs e → Contains xs f → e.offset ≡ f.offset → e ≡ f
+one_at lo hi xs rise e f one two same = some_entry e f (sym (each_by lo hi xs rise e.offset (find_at e.offset xs) refl e one refl) ∙ each_by lo hi xs rise e.offset (find_at e.offset xs) refl f two (sym same))

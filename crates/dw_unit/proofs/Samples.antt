@@ -12,7 +12,7 @@ use Rattle.dw_header.specs.declared.kind.Kind.{Kind}
 use Rattle.dw_header.specs.declared.kind.Kind.TheVariants.{Compile}
 use Rattle.dw_header.specs.Header.{Header}
 use Rattle.dw_tree.specs.Tree.{Tree, leaf}
-use Rattle.dw_unit.specs.Unit.{Contents}
+use Rattle.dw_unit.specs.Unit.{WholeUnit}
 
 -- one declaration: code 1, DW_TAG_compile_unit, no children, DW_AT_name as DW_FORM_string
 abbrev pub first_table : List ℕ
@@ -55,13 +55,21 @@ table_of declarations = record { declarations = declarations; last_zero = 1 }
 abbrev pub headed : Order → Format → Kind → Header
 headed order format kind = record { order = order; format = format; kind = kind; address_size = 8; abbrev_offset = 0 }
 
+-- over a table of one declaration of the code 1, with these pairs, of a compile unit without children
+abbrev pub one_declared : List Pair → Table
+one_declared pairs = table_of (declaration 1 0x11 false pairs ∷ [])
+
+-- the table of the bytes above
+abbrev pub first : Table
+first = one_declared (pair 3 8 None ∷ [])
+
 -- no padding
-abbrev pub contents : Header → Tree → Contents
-contents h root = record { header = h; root = root; padding = [] }
+abbrev pub unit_of : Table → Header → Tree → WholeUnit
+unit_of t h root = record { header = h; table = t; root = root; padding = [] }
 
 -- under the header above
-abbrev pub compiled : Tree → Contents
-compiled root = contents (headed Little Dwarf32 Compile) root
+abbrev pub compiled : Table → Tree → WholeUnit
+compiled t root = unit_of t (headed Little Dwarf32 Compile) root
 
 -- a compile unit with children and a name, and a base type with a size and no children
 abbrev pub base_types : Table

@@ -15,7 +15,8 @@ use Rattle.dw_tree.specs.Standing.{is_bare}
 use Rattle.dw_unit.specs.declared.refusal.Refusal.{Refusal}
 use Rattle.dw_unit.specs.declared.refusal.Refusal.TheVariants.{UnknownCode, WrongValues, NotOpen, Open, TooDeep, TooLong, SecondRoot, NoRoot, BadWidth, NoMemory}
 use Rattle.dw_header.specs.Header.{Header, context_of}
-use Rattle.dw_unit.specs.WholeUnit.{WholeUnit, header_code}
+use Rattle.dw_unit.specs.Unit.{WholeUnit}
+use Rattle.dw_unit.specs.UnitView.{header_code}
 use Rattle.dw_unit.specs.Draft.{Drafted, finished, passes_limit}
 
 -- a unit under construction: a header with its table, a tree with one open place, and the widths of the nulls behind the root

@@ -1,34 +1,34 @@
 -- Units: the reader takes what is spelled, fails where it fails, and does nothing else.
-use Rattle.std.proofs.Common.{◌⊎◌, ◌≡◌, ◌≢◌, ℕ, suc, ◌+◌, ◌-◌, List, [], ◌∷◌, ◌++◌, length, drop, refl, sym, ap, subst, ◌∙◌, append_assoc, arith, inl, inr}
+use Rattle.std.proofs.Common.{◌≡◌, ◌≢◌, ℕ, suc, ◌+◌, ◌-◌, List, ◌++◌, length, drop, refl, sym, ap, subst, ◌∙◌, append_assoc, arith, inl, inr}
 use Rattle.std.proofs.lemmas.List.{drop_at, length-append}
 use Rattle.dw_leb.specs.declared.errors.Reason.{Reason}
 use Rattle.dw_leb.specs.declared.errors.Reason.TheVariants.{Truncated}
 use Rattle.dw_leb.specs.Part.{Part}
 use Rattle.dw_leb.specs.declared.order.Order.{Order}
-use Rattle.dw_leb.specs.declared.order.Format.{Format}
-use Rattle.dw_leb.specs.Number.{initial_length, length_limit}
+use Rattle.dw_leb.specs.Number.{length_field, initial_length}
 use Rattle.dw_form.specs.declared.shape.Ctx.{Ctx}
 use Rattle.dw_abbrev.specs.Table.{Table, TableAt}
-use Rattle.dw_header.specs.Header.{Header, fields, Fields, fields_of, context_of}
+use Rattle.dw_header.specs.Header.{Header, fields, fields_of, context_of}
 use Rattle.dw_tree.specs.Tree.{Tree, tree, nesting, nulls, AreNulls, PaddingBreaks}
-use Rattle.dw_unit.specs.Unit.{Contents, body_bytes, unit_bytes, header_of, table_offset, EntriesBreak, BodyBreaks, UnitBreaks, Fails, UnitIn}
-use Rattle.dw_header.specs.Headed.{Headed, HeaderBreaks}
+use Rattle.dw_unit.specs.Unit.{WholeUnit, body_bytes, bytes_of, UnitFront, left_behind, EntriesBreak, BodyBreaks, UnitBreaks, UnitAt, Fails}
+use Rattle.dw_header.specs.Headed.{Headed, HeaderAt, header_size}
 use Rattle.dw_leb.specs.declared.errors.Section.{Section}
 use Rattle.dw_leb.specs.declared.errors.Section.TheVariants.{Info, Abbrev}
 use Rattle.dw_leb.specs.Reader.{Outcome, Found, Broken, ◌and_then◌, behind, paired}
-use Rattle.dw_leb.specs.ReadNumber.{read_length}
 use Rattle.dw_tree.specs.ReadTree.{read_tree, read_padding}
-use Rattle.dw_header.specs.ReadHeader.{read_fields, header_from}
-use Rattle.dw_unit.specs.ReadUnit.{Answer, Unit, Fault, read_entries, answer_entries, answer_table, answer_fields, answer_length, read_unit}
+use Rattle.dw_header.specs.ReadHeader.{Heading, read_head}
+use Rattle.dw_unit.specs.ReadUnit.{Answer, Unit, Fault, read_entries, with_header, read_body, body_over, read_over, answer_body, answer_table, answer_head, read_unit}
 use Rattle.dw_abbrev.specs.ReadTable.{read_table_at}
 use Rattle.dw_leb.specs.Decide.{Says, AreBytes, AreBytes-behind, found, broken}
 use Rattle.dw_leb.specs.Stay.{Stays, After_stays}
 use Rattle.dw_leb.specs.DecideRepeat.{behind_at}
-use Rattle.dw_leb.specs.DecideNumber.{initial_length_decides, initial_within}
-use Rattle.dw_header.specs.DecideHeader.{fields_decides, header_stays, headed_stays}
-use Rattle.dw_header.specs.HeaderLemmas.{header_back, kind_there}
+use Rattle.dw_leb.specs.DecideNumber.{initial-size}
+use Rattle.dw_header.specs.DecideHeader.{header_stays, headed_stays}
+use Rattle.dw_header.specs.HeadRead.{HeadSays, head_says, head_rest, head_rest_bytes, head_within}
+use Rattle.dw_header.specs.HeadLaws.{head_take, head_fault, one_header, headers_stay}
 use Rattle.dw_tree.specs.DecideTree.{tree_decides, tree_stays, padding_take, padding_fault, padding_stays, PaddingSays, padding_says}
 use Rattle.dw_abbrev.specs.DecideTable.{table_take, table_fault, TableSays, table_says}
+use Rattle.dw_abbrev.specs.Laws.{one_table_at}
 
 -- ---- entries
 
@@ -98,175 +98,194 @@ module _ (k : Ctx) (t : Table) where
     | inr two ↦ inr (two.0, two.1, After_stays (root_part.spell two.0) PaddingBreaks padding_stays bytes tail lim offset reason ne two.2)
   ]
 
--- ---- a header at the front
+-- ---- what stands behind a header
 
-abbrev len_bytes : Order → Format → ℕ → List ℕ
-len_bytes order format n = (initial_length order 0).spell (format, n)
+abbrev len_bytes : Header → ℕ → List ℕ
+len_bytes h n = (length_field h.order).spell (h.format, n)
 
-abbrev field_bytes : Order → Format → Fields → List ℕ
-field_bytes order format x = (fields order format).spell x
+abbrev field_bytes : Header → List ℕ
+field_bytes h = (fields h.order h.format).spell (fields_of h)
 
-length_at : (order : Order) (section : List ℕ) (format : Format) (n : ℕ) (rest : List ℕ) → (initial_length order 0).Fits (format, n)
-    → read_unit order section (len_bytes order format n ++ rest) ≡ answer_fields order format section rest n (length (len_bytes order format n)) (read_fields order format rest n)
-unfolding read_unit
-length_at order section format n rest fits =
-    let s : List ℕ = len_bytes order format n in
-    let d : drop (length s) (s ++ rest) ≡ rest = drop_at s rest (length s) refl in
-    ap (answer_length order section (s ++ rest)) ((initial_length_decides order 0).takes (format, n) rest length_limit fits (initial_within order 0 format n))
-    ∙ ap (λ (b : List ℕ). answer_fields order format section b n (length s) (read_fields order format b n)) d
+abbrev pub rest_bytes : WholeUnit → List ℕ
+rest_bytes u = (tree (context_of u.header) u.table (nesting - 1)).spell u.root ++ nulls u.padding
 
-header_at : (order : Order) (section bytes : List ℕ) (format : Format) (n : ℕ) (x : Fields) (rest : List ℕ) → Headed order bytes format n x rest
-    → read_unit order section bytes ≡ answer_table order format x rest (n - length (field_bytes order format x)) (length (len_bytes order format n) + length (field_bytes order format x)) (read_table_at section (table_offset x))
-header_at order section bytes format n x rest h =
-    let s : List ℕ = field_bytes order format x in
-    ap (read_unit order section) h.split
-    ∙ length_at order section format n (s ++ rest) h.length_fits
-    ∙ ap (answer_fields order format section (s ++ rest) n (length (len_bytes order format n))) ((fields_decides order format).takes x rest n h.fields_fit h.within)
-    ∙ ap (λ (b : List ℕ). answer_table order format x b (n - length s) (length (len_bytes order format n) + length s) (read_table_at section (table_offset x))) (drop_at s rest (length s) refl)
+-- the header of a unit at the front stands there, with the unit's length
+pub unit_headed : (order : Order) (bytes : List ℕ) (u : WholeUnit) (size : ℕ) (h : UnitFront order bytes u size) → Headed order bytes u.header.format (length (body_bytes u)) (fields_of u.header) (rest_bytes u ++ h.rest)
+unit_headed order bytes u size h =
+    let n : ℕ = length (body_bytes u) in
+    let l : List ℕ = len_bytes u.header n in
+    let f : List ℕ = field_bytes u.header in
+    let e : List ℕ = rest_bytes u in
+    let headed : Headed u.header.order bytes u.header.format n (fields_of u.header) (e ++ h.rest) = record {
+      length_fits = h.fits.length_fits;
+      fields_fit = h.fits.fields_fit;
+      split = h.split ∙ append_assoc l (f ++ e) h.rest ∙ ap (λ (b : List ℕ). l ++ b) (append_assoc f e h.rest);
+      within = omega (arith, length-append f e);
+    } in
+    subst (λ (o : Order). Headed o bytes u.header.format n (fields_of u.header) (e ++ h.rest)) h.order_is headed
 
--- ---- what is spelled is read
+abbrev pub unit_header : (order : Order) (bytes : List ℕ) (u : WholeUnit) (size : ℕ) → UnitFront order bytes u size → HeaderAt order bytes u.header (length (body_bytes u))
+unit_header order bytes u size h = (h.order_is, rest_bytes u ++ h.rest, unit_headed order bytes u size h)
 
-pub unit_take : (section : List ℕ) (u : Contents) (bytes rest : List ℕ) (h : UnitIn section u bytes rest) → read_unit u.header.order section bytes ≡ Unit u (length (unit_bytes h.table u))
-unit_take section u bytes rest h =
-    let order : Order = u.header.order in
-    let format : Format = u.header.format in
-    let x : Fields = fields_of u.header in
-    let t : Table = h.table in
-    let n : ℕ = length (body_bytes t u) in
-    let k : Ctx = context_of u.header in
-    let f : List ℕ = field_bytes order format x in
-    let e : List ℕ = (tree k t (nesting - 1)).spell u.root ++ nulls u.padding in
-    let sum : n ≡ length f + length e = length-append f e in
-    let sum2 : length e ≡ length ((tree k t (nesting - 1)).spell u.root) + length (nulls u.padding) = length-append ((tree k t (nesting - 1)).spell u.root) (nulls u.padding) in
-    let total : length (unit_bytes t u) ≡ length (len_bytes order format n) + n = length-append (len_bytes order format n) (body_bytes t u) in
-    let split : bytes ≡ len_bytes order format n ++ (f ++ (e ++ rest)) = h.split ∙ append_assoc (len_bytes order format n) (f ++ e) rest ∙ ap (λ (b : List ℕ). len_bytes order format n ++ b) (append_assoc f e rest) in
-    let headed : Headed order bytes format n x (e ++ rest) = record { length_fits = h.fits.length_fits; fields_fit = h.fits.fields_fit; split = split; within = omega arith } in
-    let whole_size : length (len_bytes order format n) + length f + (n - length f) ≡ length (unit_bytes t u) = omega arith in
-    header_at order section bytes format n x (e ++ rest) headed
-    ∙ ap (answer_table order format x (e ++ rest) (n - length f) (length (len_bytes order format n) + length f)) (table_take section u.header.abbrev_offset t h.table_at)
-    ∙ ap (answer_entries (header_from order format x) (length (len_bytes order format n) + length f)) (entries_take k t u.root u.padding rest (n - length f) h.fits.tree_fits h.fits.padding_fits (omega arith))
-    ∙ ap (λ (m : ℕ). Unit (record { header = header_from order format x; root = u.root; padding = u.padding }) m) whole_size
-    ∙ ap (λ (hd : Header). Unit (record { header = hd; root = u.root; padding = u.padding }) (length (unit_bytes t u))) (header_back u.header)
+-- ---- over a table: what is spelled is read, what breaks is refused, and nothing else
 
--- ---- what fails is refused, with that fault
+abbrev pub OverSays : Order → Table → List ℕ → Outcome WholeUnit → Type 0
+OverSays order t bytes (Found u size) = (u.table ≡ t) × UnitFront order bytes u size
+OverSays order t bytes (Broken offset reason) = UnitBreaks order t bytes offset reason
 
-header_fault : (order : Order) (section bytes : List ℕ) (offset : ℕ) (reason : Reason) → HeaderBreaks order bytes offset reason → read_unit order section bytes ≡ Fault Info offset reason
-unfolding read_unit
-header_fault order section bytes offset reason h = elim h [
-  | inl one ↦ ap (answer_length order section bytes) ((initial_length_decides order 0).faults bytes length_limit offset reason one)
-  | inr two ↦
-      ap (read_unit order section) two.5
-      ∙ length_at order section two.0 two.1 two.2 two.4
-      ∙ ap (answer_fields order two.0 section two.2 two.1 (length (len_bytes order two.0 two.1))) ((fields_decides order two.0).faults two.2 two.1 two.3 reason two.7)
-      ∙ ap (λ (m : ℕ). Fault Info m reason) (sym two.6)
-]
+module _ (order : Order) (bytes : List ℕ) (h : Header) (n : ℕ) (stands : HeaderAt order bytes h n) (t : Table) where
+  body_there : read_body t bytes (h, n) ≡ with_header h t (read_entries (context_of h) t stands.1 (left_behind h n))
+  body_there = ap (λ (b : List ℕ). with_header h t (read_entries (context_of h) t b (left_behind h n))) (head_rest order bytes h n stands)
 
-body_fault : (order : Order) (section bytes : List ℕ) (offset : ℕ) (reason : Reason) → BodyBreaks order (TableAt section) bytes offset reason → read_unit order section bytes ≡ Fault Info offset reason
-body_fault order section bytes offset reason (format, n, x, rest, t, own, headed, is_table, sum, breaks) =
-    let s : ℕ = length (len_bytes order format n) + length (field_bytes order format x) in
-    header_at order section bytes format n x rest headed
-    ∙ ap (answer_table order format x rest (n - length (field_bytes order format x)) s) (table_take section (table_offset x) t is_table)
-    ∙ ap (answer_entries (header_from order format x) s) (entries_fault (header_of order format x) t rest (n - length (field_bytes order format x)) own reason breaks)
-    ∙ ap (λ (m : ℕ). Fault Info m reason) (sym sum)
+  body_fault : (own : ℕ) (reason : Reason) → EntriesBreak (context_of h) t stands.1 (left_behind h n) own reason → read_body t bytes (h, n) ≡ broken WholeUnit (header_size h + own) reason
+  body_fault own reason breaks = body_there ∙ ap (with_header h t) (entries_fault (context_of h) t stands.1 (left_behind h n) own reason breaks)
 
-pub unit_fault : (order : Order) (section bytes : List ℕ) (s : Section) (offset : ℕ) (reason : Reason) → Fails order section bytes s offset reason → read_unit order section bytes ≡ Fault s offset reason
-unit_fault order section bytes Info offset reason (inl one) = header_fault order section bytes offset reason one
-unit_fault order section bytes Info offset reason (inr two) = body_fault order section bytes offset reason two
-unit_fault order section bytes Abbrev offset reason (format, n, x, rest, headed, breaks) =
-    header_at order section bytes format n x rest headed
-    ∙ ap (answer_table order format x rest (n - length (field_bytes order format x)) (length (len_bytes order format n) + length (field_bytes order format x))) (table_fault section (table_offset x) offset reason breaks)
-
--- ---- and nothing else: what is read is spelled, and what is refused fails
-
-abbrev pub AnswerSays : Order → List ℕ → List ℕ → Answer → Type 0
-AnswerSays order section bytes (Unit u size) = (u.header.order ≡ order) × (rest : List ℕ) × (h : UnitIn section u bytes rest) × (length (unit_bytes h.table u) ≡ size)
-AnswerSays order section bytes (Fault s offset reason) = Fails order section bytes s offset reason
-
-module _ (order : Order) (section bytes : List ℕ) (format : Format) (n : ℕ) (x : Fields) (rest : List ℕ) (headed : Headed order bytes format n x rest) where
-  pub entries_answer : (t : Table) → TableAt section (table_offset x) t → (o : Outcome (Tree × List ℕ)) → EntriesSay (header_of order format x) t rest (n - length (field_bytes order format x)) o
-      → AnswerSays order section bytes (answer_entries (header_from order format x) (length (len_bytes order format n) + length (field_bytes order format x)) o)
-  entries_answer t place (Broken own reason) h = inr (format, n, x, rest, t, own, headed, place, refl, h)
-  entries_answer t place (Found y size) h =
-      let u : Contents = record { header = header_from order format x; root = y.0; padding = y.1 } in
-      let same : fields_of u.header ≡ x = kind_there format order x headed.fields_fit in
-      let f : List ℕ = field_bytes order format x in
-      let e : List ℕ = (tree (header_of order format x) t (nesting - 1)).spell y.0 ++ nulls y.1 in
-      let body_is : body_bytes t u ≡ f ++ e = ap (λ (z : Fields). field_bytes order format z ++ e) same in
+  pub entries_answer : (o : Outcome (Tree × List ℕ)) → EntriesSay (context_of h) t stands.1 (left_behind h n) o → OverSays order t bytes (with_header h t o)
+  entries_answer (Broken own reason) g = inr (record { header = h; count = n; stands = stands; table = t; is_table = refl; own = own; sum = refl; breaks = g })
+  entries_answer (Found y size) g =
+      let u : WholeUnit = record { header = h; table = t; root = y.0; padding = y.1 } in
+      let own : Headed h.order bytes h.format n (fields_of h) stands.1 = subst (λ (o : Order). Headed o bytes h.format n (fields_of h) stands.1) (sym stands.0) stands.2 in
+      let l : ℕ → List ℕ = λ m. len_bytes h m in
+      let f : List ℕ = field_bytes h in
+      let e : List ℕ = rest_bytes u in
       let size_f : length (f ++ e) ≡ length f + length e = length-append f e in
-      let n_is : length (body_bytes t u) ≡ n = ap length body_is ∙ size_f ∙ omega (arith, h.is_size, h.to_end, headed.within) in
-      let whole_is : unit_bytes t u ≡ len_bytes order format n ++ (f ++ e) = ap (λ (m : ℕ). len_bytes order format m ++ body_bytes t u) n_is ∙ ap (λ (b : List ℕ). len_bytes order format n ++ b) body_is in (
+      let n_is : length (body_bytes u) ≡ n = omega (arith, size_f, g.is_size, g.to_end, head_within order bytes h n stands) in
+      let total : length (bytes_of u) ≡ length (l (length (body_bytes u))) + length (f ++ e) = length-append (l (length (body_bytes u))) (f ++ e) in (
         refl,
-        h.rest,
         record {
-          table = t;
-          table_at = place;
-          fits = record { length_fits = subst (λ (m : ℕ). (initial_length order 0).Fits (format, m)) (sym n_is) headed.length_fits; fields_fit = subst (λ (z : Fields). (fields order format).Fits z) (sym same) headed.fields_fit; tree_fits = h.tree_fits; padding_fits = h.padding_fits };
-          split = headed.split ∙ ap (λ (b : List ℕ). len_bytes order format n ++ (f ++ b)) h.split ∙ ap (λ (b : List ℕ). len_bytes order format n ++ b) (sym (append_assoc f e h.rest)) ∙ sym (append_assoc (len_bytes order format n) (f ++ e) h.rest) ∙ ap (λ (b : List ℕ). b ++ h.rest) (sym whole_is);
+          order_is = stands.0;
+          fits = record { length_fits = subst (λ (m : ℕ). (initial_length h.order 0).Fits (h.format, m)) (sym n_is) own.length_fits; fields_fit = own.fields_fit; tree_fits = g.tree_fits; padding_fits = g.padding_fits };
+          rest = g.rest;
+          split = own.split ∙ ap (λ (b : List ℕ). l n ++ (f ++ b)) g.split ∙ ap (λ (b : List ℕ). l n ++ b) (sym (append_assoc f e g.rest)) ∙ sym (append_assoc (l n) (f ++ e) g.rest) ∙ ap (λ (m : ℕ). (l m ++ (f ++ e)) ++ g.rest) (sym n_is);
+          is_size = omega (arith, total, size_f, g.is_size, initial-size h.order 0 h.format (length (body_bytes u)));
         },
-        ap length whole_is ∙ length-append (len_bytes order format n) (f ++ e) ∙ omega (arith, size_f, h.is_size),
       )
 
-  table_answer : AreBytes rest → (o : Outcome Table) → TableSays section (table_offset x) o
-      → AnswerSays order section bytes (answer_table order format x rest (n - length (field_bytes order format x)) (length (len_bytes order format n) + length (field_bytes order format x)) o)
-  table_answer fit (Broken at reason) h = (format, n, x, rest, headed, h)
-  table_answer fit (Found t size) h = entries_answer t h (read_entries (header_of order format x) t rest (n - length (field_bytes order format x))) (entries_say (header_of order format x) t rest (n - length (field_bytes order format x)) fit)
+  pub body_says : AreBytes bytes → OverSays order t bytes (read_body t bytes (h, n))
+  body_says fit = subst (λ (o : Outcome WholeUnit). OverSays order t bytes o) (sym body_there)
+      (entries_answer (read_entries (context_of h) t stands.1 (left_behind h n)) (entries_say (context_of h) t stands.1 (left_behind h n) (head_rest_bytes order bytes h n stands fit)))
 
-fields_answer : (order : Order) (section bytes : List ℕ) (format : Format) (n : ℕ) (after : List ℕ) → AreBytes section → AreBytes after → (initial_length order 0).Fits (format, n) → bytes ≡ len_bytes order format n ++ after
-    → (o : Outcome Fields) → Says (fields order format) after n o → AnswerSays order section bytes (answer_fields order format section after n (length (len_bytes order format n)) o)
-fields_answer order section bytes format n after fit_s fit fits split (Broken own reason) h = inl (inr (format, n, after, own, fits, split, refl, h))
-fields_answer order section bytes format n after fit_s fit fits split (Found x size) g =
-    let f : List ℕ = field_bytes order format x in
-    let d : drop size after ≡ g.rest = ap (λ (t : List ℕ). drop size t) g.split ∙ drop_at f g.rest size g.is_size in
-    let headed : Headed order bytes format n x g.rest = record { length_fits = fits; fields_fit = g.fits; split = split ∙ ap (λ (b : List ℕ). len_bytes order format n ++ b) g.split; within = rw g.is_size g.within } in
-    rw (d, ← g.is_size) (table_answer order section bytes format n x g.rest headed (AreBytes-behind f g.rest (rw g.split at fit)) (read_table_at section (table_offset x)) (table_says section (table_offset x) fit_s))
+body_take : (order : Order) (bytes : List ℕ) (u : WholeUnit) (size : ℕ) (h : UnitFront order bytes u size) → read_body u.table bytes (u.header, length (body_bytes u)) ≡ found u size
+body_take order bytes u size h =
+    let n : ℕ = length (body_bytes u) in
+    let f : List ℕ = field_bytes u.header in
+    let root : List ℕ = (tree (context_of u.header) u.table (nesting - 1)).spell u.root in
+    let size_f : n ≡ length f + length (rest_bytes u) = length-append f (rest_bytes u) in
+    let size_e : length (rest_bytes u) ≡ length root + length (nulls u.padding) = length-append root (nulls u.padding) in
+    let total : length (bytes_of u) ≡ length (len_bytes u.header n) + n = length-append (len_bytes u.header n) (body_bytes u) in
+    let sized : header_size u.header + left_behind u.header n ≡ size = omega (arith, h.is_size, initial-size u.header.order 0 u.header.format n) in
+    body_there order bytes u.header n (unit_header order bytes u size h) u.table
+    ∙ ap (with_header u.header u.table) (entries_take (context_of u.header) u.table u.root u.padding h.rest (left_behind u.header n) h.fits.tree_fits h.fits.padding_fits (omega arith))
+    ∙ ap (λ (m : ℕ). found u m) sized
 
-length_answer : (order : Order) (section bytes : List ℕ) → AreBytes section → AreBytes bytes → (o : Outcome (Format × ℕ)) → Says (initial_length order 0) bytes length_limit o → AnswerSays order section bytes (answer_length order section bytes o)
-length_answer order section bytes fit_s fit (Broken offset reason) h = inl (inl h)
-length_answer order section bytes fit_s fit (Found x size) g =
-    let s : List ℕ = len_bytes order x.0 x.1 in
-    let d : drop size bytes ≡ g.rest = ap (λ (t : List ℕ). drop size t) g.split ∙ drop_at s g.rest size g.is_size in
-    let fit2 : AreBytes g.rest = AreBytes-behind s g.rest (rw g.split at fit) in
-    rw (d, ← g.is_size) (fields_answer order section bytes x.0 x.1 g.rest fit_s fit2 g.fits g.split (read_fields order x.0 g.rest x.1) ((fields_decides order x.0).says g.rest x.1 fit2))
+pub over_take : (order : Order) (bytes : List ℕ) (u : WholeUnit) (size : ℕ) → UnitFront order bytes u size → read_over order u.table bytes ≡ found u size
+over_take order bytes u size h =
+    ap (body_over u.table bytes) (head_take order bytes u.header (length (body_bytes u)) (unit_header order bytes u size h)) ∙ body_take order bytes u size h
 
--- the reader's answer is always right, so every byte list is a unit at the front or fails
-pub unit_says : (order : Order) (section bytes : List ℕ) → AreBytes section → AreBytes bytes → AnswerSays order section bytes (read_unit order section bytes)
+pub over_fault : (order : Order) (t : Table) (bytes : List ℕ) (offset : ℕ) (reason : Reason) → UnitBreaks order t bytes offset reason → read_over order t bytes ≡ broken WholeUnit offset reason
+over_fault order t bytes offset reason (inl one) = ap (body_over t bytes) (head_fault order bytes offset reason one)
+over_fault order t bytes offset reason (inr b) = subst (λ (s : Table). read_over order s bytes ≡ broken WholeUnit offset reason) b.is_table
+    (ap (body_over b.table bytes) (head_take order bytes b.header b.count b.stands)
+    ∙ body_fault order bytes b.header b.count b.stands b.table b.own reason b.breaks
+    ∙ ap (λ (m : ℕ). broken WholeUnit m reason) (sym b.sum))
+
+over_answer : (order : Order) (t : Table) (bytes : List ℕ) → AreBytes bytes → (o : Outcome Heading) → HeadSays order bytes o → OverSays order t bytes (body_over t bytes o)
+over_answer order t bytes fit (Found x size) h = body_says order bytes x.0 x.1 h t fit
+over_answer order t bytes fit (Broken offset reason) h = inl h
+
+pub over_says : (order : Order) (t : Table) (bytes : List ℕ) → AreBytes bytes → OverSays order t bytes (read_over order t bytes)
+over_says order t bytes fit = over_answer order t bytes fit (read_head order bytes) (head_says order bytes fit)
+
+-- ---- a table that stands in a section
+
+module _ (order : Order) (section bytes : List ℕ) (h : Header) (n : ℕ) (stands : HeaderAt order bytes h n) (t : Table) (place : TableAt section h.abbrev_offset t) where
+  at_header : (g : Header) (m : ℕ) (s : Table) → HeaderAt order bytes g m → s ≡ t → TableAt section g.abbrev_offset s
+  at_header g m s there is = subst (λ (x : Header). TableAt section x.abbrev_offset s) (one_header order bytes h g n m stands there).0 (subst (λ (x : Table). TableAt section h.abbrev_offset x) (sym is) place)
+
+  -- a unit over it is one over the section ..
+  pub unit_at : (u : WholeUnit) (size : ℕ) → u.table ≡ t → UnitFront order bytes u size → UnitAt section order bytes u size
+  unit_at u size is front = record { table_at = at_header u.header (length (body_bytes u)) u.table (unit_header order bytes u size front) is; front = front }
+
+  -- .. and a break over it is the fault over the section
+  pub break_fails : (offset : ℕ) (reason : Reason) → UnitBreaks order t bytes offset reason → Fails order section bytes Info offset reason
+  break_fails offset reason (inl one) = inl one
+  break_fails offset reason (inr b) =
+      inr (record { header = b.header; count = b.count; stands = b.stands; table = b.table; is_table = at_header b.header b.count b.table b.stands b.is_table; own = b.own; sum = b.sum; breaks = b.breaks })
+
+  pub fails_break : (offset : ℕ) (reason : Reason) → Fails order section bytes Info offset reason → UnitBreaks order t bytes offset reason
+  fails_break offset reason (inl one) = inl one
+  fails_break offset reason (inr b) =
+      let here : TableAt section h.abbrev_offset b.table = subst (λ (x : Header). TableAt section x.abbrev_offset b.table) (one_header order bytes b.header h b.count n b.stands stands).0 b.is_table in
+      inr (record { header = b.header; count = b.count; stands = b.stands; table = b.table; is_table = one_table_at section h.abbrev_offset b.table t here place; own = b.own; sum = b.sum; breaks = b.breaks })
+
+-- ---- over a section: what is spelled is read, what fails is refused with that fault, and nothing else
+
+pub unit_take : (section : List ℕ) (order : Order) (bytes : List ℕ) (u : WholeUnit) (size : ℕ) → UnitAt section order bytes u size → read_unit order section bytes ≡ Unit u size
 unfolding read_unit
-unit_says order section bytes fit_s fit = length_answer order section bytes fit_s fit (read_length order 0 bytes length_limit) ((initial_length_decides order 0).says bytes length_limit fit)
+unit_take section order bytes u size h =
+    let n : ℕ = length (body_bytes u) in
+    ap (answer_head section bytes) (head_take order bytes u.header n (unit_header order bytes u size h.front))
+    ∙ ap (answer_table bytes (u.header, n)) (table_take section u.header.abbrev_offset u.table h.table_at)
+    ∙ ap answer_body (body_take order bytes u size h.front)
 
--- ---- breaks that stay
+pub unit_fault : (order : Order) (section bytes : List ℕ) (s : Section) (offset : ℕ) (reason : Reason) → Fails order section bytes s offset reason → read_unit order section bytes ≡ Fault s offset reason
+unfolding read_unit
+unit_fault order section bytes Info offset reason (inl one) = ap (answer_head section bytes) (head_fault order bytes offset reason one)
+unit_fault order section bytes Info offset reason (inr b) =
+    ap (answer_head section bytes) (head_take order bytes b.header b.count b.stands)
+    ∙ ap (answer_table bytes (b.header, b.count)) (table_take section b.header.abbrev_offset b.table b.is_table)
+    ∙ ap answer_body (body_fault order bytes b.header b.count b.stands b.table b.own reason b.breaks)
+    ∙ ap (λ (m : ℕ). Fault Info m reason) (sym b.sum)
+unit_fault order section bytes Abbrev offset reason (h, n, stands, breaks) =
+    ap (answer_head section bytes) (head_take order bytes h n stands) ∙ ap (answer_table bytes (h, n)) (table_fault section h.abbrev_offset offset reason breaks)
+
+abbrev pub AnswerSays : Order → List ℕ → List ℕ → Answer → Type 0
+AnswerSays order section bytes (Unit u size) = UnitAt section order bytes u size
+AnswerSays order section bytes (Fault s offset reason) = Fails order section bytes s offset reason
+
+module _ (order : Order) (section bytes : List ℕ) (fit_s : AreBytes section) (fit : AreBytes bytes) where
+  body_answer : (h : Header) (n : ℕ) → HeaderAt order bytes h n → (t : Table) → TableAt section h.abbrev_offset t → (o : Outcome WholeUnit) → OverSays order t bytes o → AnswerSays order section bytes (answer_body o)
+  body_answer h n stands t place (Found u size) g = unit_at order section bytes h n stands t place u size g.0 g.1
+  body_answer h n stands t place (Broken offset reason) g = break_fails order section bytes h n stands t place offset reason g
+
+  table_answer : (h : Header) (n : ℕ) → HeaderAt order bytes h n → (o : Outcome Table) → TableSays section h.abbrev_offset o → AnswerSays order section bytes (answer_table bytes (h, n) o)
+  table_answer h n stands (Found t size) g = body_answer h n stands t g (read_body t bytes (h, n)) (body_says order bytes h n stands t fit)
+  table_answer h n stands (Broken offset reason) g = (h, n, stands, g)
+
+  head_answer : (o : Outcome Heading) → HeadSays order bytes o → AnswerSays order section bytes (answer_head section bytes o)
+  head_answer (Found x size) g = table_answer x.0 x.1 g (read_table_at section x.0.abbrev_offset) (table_says section x.0.abbrev_offset fit_s)
+  head_answer (Broken offset reason) g = inl g
+
+  -- the reader's answer is always right, so every byte list is a unit at the front or fails
+  pub unit_says : AnswerSays order section bytes (read_unit order section bytes)
+  unfolding read_unit
+  unit_says = head_answer (read_head order bytes) (head_says order bytes fit)
+
+-- ---- what stays whatever bytes follow
+
+pub front_stays : (order : Order) (bytes tail : List ℕ) (u : WholeUnit) (size : ℕ) → UnitFront order bytes u size → UnitFront order (bytes ++ tail) u size
+front_stays order bytes tail u size h = record { order_is = h.order_is; fits = h.fits; rest = h.rest ++ tail; split = ap (λ (b : List ℕ). b ++ tail) h.split ∙ append_assoc (bytes_of u) h.rest tail; is_size = h.is_size }
+
+pub unit_stays : (section : List ℕ) (order : Order) (bytes tail : List ℕ) (u : WholeUnit) (size : ℕ) → UnitAt section order bytes u size → UnitAt section order (bytes ++ tail) u size
+unit_stays section order bytes tail u size h = record { table_at = h.table_at; front = front_stays order bytes tail u size h.front }
 
 body_stays : (order : Order) (IsTable : ℕ → Table → Type 0) (bytes tail : List ℕ) (offset : ℕ) (reason : Reason) → reason ≢ Truncated → BodyBreaks order IsTable bytes offset reason → BodyBreaks order IsTable (bytes ++ tail) offset reason
-body_stays order IsTable bytes tail offset reason ne (format, n, x, rest, t, own, headed, is_table, sum, breaks) =
-    (format, n, x, rest ++ tail, t, own, headed_stays order bytes tail format n x rest headed, is_table, sum, entries_stay (header_of order format x) t rest tail (n - length (field_bytes order format x)) own reason ne breaks)
+body_stays order IsTable bytes tail offset reason ne b = record {
+  header = b.header;
+  count = b.count;
+  stands = (b.stands.0, b.stands.1 ++ tail, headed_stays order bytes tail b.header.format b.count (fields_of b.header) b.stands.1 b.stands.2);
+  table = b.table;
+  is_table = b.is_table;
+  own = b.own;
+  sum = b.sum;
+  breaks = entries_stay (context_of b.header) b.table b.stands.1 tail (left_behind b.header b.count) b.own reason ne b.breaks;
+}
 
-pub unit_stays : (order : Order) (t : Table) (bytes tail : List ℕ) (offset : ℕ) (reason : Reason) → reason ≢ Truncated → UnitBreaks order t bytes offset reason → UnitBreaks order t (bytes ++ tail) offset reason
-unit_stays order t bytes tail offset reason ne (inl one) = inl (header_stays order bytes tail offset reason ne one)
-unit_stays order t bytes tail offset reason ne (inr two) = inr (body_stays order (λ _ s. s ≡ t) bytes tail offset reason ne two)
+pub break_stays : (order : Order) (t : Table) (bytes tail : List ℕ) (offset : ℕ) (reason : Reason) → reason ≢ Truncated → UnitBreaks order t bytes offset reason → UnitBreaks order t (bytes ++ tail) offset reason
+break_stays order t bytes tail offset reason ne (inl one) = inl (header_stays order bytes tail offset reason ne one)
+break_stays order t bytes tail offset reason ne (inr two) = inr (body_stays order (λ _ s. s ≡ t) bytes tail offset reason ne two)
 
 pub fault_stays : (order : Order) (section bytes tail : List ℕ) (s : Section) (offset : ℕ) (reason : Reason) → (s ≡ Info → reason ≢ Truncated) → Fails order section bytes s offset reason → Fails order section (bytes ++ tail) s offset reason
 fault_stays order section bytes tail Info offset reason ne (inl one) = inl (header_stays order bytes tail offset reason (ne refl) one)
 fault_stays order section bytes tail Info offset reason ne (inr two) = inr (body_stays order (TableAt section) bytes tail offset reason (ne refl) two)
-fault_stays order section bytes tail Abbrev offset reason ne (format, n, x, rest, headed, breaks) = (format, n, x, rest ++ tail, headed_stays order bytes tail format n x rest headed, breaks)
-
-is_truncated : (r : Reason) → (r ≡ Truncated) ⊎ (r ≢ Truncated)
-is_truncated Truncated = inl refl
-is_truncated _ = inr (λ e. cc)
-
-unit_value : (u v : Contents) (m n : ℕ) → Unit u m ≡ Unit v n → m ≡ n
-unit_value u v m n e = cc
-
-not_both : (u : Contents) (size : ℕ) (s : Section) (n : ℕ) (r : Reason) → Unit u size ≡ Fault s n r → ⊥
-not_both u size s n r e = cc
-
--- no answer but Truncated is left for a front
-pub front_cut : (section front : List ℕ) (b : ℕ) (more : List ℕ) (u : Contents) → UnitIn section u (front ++ b ∷ more) [] → (a : Answer) → AnswerSays u.header.order section front a → (offset : ℕ) × Fails u.header.order section front Info offset Truncated
-front_cut section front b more u h (Unit v size) g =
-    let w : UnitIn section v (front ++ b ∷ more) (g.1 ++ b ∷ more) = record { table = g.2.table; table_at = g.2.table_at; fits = g.2.fits; split = ap (λ (x : List ℕ). x ++ b ∷ more) g.2.split ∙ append_assoc (unit_bytes g.2.table v) g.1 (b ∷ more) } in
-    let same : length (unit_bytes h.table u) ≡ length (unit_bytes g.2.table v) = unit_value u v _ _ (sym (unit_take section u (front ++ b ∷ more) [] h) ∙ ap (λ (o : Order). read_unit o section (front ++ b ∷ more)) (sym g.0) ∙ unit_take section v (front ++ b ∷ more) (g.1 ++ b ∷ more) w) in
-    absurd (omega (arith, same, ap length h.split, length-append front (b ∷ more), ap length g.2.split, length-append (unit_bytes g.2.table v) g.1, length-append (unit_bytes h.table u) []))
-front_cut section front b more u h (Fault Abbrev n r) g =
-    absurd (not_both u _ Abbrev n r (sym (unit_take section u (front ++ b ∷ more) [] h) ∙ unit_fault u.header.order section (front ++ b ∷ more) Abbrev n r (fault_stays u.header.order section front (b ∷ more) Abbrev n r (λ e. absurd cc) g)))
-front_cut section front b more u h (Fault Info n r) g = elim (is_truncated r) [
-  | inl e ↦ (n, subst (λ (q : Reason). Fails u.header.order section front Info n q) e g)
-  | inr ne ↦ absurd (not_both u _ Info n r (sym (unit_take section u (front ++ b ∷ more) [] h) ∙ unit_fault u.header.order section (front ++ b ∷ more) Info n r (fault_stays u.header.order section front (b ∷ more) Info n r (λ e. ne) g)))
-]
+fault_stays order section bytes tail Abbrev offset reason ne (h, n, stands, breaks) = (h, n, headers_stay order bytes tail h n stands, breaks)

@@ -14,7 +14,8 @@ use Rattle.dw_tree.specs.Place.{Frame, Spot, nowhere, Unread, Place, place_code}
 use Rattle.dw_tree.specs.Standing.{is_bare}
 use Rattle.dw_tree.specs.Steps.{Growing, begun_at, with_value, begun_in, begun_value, started as started_at, extended as extended_at, ended as ended_at, closed_at, undone as undone_at, end_of, whole_tree, NextFits, next_bytes, FirstsFit}
 use Rattle.dw_header.specs.Header.{Header, HeaderFits, context_of}
-use Rattle.dw_unit.specs.WholeUnit.{WholeUnit, header_code}
+use Rattle.dw_unit.specs.Unit.{WholeUnit}
+use Rattle.dw_unit.specs.UnitView.{header_code}
 use Rattle.dw_header.specs.Headed.{header_size}
 
 -- a header with its table, a tree with one open place, and the widths of the nulls behind the root

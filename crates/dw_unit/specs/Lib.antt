@@ -2,9 +2,10 @@ pub mod Unit
 pub mod ReadUnit
 pub mod Laws
 pub mod DecideUnit
+pub mod UnitLaws
 pub mod Told
 pub mod Entries
-pub mod WholeUnit
+pub mod UnitView
 pub mod BodyView
 pub mod Draft
 pub mod Build

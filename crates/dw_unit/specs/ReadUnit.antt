@@ -2,45 +2,57 @@
 use Rattle.std.specs.Prelude.{ℕ, suc, ◌+◌, ◌-◌, List, length, drop}
 use Rattle.dw_leb.specs.declared.errors.Reason.{Reason}
 use Rattle.dw_leb.specs.declared.order.Order.{Order}
-use Rattle.dw_leb.specs.declared.order.Format.{Format}
-use Rattle.dw_leb.specs.Number.{length_limit}
 use Rattle.dw_leb.specs.declared.errors.Section.{Section}
 use Rattle.dw_leb.specs.declared.errors.Section.TheVariants.{Info, Abbrev}
 use Rattle.dw_leb.specs.Reader.{Outcome, Found, Broken, Reader, ◌and_then◌}
-use Rattle.dw_leb.specs.ReadNumber.{read_length}
 use Rattle.dw_form.specs.declared.shape.Ctx.{Ctx}
 use Rattle.dw_abbrev.specs.Table.{Table}
 use Rattle.dw_abbrev.specs.ReadTable.{read_table_at}
-use Rattle.dw_header.specs.Header.{Header, Fields}
-use Rattle.dw_header.specs.ReadHeader.{read_fields, header_from}
+use Rattle.dw_header.specs.Header.{Header, context_of}
+use Rattle.dw_header.specs.Headed.{header_size}
+use Rattle.dw_header.specs.ReadHeader.{Heading, read_head}
 use Rattle.dw_tree.specs.ReadTree.{read_tree, read_padding}
 use Rattle.dw_tree.specs.Tree.{Tree, nesting}
-use Rattle.dw_unit.specs.Unit.{Contents, header_of}
-
--- what reading a unit gives
-pub data Answer : Type 0 where
-  Unit : Contents → ℕ → Answer
-  Fault : Section → ℕ → Reason → Answer
+use Rattle.dw_unit.specs.Unit.{WholeUnit, left_behind}
 
 abbrev pub read_entries : Ctx → Table → Reader (Tree × List ℕ)
 read_entries k t bytes lim = ((read_tree k t (nesting - 1)) and_then λ _. read_padding (suc (length bytes))) bytes lim
 
-abbrev pub answer_entries : Header → ℕ → Outcome (Tree × List ℕ) → Answer
-answer_entries h before (Found x size) = Unit (record { header = h; root = x.0; padding = x.1 }) (before + size)
-answer_entries h before (Broken offset reason) = Fault Info (before + offset) reason
+abbrev pub with_header : Header → Table → Outcome (Tree × List ℕ) → Outcome WholeUnit
+with_header h t (Found x size) = Found (record { header = h; table = t; root = x.0; padding = x.1 }) (header_size h + size)
+with_header h t (Broken offset reason) = Broken (header_size h + offset) reason
 
-abbrev pub answer_table : Order → Format → Fields → List ℕ → ℕ → ℕ → Outcome Table → Answer
-answer_table order format x rest lim before (Found t size) = answer_entries (header_from order format x) before (read_entries (header_of order format x) t rest lim)
-answer_table order format x rest lim before (Broken offset reason) = Fault Abbrev offset reason
+-- what stands behind a header and its unit_length
+abbrev pub read_body : Table → List ℕ → Heading → Outcome WholeUnit
+read_body t bytes x = with_header x.0 t (read_entries (context_of x.0) t (drop (header_size x.0) bytes) (left_behind x.0 x.1))
 
-abbrev pub answer_fields : Order → Format → List ℕ → List ℕ → ℕ → ℕ → Outcome Fields → Answer
-answer_fields order format section bytes n before (Found x size) =
-    answer_table order format x (drop size bytes) (n - size) (before + size) (read_table_at section x.1.1.1.0)
-answer_fields order format section bytes n before (Broken offset reason) = Fault Info (before + offset) reason
+-- ---- over a table that is handed in
 
-abbrev pub answer_length : Order → List ℕ → List ℕ → Outcome (Format × ℕ) → Answer
-answer_length order section bytes (Found x size) = answer_fields order x.0 section (drop size bytes) x.1 size (read_fields order x.0 (drop size bytes) x.1)
-answer_length order section bytes (Broken offset reason) = Fault Info offset reason
+abbrev pub body_over : Table → List ℕ → Outcome Heading → Outcome WholeUnit
+body_over t bytes (Found x size) = read_body t bytes x
+body_over t bytes (Broken offset reason) = Broken offset reason
+
+abbrev pub read_over : Order → Table → List ℕ → Outcome WholeUnit
+read_over order t bytes = body_over t bytes (read_head order bytes)
+
+-- ---- over an abbreviation section
+
+-- what reading a unit gives
+pub data Answer : Type 0 where
+  Unit : WholeUnit → ℕ → Answer
+  Fault : Section → ℕ → Reason → Answer
+
+abbrev pub answer_body : Outcome WholeUnit → Answer
+answer_body (Found u size) = Unit u size
+answer_body (Broken offset reason) = Fault Info offset reason
+
+abbrev pub answer_table : List ℕ → Heading → Outcome Table → Answer
+answer_table bytes x (Found t size) = answer_body (read_body t bytes x)
+answer_table bytes x (Broken offset reason) = Fault Abbrev offset reason
+
+abbrev pub answer_head : List ℕ → List ℕ → Outcome Heading → Answer
+answer_head section bytes (Found x size) = answer_table bytes x (read_table_at section x.0.abbrev_offset)
+answer_head section bytes (Broken offset reason) = Fault Info offset reason
 
 unfoldable pub read_unit : Order → List ℕ → List ℕ → Answer
-read_unit order section bytes = answer_length order section bytes (read_length order 0 bytes length_limit)
+read_unit order section bytes = answer_head section bytes (read_head order bytes)

@@ -3,68 +3,90 @@ use Rattle.std.specs.Prelude.{◌≡◌, ℕ, ◌+◌, ◌-◌, List, ◌++◌, 
 use Rattle.dw_leb.specs.declared.errors.Reason.{Reason}
 use Rattle.dw_leb.specs.Part.{Breaks, After}
 use Rattle.dw_leb.specs.declared.order.Order.{Order}
-use Rattle.dw_leb.specs.declared.order.Format.{Format}
-use Rattle.dw_leb.specs.Number.{initial_length}
+use Rattle.dw_leb.specs.Number.{length_field, initial_length, length_size}
 use Rattle.dw_leb.specs.declared.errors.Section.{Section}
 use Rattle.dw_leb.specs.declared.errors.Section.TheVariants.{Info, Abbrev}
 use Rattle.dw_form.specs.declared.shape.Ctx.{Ctx}
 use Rattle.dw_abbrev.specs.Table.{Table, TableAt, TableBreaks}
-use Rattle.dw_header.specs.Header.{Header, Fields, fields, fields_of, context_of}
-use Rattle.dw_header.specs.Headed.{Headed, HeaderBreaks}
+use Rattle.dw_header.specs.Header.{Header, fields, fields_of, context_of}
+use Rattle.dw_header.specs.Headed.{HeaderAt, HeaderBreaks, header_size}
 use Rattle.dw_tree.specs.Tree.{Tree, tree, nesting, nulls, AreNulls, PaddingBreaks}
+use Rattle.dw_tree.specs.Steps.{TreeAt}
 
-pub record Contents : Type 0 where
+-- a header, the table of its entries' declarations, the root with all entries below it, and the widths of the nulls after it
+pub record WholeUnit : Type 0 where
   pub header : Header
+  pub table : Table
   pub root : Tree
   pub padding : List ℕ
 
-abbrev pub body_bytes : Table → Contents → List ℕ
-body_bytes t u = (fields u.header.order u.header.format).spell (fields_of u.header) ++ ((tree (context_of u.header) t (nesting - 1)).spell u.root ++ nulls u.padding)
+-- what the initial length counts
+abbrev pub body_bytes : WholeUnit → List ℕ
+body_bytes u = (fields u.header.order u.header.format).spell (fields_of u.header) ++ ((tree (context_of u.header) u.table (nesting - 1)).spell u.root ++ nulls u.padding)
 
 -- the one spelling of a unit: its length is computed from what follows it
-abbrev pub unit_bytes : Table → Contents → List ℕ
-unit_bytes t u = (initial_length u.header.order 0).spell (u.header.format, length (body_bytes t u)) ++ body_bytes t u
+abbrev pub bytes_of : WholeUnit → List ℕ
+bytes_of u = (length_field u.header.order).spell (u.header.format, length (body_bytes u)) ++ body_bytes u
 
 -- the units that have one
-pub record UnitFits (t : Table) (u : Contents) : Type 0 where
-  pub length_fits : (initial_length u.header.order 0).Fits (u.header.format, length (body_bytes t u))
+pub record UnitFits (u : WholeUnit) : Type 0 where
+  pub length_fits : (initial_length u.header.order 0).Fits (u.header.format, length (body_bytes u))
   pub fields_fit : (fields u.header.order u.header.format).Fits (fields_of u.header)
-  pub tree_fits : (tree (context_of u.header) t (nesting - 1)).Fits u.root
+  pub tree_fits : (tree (context_of u.header) u.table (nesting - 1)).Fits u.root
   pub padding_fits : AreNulls u.padding
 
--- ---- breaks of units
+-- the tree of a unit: the root stands behind the header
+abbrev pub tree_of : WholeUnit → TreeAt
+tree_of u = record { context = context_of u.header; table = u.table; start = header_size u.header; root = u.root }
 
-abbrev pub header_of : Order → Format → Fields → Ctx
-header_of order format x = record { order = order; format = format; address_size = x.1.1.0 }
+-- ---- over a table that is handed in
 
--- the offset of the table that the fields name
-abbrev pub table_offset : Fields → ℕ
-table_offset x = x.1.1.1.0
+-- the unit, of so many bytes, stands at the front of the bytes
+pub record UnitFront (order : Order) (bytes : List ℕ) (u : WholeUnit) (size : ℕ) : Type 0 where
+  pub order_is : u.header.order ≡ order
+  pub fits : UnitFits u
+  pub rest : List ℕ
+  pub split : bytes ≡ bytes_of u ++ rest
+  pub is_size : length (bytes_of u) ≡ size
+
+-- how many bytes a unit_length leaves behind the header
+abbrev pub left_behind : Header → ℕ → ℕ
+left_behind h n = length_size h.format + n - header_size h
 
 -- behind its header a unit breaks in its root, or behind a root that is spelled in its padding
 abbrev pub EntriesBreak : Ctx → Table → Breaks
 EntriesBreak k t bytes lim offset reason = (tree k t (nesting - 1)).Break bytes lim offset reason
     ⊎ ((root : Tree) × (tree k t (nesting - 1)).Fits root × After ((tree k t (nesting - 1)).spell root) PaddingBreaks bytes lim offset reason)
 
--- the entries break, behind a header that is spelled; t is a table that goes with the header's offset
-abbrev pub BodyBreaks : Order → (ℕ → Table → Type 0) → List ℕ → ℕ → Reason → Type 0
-BodyBreaks order IsTable bytes offset reason = (format : Format) × (n : ℕ) × (x : Fields) × (rest : List ℕ) × (t : Table) × (own : ℕ)
-    × Headed order bytes format n x rest × IsTable (table_offset x) t
-    × (offset ≡ length ((initial_length order 0).spell (format, n)) + length ((fields order format).spell x) + own)
-    × EntriesBreak (header_of order format x) t rest (n - length ((fields order format).spell x)) own reason
+-- the entries break, behind a header that is spelled; the table is one that goes with the header's offset
+pub record BodyBreaks (order : Order) (IsTable : ℕ → Table → Type 0) (bytes : List ℕ) (offset : ℕ) (reason : Reason) : Type 0 where
+  pub header : Header
+  pub count : ℕ
+  pub stands : HeaderAt order bytes header count
+  pub table : Table
+  pub is_table : IsTable header.abbrev_offset table
+  pub own : ℕ
+  pub sum : offset ≡ header_size header + own
+  pub breaks : EntriesBreak (context_of header) table stands.1 (left_behind header count) own reason
 
 -- a unit with the table t breaks
 abbrev pub UnitBreaks : Order → Table → List ℕ → ℕ → Reason → Type 0
 UnitBreaks order t bytes offset reason = HeaderBreaks order bytes offset reason ⊎ BodyBreaks order (λ _ s. s ≡ t) bytes offset reason
 
+-- ---- over an abbreviation section
+
+-- the unit, of so many bytes, stands at the front of the bytes, and its table in the section at its header's offset
+pub record UnitAt (section : List ℕ) (order : Order) (bytes : List ℕ) (u : WholeUnit) (size : ℕ) : Type 0 where
+  pub table_at : TableAt section u.header.abbrev_offset u.table
+  pub front : UnitFront order bytes u size
+
 -- the one fault of a unit that can't be read: the header's, else the table's, else the body's
 abbrev pub Fails : Order → List ℕ → List ℕ → Section → ℕ → Reason → Type 0
 Fails order section bytes Info offset reason = HeaderBreaks order bytes offset reason ⊎ BodyBreaks order (TableAt section) bytes offset reason
-Fails order section bytes Abbrev offset reason = (format : Format) × (n : ℕ) × (x : Fields) × (rest : List ℕ) × Headed order bytes format n x rest × TableBreaks section (table_offset x) offset reason
+Fails order section bytes Abbrev offset reason = (h : Header) × (n : ℕ) × HeaderAt order bytes h n × TableBreaks section h.abbrev_offset offset reason
 
--- the unit stands at the front, over the table in the section at its header's offset
-pub record UnitIn (section : List ℕ) (u : Contents) (bytes rest : List ℕ) : Type 0 where
-  pub table : Table
-  pub table_at : TableAt section u.header.abbrev_offset table
-  pub fits : UnitFits table u
-  pub split : bytes ≡ unit_bytes table u ++ rest
+-- These bytes are read as this unit: it stands at their front, no other unit does, and they have no fault.
+pub record ReadAs (section : List ℕ) (order : Order) (bytes : List ℕ) (u : WholeUnit) (size : ℕ) : Type 0 where
+  pub there : UnitAt section order bytes u size
+  pub only : (v : WholeUnit) (n : ℕ) → UnitAt section order bytes v n → (v ≡ u) × (n ≡ size)
+  pub no_fault : (s : Section) (offset : ℕ) (reason : Reason) → Fails order section bytes s offset reason → ⊥

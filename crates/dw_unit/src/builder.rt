@@ -4,11 +4,10 @@ ghost use Rattle.dw_leb.specs.View.{uleb_of};
 ghost use Rattle.dw_form.specs.Lent.{attribute_of};
 ghost use Rattle.dw_tree.specs.Place.{nowhere};
 ghost use Rattle.dw_unit.specs.Unit.{UnitFits};
-ghost use Rattle.dw_unit.specs.WholeUnit.{contents_of};
 ghost use Rattle.dw_unit.specs.declared.refusal.Refusal.TheVariants.{NoMemory};
 ghost use Rattle.dw_unit.specs.Build.{opened, closed, padded, whole_of, is_known, is_too_long, entry_size as entry_bytes_of, ValuesFit, EntryRefused, OpenRefused, place_refusal, null_refusal, close_refusal, pad_refusal, finish_refusal, or_memory};
 
-use crate::draft::{Draft, size_limit};
+use crate::draft::{Draft, NESTING, size_limit};
 use crate::given::{is_longer, put_entry, values_fit};
 use crate::refusal::Refusal;
 use crate::unit::Unit;
@@ -19,9 +18,6 @@ use dw_leb::Uleb;
 use std::alloc::Global;
 use std::marker::Model;
 use std::rc::Rc;
-
-/// The most levels of a tree.
-const NESTING: usize = 256;
 
 /// A unit that is being built: its header, the entries that it has so far with the one place where
 /// the next one stands, and the nulls behind its root.
@@ -131,7 +127,7 @@ impl UnitBuilder {
     /// builder is handed back as it was.
     pub fn finish(self) -> Result<Unit, (Refusal, UnitBuilder)>
         ensures unit { IfOk result (λ u. whole_of self ≡ Some u) }
-        ensures fits { IfOk result (λ u. UnitFits u.table (contents_of u)) }
+        ensures fits { IfOk result (λ u. UnitFits u) }
         ensures allowed { OnOk result (finish_refusal self ≡ None) }
         ensures refused { IfErr result (λ e. Some e.0 ≡ finish_refusal self) }
         ensures handed_back { IfErr result (λ e. e.1 ≡ self) }

@@ -2,7 +2,7 @@
 ghost use Rattle.std.specs.Prelude.{◌≡◌, ◌≤◌, ◌<◌, ◌+◌, ◌-◌, ℕ, [], length, vec_items, IfOk, IfErr, IsSome};
 ghost use Rattle.dw_abbrev.specs.Table.{declared};
 ghost use Rattle.dw_leb.specs.View.{uleb_of};
-ghost use Rattle.dw_leb.specs.Reader.{checked};
+ghost use Rattle.dw_leb.specs.Reader.{checked, outcome_of};
 ghost use Rattle.dw_leb.specs.ReadNumber.{read_uleb};
 ghost use Rattle.dw_tree.specs.Tree.{bad_root, not_null};
 ghost use Rattle.dw_tree.specs.ReadTree.{read_padding};
@@ -15,6 +15,14 @@ use dw_abbrev::Table;
 use dw_leb::{Bad, Reason, Uleb};
 use std::alloc::Global;
 
+/// A code, as the plain reader's outcome.
+fn code(b: &[u8], lim: u64) -> Result<Uleb, Reason>
+    ensures exact { read_uleb b.now lim ≡ outcome_of uleb_of (λ x. x.width) result }
+    ensures room { IfOk result (λ x. (x.width ≤ length b.now) × (x.width ≤ lim)) }
+{
+    Uleb::read(b, lim)
+}
+
 /// The code of the root entry at the front of `b`, of which `lim` bytes are left to the unit's end.
 pub(crate) fn root_code(table: &Table, b: &[u8], lim: u64) -> Result<Uleb, Bad>
     ensures exact { checked read_uleb (bad_root table.now) b.now lim ≡ told_code result }
@@ -22,7 +30,7 @@ pub(crate) fn root_code(table: &Table, b: &[u8], lim: u64) -> Result<Uleb, Bad>
     ensures room { IfOk result (λ x. (x.width ≤ length b.now) × (x.width ≤ lim)) }
     ensures near { IfErr result (λ e. e.offset ≡ 0) }
 {
-    match Uleb::read(b, lim) {
+    match code(b, lim) {
         Ok(code) => {
             if code.value == 0 {
                 return Err(Bad::here(Reason::NoRoot));
@@ -44,7 +52,7 @@ pub(crate) fn child_code(table: &Table, room: u16, b: &[u8], lim: u64) -> Result
     ensures room { IfOk result (λ x. (x.width ≤ length b.now) × (x.width ≤ lim) × (1 ≤ x.width)) }
     ensures near { IfErr result (λ e. e.offset ≡ 0) }
 {
-    match Uleb::read(b, lim) {
+    match code(b, lim) {
         Ok(code) => {
             if code.value == 0 {
                 return Ok(code);
@@ -68,7 +76,7 @@ fn null_code(b: &[u8], lim: u64) -> Result<(Uleb, usize), Bad>
     ensures room { IfOk result (λ x. (x.1 ≤ length b.now) × (x.1 ≤ lim) × (1 ≤ x.1)) }
     ensures near { IfErr result (λ e. e.offset ≡ 0) }
 {
-    match Uleb::read(b, lim) {
+    match code(b, lim) {
         Ok(code) => {
             if code.value == 0 {
                 Ok((code, code.width as usize))

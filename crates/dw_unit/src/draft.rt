@@ -1,5 +1,5 @@
 //! Units under construction, step by step (sections 2.3 and 7.5).
-ghost use Rattle.std.specs.Prelude.{◌≡◌, ◌≢◌, ◌≤◌, ◌<◌, ◌+◌, [], length, true, false, None, Some, is_some, IsSome, IfSome, option_map, OnOk, OnErr};
+ghost use Rattle.std.specs.Prelude.{◌≡◌, ◌≢◌, ◌≤◌, ◌<◌, ◌+◌, ◌↔◌, [], length, IsTrue, true, false, None, Some, is_some, IsSome, IfSome, option_map, OnOk, OnErr};
 ghost use Rattle.dw_leb.specs.View.{uleb_of};
 ghost use Rattle.dw_form.specs.Lent.{attribute_of};
 ghost use Rattle.dw_abbrev.specs.Build.{is_width};
@@ -10,9 +10,8 @@ ghost use Rattle.dw_tree.specs.Held.{held_in};
 ghost use Rattle.dw_tree.specs.Standing.{is_bare};
 ghost use Rattle.dw_tree.specs.Steps.{begun_in, NextFits, next_pair};
 ghost use Rattle.dw_header.specs.Header.{context_of};
-ghost use Rattle.dw_unit.specs.Unit.{UnitFits};
+ghost use Rattle.dw_unit.specs.Unit.{UnitFits, bytes_of};
 ghost use Rattle.dw_header.specs.Headed.{header_size};
-ghost use Rattle.dw_unit.specs.WholeUnit.{contents_of};
 ghost use Rattle.dw_unit.specs.Draft.{drafted_size, empty, begun, given, started, extended, ended, closed, padded, undone, finished, size_limit as limit_of, passes_limit, IsOnlyRoot, value_bytes, begun_of, BegunFits, BegunShort};
 
 use crate::body::Body;
@@ -25,6 +24,18 @@ use dw_tree::TreeDraft;
 use std::alloc::{AllocError, Global};
 use std::marker::Model;
 use std::rc::Rc;
+
+/// The most levels of a unit's tree, that of the root included.
+pub(crate) const NESTING: usize = 256;
+
+/// The most levels that the tree of a unit may have, that of the root included: the standard has no
+/// bound, and readers that recurse need one.
+#[tactic(auto, unfolding(dw_tree::specs::Tree::nesting))]
+pub fn most_levels() -> usize
+    ensures { result ≡ nesting }
+{
+    NESTING
+}
 
 /// A unit under construction, step by step: a header with its table, a tree that grows at one open
 /// place, and the nulls behind its root (section 7.5).
@@ -192,13 +203,15 @@ impl Draft {
         self.tree.undo();
     }
 
-    /// The unit, once its root is closed. It can be written. It takes no memory.
+    /// The unit, once its root is closed. It can be written, in as many bytes as the draft had. It takes
+    /// no memory.
     pub fn finish(self) -> Unit
         requires root { is_bare self.place.spot ≡ false }
         requires whole { self.place.spot.above ≡ [] }
         requires free { self.place.reading ≡ None }
         ensures unit { finished self ≡ Some result }
-        ensures fits { UnitFits result.table (contents_of result) }
+        ensures fits { UnitFits result }
+        ensures size { length (bytes_of result) ≡ drafted_size self }
     {
         let size = self.size();
         let Draft {
@@ -264,6 +277,15 @@ impl Draft {
         ensures { result ≡ length self.now.place.spot.above }
     {
         self.tree.depth()
+    }
+
+    /// Whether an entry may begin below the innermost open one: whether the tree has a level left, of the
+    /// `most_levels` that it may have.
+    #[tactic(auto, unfolding(dw_tree::specs::Tree::nesting))]
+    pub fn has_level(&self) -> bool
+        ensures { IsTrue result ↔ (length self.now.place.spot.above < nesting) }
+    {
+        self.depth() < NESTING
     }
 
     /// Whether no entry was begun, besides one whose values aren't complete.

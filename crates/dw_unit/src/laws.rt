@@ -5,43 +5,68 @@ ghost use Rattle.dw_leb.specs.Stay.{Stays};
 ghost use Rattle.dw_form.specs.declared.shape.Ctx.{Ctx};
 ghost use Rattle.dw_abbrev.specs.Table.{Table};
 ghost use Rattle.dw_tree.specs.Tree.{tree};
-ghost use Rattle.dw_unit.specs.Laws.{OneUnit, OneFault, NotBoth, SomeAnswer, BreaksStay, OneOffset, FaultsStay, FrontsAreCut, WrittenThenRead, WrittenIsRead, ReadThenWritten};
+ghost use Rattle.dw_unit.specs.Laws.{OneUnitOver, OneBreak, NotUnitAndBreak, UnitOrBreak, FrontsStay, BreaksStay, FrontsAreCut, UnitsOverSections, BreaksAreFaults, OneUnit, OneFault, NotBoth, SomeAnswer, UnitsStay, FaultsStay, FrontsAreTruncated, WrittenIsRead, ReadIsWritten, LentByPaths, LentAreSpelled, OneOffset, OffsetsRise, OnePath};
 
 /// One spelling: no spelling of a tree of entries begins another, and bytes have at most one unit at
-/// the front.
+/// the front, of one size: over a table that is handed in, and over an abbreviation section.
 pub fn one_spelling()
     ensures trees { (k : Ctx) (t : Table) (room : ℕ) → NoneBegins (tree k t room) }
+    ensures over_a_table { OneUnitOver }
     ensures units { OneUnit }
 {}
 
-/// One outcome: bytes have exactly one of a unit at the front and a first fault, and that fault in
-/// one section, at one place, for one reason.
+/// One outcome: over a table that is handed in, bytes have exactly one of a unit at the front and a
+/// break, at one place for one reason. Over an abbreviation section they have exactly one of a unit at
+/// the front and a first fault, in one section, at one place, for one reason.
 pub fn one_outcome()
     ensures trees { (k : Ctx) (t : Table) (room : ℕ) → OneAnswer (tree k t room) }
+    ensures one_break { OneBreak }
+    ensures not_unit_and_break { NotUnitAndBreak }
+    ensures unit_or_break { UnitOrBreak }
     ensures fault { OneFault }
     ensures not_both { NotBoth }
     ensures some { SomeAnswer }
 {}
 
-/// Outcomes are stable: a fault whose reason isn't `Truncated` stays whatever bytes follow, and a
-/// proper front of a unit is `Truncated`.
+/// Outcomes are stable: a unit at the front stays whatever bytes follow, and so does a break or a fault
+/// whose reason isn't `Truncated`. A proper front of a unit is `Truncated`.
 pub fn outcomes_are_stable()
     ensures trees { (k : Ctx) (t : Table) (room : ℕ) → Stays (tree k t room).Break }
+    ensures fronts_stay { FrontsStay }
     ensures breaks { BreaksStay }
-    ensures faults { FaultsStay }
     ensures fronts { FrontsAreCut }
+    ensures units { UnitsStay }
+    ensures faults { FaultsStay }
+    ensures truncated { FrontsAreTruncated }
 {}
 
-/// The round trip: what is read where a unit was written, over its table, is that unit with every
-/// width, and never a fault; and the bytes that a unit was read from are the unit's one spelling,
-/// which is what is written of it.
+/// Where a header's table stands in the abbreviation section at the header's offset, a unit over that
+/// table is one over the section, and a break over that table is the fault over the section.
+pub fn tables_of_sections()
+    ensures units { UnitsOverSections }
+    ensures breaks { BreaksAreFaults }
+{}
+
+/// The round trip: the bytes of a unit are read as that unit with every width, whatever follows, where
+/// its table stands; and the bytes that a unit was read from are the unit's one spelling, which is what
+/// is written of it.
 pub fn round_trip()
-    ensures written_then_read { WrittenThenRead }
-    ensures never_refused { WrittenIsRead }
-    ensures read_then_written { ReadThenWritten }
+    ensures written_is_read { WrittenIsRead }
+    ensures read_is_written { ReadIsWritten }
 {}
 
-/// Offsets are distinct: two entries of a tree have two offsets.
+/// Offsets: an entry is lent exactly where a path of child numbers leads to it from the root, at that
+/// path's offset, and at a level of the path's length and one. Among the unit's bytes those of the entry,
+/// with all below it, stand from its offset to its end (section 7.5.2).
+pub fn entries_are_by_paths()
+    ensures paths { LentByPaths }
+    ensures spelled { LentAreSpelled }
+{}
+
+/// Offsets are distinct: two entries that are lent have two offsets, and the entries are lent in the
+/// order of these; two paths lead to two offsets.
 pub fn offsets_are_distinct()
-    ensures { OneOffset }
+    ensures entries { OneOffset }
+    ensures rise { OffsetsRise }
+    ensures paths { OnePath }
 {}

@@ -15,7 +15,7 @@ mod unit;
 mod writer;
 
 pub use builder::UnitBuilder;
-pub use draft::Draft;
+pub use draft::{Draft, most_levels};
 pub use dw_header::{Header, Kind, read_header};
 pub use dw_tree::{AttrRef, Attrs, Children, Entries, EntryRef};
 pub use reader::read_unit;

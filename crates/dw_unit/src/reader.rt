@@ -1,6 +1,8 @@
 //! Reading a unit.
-ghost use Rattle.std.specs.Prelude.{◌≡◌, ◌≤◌, ◌-◌, ◌^◌, length, IfOk, IfErr};
-ghost use Rattle.dw_unit.specs.WholeUnit.{UnitAt, TellsFault, unit_error_of};
+ghost use Rattle.std.specs.Prelude.{◌≡◌, ◌≤◌, ◌-◌, ◌^◌, length, ℕ, IfOk, IfErr};
+ghost use Rattle.dw_unit.specs.Unit.{WholeUnit, UnitAt};
+ghost use Rattle.dw_abbrev.specs.Tells.{refused_memory};
+ghost use Rattle.dw_unit.specs.UnitView.{TellsFault, FaultWithin, NamesTable, unit_error_of};
 ghost use Rattle.dw_unit.specs.Told.{IsNear};
 
 use crate::bad::BodyError;
@@ -12,13 +14,15 @@ use dw_leb::{Fault, Order, ReadError, Section};
 use std::alloc::Global;
 
 /// The unit at the front of `b`, and the count of its bytes: exactly the length field and the
-/// unit_length that it holds. What stands behind them isn't looked at.
+/// unit_length that it holds. What stands behind them isn't looked at. Where a unit stands at the front,
+/// it is answered, or `NoMemory`.
 ///
 /// A fault is the first one, in this order: the fields of the header; the abbreviation table (its
 /// section is `.debug_abbrev`, its offset counts from that section's first byte); the entries and
 /// the padding. In `.debug_info` the offset is that of the first byte of the broken field, counted
-/// from the first byte of `b`. The unit_length is never compared with the count of bytes in `b`.
-/// `NoMemory` is answered where a growth was refused. Never `Io`.
+/// from the first byte of `b`, and at most the count of its bytes. The unit_length is never compared
+/// with that count. `NoMemory` is answered where a growth was refused, and only where a header is there
+/// and the offset of its table lies in `.debug_abbrev`. Never `Io`.
 pub fn read_unit(
     alloc: Global,
     order: Order,
@@ -26,7 +30,10 @@ pub fn read_unit(
     b: &[u8],
 ) -> Result<(Unit, usize), ReadError>
     ensures found { IfOk result (λ x. UnitAt tables.old order b.now x.0 x.1) }
+    ensures only { (u : WholeUnit) (size : ℕ) → UnitAt tables.old order b.now u size → IfOk result (λ x. (x.0 ≡ u) × (x.1 ≡ size)) × IfErr result (λ e. e ≡ refused_memory) }
     ensures broken { IfErr result (TellsFault tables.old order b.now) }
+    ensures near { IfErr result (FaultWithin (length b.now)) }
+    ensures memory { IfErr result (λ e. e ≡ refused_memory → NamesTable tables.old order b.now) }
     ensures tables { tables.new ≡ tables.old }
     ensures room { IfOk result (λ x. x.1 ≤ length b.now) }
 {
@@ -36,7 +43,7 @@ pub fn read_unit(
     };
     let table = tables.get(header.abbrev_offset())?;
     let at = header.size();
-    let left = unit_length - (at - header.format().length_size() as u64);
+    let left = header.format().length_size() as u64 + unit_length - at;
     let rest = &b[at as usize..];
     match body_at(alloc, header.context(), table, at, rest, left) {
         Ok((body, more)) => {

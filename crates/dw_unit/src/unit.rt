@@ -2,7 +2,8 @@
 ghost use Rattle.std.specs.Prelude.{◌≡◌, ◌≢◌, ◌↔◌, length, None, Some, IfSome};
 ghost use Rattle.std.specs.List.{All, Contains};
 ghost use Rattle.dw_tree.specs.Lent.{EntryAt, root_of, entries_of, find_at};
-ghost use Rattle.dw_unit.specs.WholeUnit.{IsUnit, bytes_of, tree_of};
+ghost use Rattle.dw_unit.specs.Unit.{UnitFits, bytes_of, tree_of};
+ghost use Rattle.dw_unit.specs.UnitView.{IsUnit};
 
 use crate::body::Body;
 use dw_header::Header;
@@ -20,7 +21,8 @@ pub struct Unit {
 }
 
 impl Model for Unit {
-    ghost use Rattle.dw_unit.specs.WholeUnit.{WholeUnit, unit_code, IsUnit};
+    ghost use Rattle.dw_unit.specs.Unit.{WholeUnit};
+    ghost use Rattle.dw_unit.specs.UnitView.{unit_code, IsUnit};
 
     ghost Value = { WholeUnit };
 
@@ -52,9 +54,10 @@ impl Unit {
         self.header
     }
 
-    /// The count of bytes of the unit's spelling, the initial length included.
+    /// The count of bytes of the unit's spelling, which each unit has, the initial length included.
     pub fn size(&self) -> u64
-        ensures { result ≡ length (bytes_of self.now) }
+        ensures size { result ≡ length (bytes_of self.now) }
+        ensures fits { UnitFits self.now }
     {
         self.size
     }

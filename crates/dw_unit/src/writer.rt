@@ -1,8 +1,9 @@
 //! Writing a unit.
-ghost use Rattle.std.specs.Prelude.{◌≡◌, ◌≤◌, ◌++◌, None};
+ghost use Rattle.std.specs.Prelude.{◌≡◌, ◌++◌, ℕ, List, length, None};
 ghost use Rattle.dw_leb.specs.Watch.{inner_of, fault_of, told_by_write, Wrote};
+ghost use Rattle.dw_abbrev.specs.Table.{TableAt};
 ghost use Rattle.dw_tree.specs.Tree.{nulls, AreNulls};
-ghost use Rattle.dw_unit.specs.WholeUnit.{bytes_of};
+ghost use Rattle.dw_unit.specs.Unit.{bytes_of, UnitFits, ReadAs};
 
 use crate::unit::Unit;
 use dw_header::write_header;
@@ -10,14 +11,20 @@ use dw_leb::{Watched, WriteError};
 use dw_tree::write_null;
 use std::io::Write;
 
-/// Writes the unit: exactly its one spelling, each number in the width that it holds. It takes no
-/// memory. After an error a beginning of the unit was written (section 7.5).
+/// Writes the unit: exactly its one spelling, each number in the width that it holds (section 7.5). It
+/// takes no memory. After an error a beginning of the unit was written.
+///
+/// What is written is read back as this unit, whatever follows it, over an abbreviation section that holds
+/// its table at the header's offset: the unit stands there, no other one does, and there is no fault.
 ///
 /// Errors: `Io` with the kind of the writer's failure, `WriteZero` where it took no byte of some.
 pub fn write_unit<W: Write>(unit: &Unit, writer: &mut Watched<W>) -> Result<(), WriteError>
     requires { fault_of writer.old ≡ None }
     ensures written { Wrote (W.contents (inner_of writer.old)) (W.contents (inner_of writer.new)) (bytes_of unit.now) result }
     ensures fault { fault_of writer.new ≡ told_by_write result }
+    ensures fits { UnitFits unit.now }
+    ensures read_back { (section rest : List ℕ) → TableAt section unit.now.header.abbrev_offset unit.now.table
+        → ReadAs section unit.now.header.order (bytes_of unit.now ++ rest) unit.now (length (bytes_of unit.now)) }
 {
     let header = unit.header;
     let behind = unit.size - header.format().length_size() as u64;

@@ -1,8 +1,8 @@
 //! Blocks of which the announced length is far more than their unit or the input holds: refused
 //! before anything grows. No allocator gives 2^62 bytes, so a reader that asked for them first would
 //! answer that there is no memory.
-use crate::common::{in_info, refusal};
-use dw_leb::{Order, Reason};
+use crate::common::refuses;
+use dw_leb::Reason;
 
 /// One declaration: code 1, DW_TAG_compile_unit, no children, DW_AT_const_value as DW_FORM_block4.
 const BLOCK4: [u8; 8] = [0x01, 0x11, 0, 0x1c, 0x04, 0, 0, 0];
@@ -39,10 +39,16 @@ const ENDLESS_UNIT: [u8; 35] = [
 
 #[test]
 fn announced_blocks(rt: HostRuntime) {
-    let past_unit = in_info(13, Reason::PastUnit);
-    assert!(rt; refusal(rt.alloc(), Order::Little, &BLOCK4, &FOUR_GIGABYTES) == past_unit);
-    assert!(rt; refusal(rt.alloc(), Order::Little, &BLOCK, &ENDLESS) == past_unit);
-    assert!(rt; refusal(rt.alloc(), Order::Little, &INDIRECT, &ENDLESS_INDIRECT) == past_unit);
-    let truncated = in_info(25, Reason::Truncated);
-    assert!(rt; refusal(rt.alloc(), Order::Little, &BLOCK, &ENDLESS_UNIT) == truncated);
+    for (section, bytes, fault) in [
+        (BLOCK4, FOUR_GIGABYTES.as_slice(), (13, Reason::PastUnit)),
+        (BLOCK, ENDLESS.as_slice(), (13, Reason::PastUnit)),
+        (
+            INDIRECT,
+            ENDLESS_INDIRECT.as_slice(),
+            (13, Reason::PastUnit),
+        ),
+        (BLOCK, ENDLESS_UNIT.as_slice(), (25, Reason::Truncated)),
+    ] {
+        refuses(&rt, rt.alloc(), &section, bytes, fault);
+    }
 }

@@ -1,10 +1,10 @@
 //! Sections, units and calls that several tests begin with.
 use dw_abbrev::Tables;
-use dw_form::{AttrValue, Value};
-use dw_leb::{Fault, Order, ReadError, Reason, Section, Watched, WriteError};
-use dw_unit::{AttrRef, Refusal, Unit, UnitBuilder, read_unit, write_unit};
+use dw_leb::{Fault, Format, Order, ReadError, Reason, Section, Watched, WriteError};
+use dw_unit::{Header, Kind, Refusal, Unit, UnitBuilder, read_unit, write_unit};
 use std::alloc::Global;
 use std::process::Abort;
+use std::test::Fail;
 
 /// One declaration: code 1, DW_TAG_compile_unit, no children, DW_AT_name as DW_FORM_string.
 pub const NAMED: [u8; 8] = [0x01, 0x11, 0, 0x03, 0x08, 0, 0, 0];
@@ -40,11 +40,21 @@ pub const PADDED: [u8; 23] = [
 /// Code 1, DW_TAG_compile_unit, children, no attributes.
 pub const BARE: [u8; 6] = [0x01, 0x11, 1, 0, 0, 0];
 
-/// A little-endian unit at the front of `b`, over the table that its header names in `section`, and the
-/// count of its bytes.
-pub fn little(alloc: Global, section: &[u8], b: &[u8]) -> Result<(Unit, usize), ReadError> {
+/// The unit at the front of `b`, over the table that its header names in `section`, and the count of its
+/// bytes.
+pub fn read(
+    alloc: Global,
+    order: Order,
+    section: &[u8],
+    b: &[u8],
+) -> Result<(Unit, usize), ReadError> {
     let mut tables = Tables::new(alloc, section);
-    read_unit(alloc, Order::Little, &mut tables, b)
+    read_unit(alloc, order, &mut tables, b)
+}
+
+/// The same in little-endian.
+pub fn little(alloc: Global, section: &[u8], b: &[u8]) -> Result<(Unit, usize), ReadError> {
+    read(alloc, Order::Little, section, b)
 }
 
 /// The fault for which a unit at the front of `b` is refused. None where it is read, and where memory is
@@ -73,25 +83,34 @@ pub fn written(alloc: Global, unit: &Unit) -> Result<Vec<u8>, WriteError> {
     Ok(writer.into_inner())
 }
 
-/// The bytes of a text.
-pub fn text_of<'a>(attr: &AttrRef<'a>) -> Option<&'a [u8]> {
-    match attr.attr.value {
-        Value::Text(text) => Some(text),
-        _ => None,
-    }
+/// The unit is written as these bytes.
+pub fn writes(rt: &impl Abort, alloc: Global, unit: &Unit, want: &[u8]) -> Result<(), WriteError> {
+    let bytes = written(alloc, unit)?;
+    same(rt, bytes.as_slice(), want);
+    Ok(())
 }
 
-/// A fixed number of at most eight bytes.
-pub fn number_of(attr: &AttrRef<'_>) -> Option<u64> {
-    match attr.attr.value {
-        Value::Num(number) => Some(number),
-        _ => None,
-    }
+/// Whether the unit is written as these bytes. It is for rows of a table, where an assertion names the row.
+pub fn spells(alloc: Global, unit: &Unit, bytes: &[u8]) -> Result<bool, WriteError> {
+    Ok(written(alloc, unit)?.as_slice() == bytes)
 }
 
-/// A value that names no form of its own.
-pub fn direct(value: Value<'_>) -> AttrValue<'_> {
-    AttrValue { via: None, value }
+/// A little-endian unit at the front of `b` is refused for this fault in `.debug_info`.
+pub fn refuses(
+    rt: &impl Abort,
+    alloc: Global,
+    section: &[u8],
+    b: &[u8],
+    (offset, reason): (u64, Reason),
+) {
+    assert!(rt; refusal(alloc, Order::Little, section, b) == in_info(offset, reason));
+}
+
+/// A builder of a little-endian compile unit over the table at the front of the section.
+pub fn builder(alloc: Global, section: &[u8], format: Format) -> Result<UnitBuilder, Fail> {
+    let header = Header::new(Order::Little, format, Kind::Compile, 8, 0).ok_or("no header")?;
+    let table = Tables::new(alloc, section).get(0)?;
+    Ok(UnitBuilder::new(alloc, header, table))
 }
 
 /// The unit of a builder, or why there is none.

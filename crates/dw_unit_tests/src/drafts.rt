@@ -4,39 +4,38 @@
 ghost use Rattle.std.specs.Prelude.{IsTrue};
 ghost use Rattle.dw_unit.specs.Draft.{BegunFits, BegunShort};
 
-use crate::common::{PADDED, TYPED, same, written};
-use dw_abbrev::{Table, Tables};
+use crate::common::{PADDED, TYPED, builder, finished, same, writes};
+use dw_abbrev::Tables;
 use dw_form::{AttrValue, Value, fits, size_of};
 use dw_leb::{Format, Order, Uleb};
 use dw_unit::{Draft, Header, Kind, Unit, UnitBuilder};
 use std::alloc::Global;
-use std::rc::Rc;
+use std::process::Abort;
 use std::test::Fail;
 
-fn table(alloc: Global) -> Result<Rc<Table>, Fail> {
-    Ok(Tables::new(alloc, &TYPED).get(0)?)
-}
-
-fn header() -> Result<Header, Fail> {
-    Ok(Header::new(Order::Little, Format::Dwarf32, Kind::Compile, 8, 0).ok_or("no header")?)
+/// A draft of a compile unit over the table of a root and a child.
+fn drafted(alloc: Global) -> Result<Draft, Fail> {
+    let header = Header::new(Order::Little, Format::Dwarf32, Kind::Compile, 8, 0).ok_or(
+        "no header",
+    )?;
+    let table = Tables::new(alloc, &TYPED).get(0)?;
+    Ok(Draft::new(alloc, header, table))
 }
 
 fn name() -> AttrValue<'static> {
-    AttrValue {
-        via: None,
-        value: Value::Text(&[0x61]),
-    }
+    AttrValue::from(Value::Text(&[0x61]))
 }
 
 fn four() -> AttrValue<'static> {
-    AttrValue {
-        via: None,
-        value: Value::Num(4),
-    }
+    AttrValue::from(Value::Num(4))
+}
+
+/// The code 1 in two bytes.
+fn wide_one() -> Result<Uleb, Fail> {
+    Ok(Uleb::with_width(1, 2).ok_or("no such width")?)
 }
 
 /// An entry of this code begins, where one can.
-#[tactic(auto, using(dw_tree::specs::Levels::nesting_is))]
 fn begun(draft: &mut Draft, code: Uleb) -> Result<(), Fail> {
     if draft.next_pair().is_some() {
         return Err("an entry is read".into());
@@ -45,7 +44,8 @@ fn begun(draft: &mut Draft, code: Uleb) -> Result<(), Fail> {
         return Err("an unknown code".into());
     }
     let depth = draft.depth();
-    if depth >= 256 || (depth == 0 && !draft.is_empty()) || draft.is_too_long(code.width as u64) {
+    let is_second_root = depth == 0 && !draft.is_empty();
+    if !draft.has_level() || is_second_root || draft.is_too_long(code.width as u64) {
         return Err("no place".into());
     }
     if draft.begin(code).is_err() {
@@ -151,120 +151,164 @@ fn padded(draft: &mut Draft, width: u8) -> Result<(), Fail> {
     Ok(())
 }
 
-fn finished(draft: Draft) -> Result<Unit, Fail> {
+fn whole(draft: Draft) -> Result<Unit, Fail> {
     if draft.next_pair().is_some() || draft.depth() != 0 || draft.is_empty() {
         return Err("no closed root".into());
     }
     Ok(draft.finish())
 }
 
-/// The same unit by a builder.
-fn built(alloc: Global) -> Result<Unit, Fail> {
-    let mut builder = UnitBuilder::new(alloc, header()?, table(alloc)?);
-    let code = Uleb::with_width(1, 2).ok_or("no such width")?;
-    builder.open(code, &[name()])?;
+/// Behind the root's name, its child of the size 4, their null in two bytes, and nulls of one and two bytes.
+fn child_and_padding(draft: &mut Draft) -> Result<(), Fail> {
+    begun(draft, Uleb::least(2))?;
+    given(draft, four())?;
+    closed(draft, 2)?;
+    padded(draft, 1)?;
+    padded(draft, 2)
+}
+
+/// The draft is whole, and its unit is the padded one.
+fn is_the_padded(rt: &impl Abort, alloc: Global, draft: Draft) -> Result<(), Fail> {
+    let unit = whole(draft)?;
+    assert!(rt; unit.size() == 23);
+    Ok(writes(rt, alloc, &unit, &PADDED)?)
+}
+
+/// The same unit by the calls of a builder.
+fn builds(builder: &mut UnitBuilder) -> Result<(), Fail> {
+    builder.open(wide_one()?, &[name()])?;
     builder.open(Uleb::least(2), &[four()])?;
     builder.close(2)?;
     builder.pad(1)?;
     builder.pad(2)?;
-    match builder.finish() {
-        Ok(unit) => Ok(unit),
-        Err((refusal, _)) => Err(refusal.into()),
-    }
+    Ok(())
+}
+
+fn is_built(rt: &impl Abort, alloc: Global) -> Result<(), Fail> {
+    let mut builder = builder(alloc, &TYPED, Format::Dwarf32)?;
+    builds(&mut builder)?;
+    let unit = finished(builder)?;
+    Ok(writes(rt, alloc, &unit, &PADDED)?)
+}
+
+/// The draft has so many bytes, and no entry yet.
+fn is_empty_of(rt: &impl Abort, draft: &Draft, size: u64) {
+    assert!(rt; draft.size() == size);
+    assert!(rt; draft.is_empty() == true);
+}
+
+/// A root and its child begin, with the depth after each step.
+fn goes_down(rt: &impl Abort, draft: &mut Draft) -> Result<(), Fail> {
+    is_empty_of(rt, draft, 12);
+    begun(draft, wide_one()?)?;
+    is_empty_of(rt, draft, 14);
+    given(draft, name())?;
+    assert!(rt; draft.depth() == 1);
+    begun(draft, Uleb::least(2))?;
+    given(draft, four())?;
+    assert!(rt; draft.depth() == 1);
+    Ok(())
+}
+
+/// The root is closed, and padded.
+fn comes_up(rt: &impl Abort, draft: &mut Draft) -> Result<(), Fail> {
+    closed(draft, 2)?;
+    assert!(rt; draft.depth() == 0);
+    assert!(rt; draft.is_empty() == false);
+    padded(draft, 1)?;
+    padded(draft, 2)?;
+    assert!(rt; draft.size() == 23);
+    Ok(())
 }
 
 #[test]
 fn a_unit_step_by_step(rt: HostRuntime) -> Result<(), Fail> {
-    let mut draft = Draft::new(rt.alloc(), header()?, table(rt.alloc())?);
-    assert!(rt; draft.size() == 12);
-    assert!(rt; draft.is_empty() == true);
-    begun(&mut draft, Uleb::with_width(1, 2).ok_or("no such width")?)?;
+    is_built(&rt, rt.alloc())?;
+    let mut draft = drafted(rt.alloc())?;
+    goes_down(&rt, &mut draft)?;
+    comes_up(&rt, &mut draft)?;
+    is_the_padded(&rt, rt.alloc(), draft)
+}
+
+/// The root's name is given in two pieces, of which the first is empty.
+fn is_named_in_pieces(rt: &impl Abort, draft: &mut Draft) -> Result<(), Fail> {
+    begun(draft, wide_one()?)?;
+    started(draft)?;
+    lengthened(draft, &[])?;
+    same(rt, draft.content(), &[]);
+    lengthened(draft, &[0x61])?;
+    same(rt, draft.content(), &[0x61]);
+    let text = draft
+        .begun()
+        .map(|begun| begun.value == Value::Text(&[0x61]));
+    assert!(rt; text == Some(true));
     assert!(rt; draft.size() == 14);
-    assert!(rt; draft.is_empty() == true);
-    given(&mut draft, name())?;
-    assert!(rt; draft.depth() == 1);
-    begun(&mut draft, Uleb::least(2))?;
-    given(&mut draft, four())?;
-    assert!(rt; draft.depth() == 1);
-    closed(&mut draft, 2)?;
-    assert!(rt; draft.depth() == 0);
-    assert!(rt; draft.is_empty() == false);
-    padded(&mut draft, 1)?;
-    padded(&mut draft, 2)?;
-    assert!(rt; draft.size() == 23);
-    let unit = finished(draft)?;
-    assert!(rt; unit.size() == 23);
-    same(&rt, written(rt.alloc(), &unit)?.as_slice(), &PADDED);
-    let other = built(rt.alloc())?;
-    same(&rt, written(rt.alloc(), &other)?.as_slice(), &PADDED);
+    ended(draft)?;
+    assert!(rt; draft.begun().is_none() == true);
+    assert!(rt; draft.size() == 16);
+    Ok(())
+}
+
+/// An entry is taken back in the middle of its name, of which nothing is kept.
+fn takes_a_name_back(rt: &impl Abort, draft: &mut Draft) -> Result<(), Fail> {
+    begun(draft, Uleb::least(1))?;
+    started(draft)?;
+    lengthened(draft, &[0x62, 0x63])?;
+    draft.undo();
+    same(rt, draft.content(), &[0x61]);
     Ok(())
 }
 
 #[test]
 fn a_name_in_pieces(rt: HostRuntime) -> Result<(), Fail> {
-    let mut draft = Draft::new(rt.alloc(), header()?, table(rt.alloc())?);
-    begun(&mut draft, Uleb::with_width(1, 2).ok_or("no such width")?)?;
-    started(&mut draft)?;
-    lengthened(&mut draft, &[])?;
-    assert!(rt; draft.content() == [].as_slice());
-    lengthened(&mut draft, &[0x61])?;
-    assert!(rt; draft.content() == [0x61].as_slice());
-    assert!(rt;
-        draft
-            .begun()
-            .map(|begun| begun.value == Value::Text(&[0x61]))
-            == Some(true)
-    );
-    assert!(rt; draft.size() == 14);
-    ended(&mut draft)?;
-    assert!(rt; draft.begun().is_none() == true);
-    assert!(rt; draft.size() == 16);
-    begun(&mut draft, Uleb::least(1))?;
-    started(&mut draft)?;
-    lengthened(&mut draft, &[0x62, 0x63])?;
-    draft.undo();
-    assert!(rt; draft.content() == [0x61].as_slice());
-    begun(&mut draft, Uleb::least(2))?;
-    given(&mut draft, four())?;
-    closed(&mut draft, 2)?;
-    padded(&mut draft, 1)?;
-    padded(&mut draft, 2)?;
-    let unit = finished(draft)?;
-    same(&rt, written(rt.alloc(), &unit)?.as_slice(), &PADDED);
+    let mut draft = drafted(rt.alloc())?;
+    is_named_in_pieces(&rt, &mut draft)?;
+    takes_a_name_back(&rt, &mut draft)?;
+    child_and_padding(&mut draft)?;
+    is_the_padded(&rt, rt.alloc(), draft)
+}
+
+fn cannot_end(rt: &impl Abort, draft: &mut Draft) -> Result<(), Fail> {
+    begun(draft, Uleb::least(1))?;
+    started(draft)?;
+    lengthened(draft, &[0x61, 0])?;
+    assert!(rt; !can_end(draft));
+    same(rt, draft.content(), &[0x61, 0]);
     Ok(())
 }
 
 /// A text that holds a zero byte doesn't fit.
 #[test]
 fn a_wrong_name_in_pieces(rt: HostRuntime) -> Result<(), Fail> {
-    let mut draft = Draft::new(rt.alloc(), header()?, table(rt.alloc())?);
-    begun(&mut draft, Uleb::least(1))?;
-    started(&mut draft)?;
-    lengthened(&mut draft, &[0x61, 0])?;
-    assert!(rt; !can_end(&draft));
-    assert!(rt; draft.content() == [0x61, 0].as_slice());
-    Ok(())
+    let mut draft = drafted(rt.alloc())?;
+    cannot_end(&rt, &mut draft)
 }
 
-#[test]
-fn an_entry_is_taken_back(rt: HostRuntime) -> Result<(), Fail> {
-    let mut draft = Draft::new(rt.alloc(), header()?, table(rt.alloc())?);
-    begun(&mut draft, Uleb::least(1))?;
+/// The root begins and is taken back before its name.
+fn takes_the_root_back(rt: &impl Abort, draft: &mut Draft) -> Result<(), Fail> {
+    begun(draft, Uleb::least(1))?;
     let pair = draft.next_pair().ok_or("no entry is read")?;
     assert!(rt; pair.form.value == 0x08);
     draft.undo();
     assert!(rt; draft.size() == 12);
     assert!(rt; draft.next_pair() == None);
-    begun(&mut draft, Uleb::with_width(1, 2).ok_or("no such width")?)?;
-    given(&mut draft, name())?;
-    begun(&mut draft, Uleb::least(1))?;
-    draft.undo();
-    begun(&mut draft, Uleb::least(2))?;
-    given(&mut draft, four())?;
-    closed(&mut draft, 2)?;
-    padded(&mut draft, 1)?;
-    padded(&mut draft, 2)?;
-    let unit = finished(draft)?;
-    same(&rt, written(rt.alloc(), &unit)?.as_slice(), &PADDED);
     Ok(())
+}
+
+/// The root, and an entry in its child's place that is taken back.
+fn takes_a_child_back(draft: &mut Draft) -> Result<(), Fail> {
+    begun(draft, wide_one()?)?;
+    given(draft, name())?;
+    begun(draft, Uleb::least(1))?;
+    draft.undo();
+    Ok(())
+}
+
+#[test]
+fn an_entry_is_taken_back(rt: HostRuntime) -> Result<(), Fail> {
+    let mut draft = drafted(rt.alloc())?;
+    takes_the_root_back(&rt, &mut draft)?;
+    takes_a_child_back(&mut draft)?;
+    child_and_padding(&mut draft)?;
+    is_the_padded(&rt, rt.alloc(), draft)
 }

@@ -1,7 +1,7 @@
 //! What no clause says: the root of units whose bytes and offsets come from the standard.
-use crate::common::little;
-use dw_form::Value;
-use dw_unit::EntryRef;
+use crate::common::{little};
+use dw_unit::{EntryRef, Unit};
+use std::process::Abort;
 use std::test::Fail;
 
 /// Code 1, tag 0x11, no children: a name as a string, a size in one byte, an indirect form, a flag
@@ -21,7 +21,10 @@ const LONG: [u8; 46] = [
     4, 5, 6, 7, 8, 40, 0, 0, 0, 0, 0, 0, 0, 1, 0, 42, 0x0f, 0x05, 0,
 ];
 
-fn places(root: &EntryRef<'_>) -> [(u64, u64, u64); 5] {
+/// The name, the form and the offset of each attribute.
+type Places = [(u64, u64, u64); 5];
+
+fn places(root: &EntryRef<'_>) -> Places {
     let mut found = [(0, 0, 0); 5];
     let mut at = 0;
     for attr in root.attrs() {
@@ -33,51 +36,50 @@ fn places(root: &EntryRef<'_>) -> [(u64, u64, u64); 5] {
     found
 }
 
+/// The root stands there, its code has so many bytes, and its attributes are these.
+fn has_a_root(rt: &impl Abort, unit: &Unit, offset: u64, width: u8, attributes: Places) {
+    let root = unit.root();
+    assert!(rt; (root.offset(), root.depth(), root.tag()) == (offset, 1, 0x11));
+    assert!(rt; (root.code().value, root.code().width) == (1, width));
+    assert!(rt; places(&root) == attributes);
+}
+
 #[test]
 fn lends_a_root(rt: HostRuntime) -> Result<(), Fail> {
+    let attributes = [
+        (3, 8, 14),
+        (0x0b, 0x0b, 16),
+        (0x10, 0x0f, 17),
+        (0x3f, 0x19, 20),
+        (0x1c, 0x21, 20),
+    ];
     let (unit, _) = little(rt.alloc(), &DECLARED, &SHORT)?;
-    let root = unit.root();
-    assert!(rt; (root.offset(), root.depth(), root.tag()) == (12, 1, 0x11));
-    assert!(rt; (root.code().value, root.code().width) == (1, 2));
-    assert!(rt;
-        places(&root)
-            == [
-                (3, 8, 14),
-                (0x0b, 0x0b, 16),
-                (0x10, 0x0f, 17),
-                (0x3f, 0x19, 20),
-                (0x1c, 0x21, 20)
-            ]
-    );
+    has_a_root(&rt, &unit, 12, 2, attributes);
     Ok(())
 }
 
 #[test]
 fn lends_behind_a_long_header(rt: HostRuntime) -> Result<(), Fail> {
+    let attributes = [
+        (3, 8, 41),
+        (0x0b, 0x0b, 42),
+        (0x10, 0x0f, 43),
+        (0x3f, 0x19, 45),
+        (0x1c, 0x21, 45),
+    ];
     let (unit, _) = little(rt.alloc(), &DECLARED, &LONG)?;
-    let root = unit.root();
-    assert!(rt; (root.offset(), root.depth(), root.tag()) == (40, 1, 0x11));
-    assert!(rt;
-        places(&root)
-            == [
-                (3, 8, 41),
-                (0x0b, 0x0b, 42),
-                (0x10, 0x0f, 43),
-                (0x3f, 0x19, 45),
-                (0x1c, 0x21, 45)
-            ]
-    );
+    has_a_root(&rt, &unit, 40, 1, attributes);
+    Ok(())
+}
+
+fn has_a_name(rt: &impl Abort, unit: &Unit) -> Result<(), Fail> {
+    let first = unit.root().attrs().next().ok_or("no attribute")?;
+    assert!(rt; first.attr.as_text() == Some(b"a".as_slice()));
     Ok(())
 }
 
 #[test]
 fn lends_values(rt: HostRuntime) -> Result<(), Fail> {
     let (unit, _) = little(rt.alloc(), &DECLARED, &SHORT)?;
-    let mut attrs = unit.root().attrs();
-    let first = attrs.next().ok_or("no attribute")?;
-    match first.attr.value {
-        Value::Text(text) => assert!(rt; text == b"a".as_slice()),
-        _ => return Err("no text".into()),
-    }
-    Ok(())
+    has_a_name(&rt, &unit)
 }

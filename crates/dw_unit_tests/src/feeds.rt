@@ -3,7 +3,7 @@
 ghost use Rattle.std.specs.Prelude.{◌≡◌, None};
 ghost use Rattle.dw_leb.specs.Watch.{fault_of, told_by_read};
 
-use crate::common::{FIFTEEN, NAMED, SIXTY_FOUR, TYPED, WITH_A_CHILD, same, text_of};
+use crate::common::{FIFTEEN, NAMED, SIXTY_FOUR, TYPED, same};
 use dw_abbrev::Tables;
 use dw_feed::{read_unit_from, unit_bytes};
 use dw_leb::devices::Stepped;
@@ -11,13 +11,8 @@ use dw_leb::{Fault, Order, ReadError, Reason, Section, Watched};
 use dw_unit::Unit;
 use std::alloc::{AllocError, Global};
 use std::io::{ErrorKind, Read};
+use std::process::Abort;
 use std::test::Fail;
-
-fn followed(alloc: Global, front: &[u8], rest: &[u8]) -> Result<Vec<u8>, AllocError> {
-    let mut bytes = Vec::from_slice(alloc, front)?;
-    bytes.extend_from_slice(rest)?;
-    Ok(bytes)
-}
 
 fn little<R: Read>(
     alloc: Global,
@@ -29,6 +24,18 @@ fn little<R: Read>(
 {
     let mut tables = Tables::new(alloc, section);
     read_unit_from(alloc, Order::Little, &mut tables, reader)
+}
+
+/// The unit at the front of the bytes, of which the reader gives `step` a call, and what it leaves.
+fn stepped<'a>(
+    alloc: Global,
+    section: &[u8],
+    bytes: &'a [u8],
+    step: usize,
+) -> Result<(Unit, &'a [u8]), ReadError> {
+    let mut reader = Watched::new(Stepped::new(bytes, step));
+    let unit = little(alloc, section, &mut reader)?;
+    Ok((unit, *reader.into_inner().inner()))
 }
 
 /// The fault in `.debug_info` that bytes have, one byte a call, and how many of them are left.
@@ -51,160 +58,216 @@ fn refused(alloc: Global, order: Order, section: &[u8], b: &[u8]) -> Option<(u64
 
 fn name_of<'a>(unit: &'a Unit) -> Option<&'a [u8]> {
     let first = unit.root().attrs().next()?;
-    text_of(&first)
+    first.attr.as_text()
 }
 
-#[test]
-fn reads_the_fifteen_bytes(rt: HostRuntime) -> Result<(), Fail> {
-    let alloc = rt.alloc();
-    let bytes = followed(alloc, &FIFTEEN, &[0xff, 0xff])?;
-    for step in [1, 2, 4, 14, 15, 16, 17, 4096] {
-        let mut reader = Watched::new(Stepped::new(bytes.as_slice(), step));
-        let unit = little(alloc, &NAMED, &mut reader)?;
-        assert!(rt; unit.size() == 15);
-        assert!(rt; (unit.root().offset(), unit.root().tag()) == (12, 0x11));
-        assert!(rt; name_of(&unit) == Some(b"a".as_slice()));
-        assert!(rt; reader.fault() == None);
-        assert!(rt; *reader.into_inner().inner() == [0xff, 0xff].as_slice());
-    }
+/// The fifteen bytes, and two more.
+const FOLLOWED: [u8; 17] = [
+    0x0b, 0, 0, 0, 0x05, 0, 0x01, 0x08, 0, 0, 0, 0, 0x01, 0x61, 0, 0xff, 0xff,
+];
+
+fn is_the_fifteen_bytes(rt: &impl Abort, unit: &Unit) {
+    assert!(rt; unit.size() == 15);
+    assert!(rt; (unit.root().offset(), unit.root().tag()) == (12, 0x11));
+    assert!(rt; name_of(unit) == Some(b"a".as_slice()));
+}
+
+/// A reader that gives so many bytes a call.
+fn reads_in_steps(rt: &impl Abort, alloc: Global, step: usize) -> Result<(), Fail> {
+    let mut reader = Watched::new(Stepped::new(FOLLOWED.as_slice(), step));
+    let unit = little(alloc, &NAMED, &mut reader)?;
+    is_the_fifteen_bytes(rt, &unit);
+    assert!(rt; reader.fault() == None);
+    same(rt, *reader.into_inner().inner(), &[0xff, 0xff]);
     Ok(())
 }
 
 #[test]
-fn reads_a_root_with_a_child(rt: HostRuntime) -> Result<(), Fail> {
-    let alloc = rt.alloc();
-    let bytes = followed(alloc, &WITH_A_CHILD, &[0x02])?;
-    let mut reader = Watched::new(Stepped::new(bytes.as_slice(), 1));
-    let unit = little(alloc, &TYPED, &mut reader)?;
+fn reads_the_fifteen_bytes(rt: HostRuntime) -> Result<(), Fail> {
+    for step in [1, 2, 4, 14, 15, 16, 17, 4096] {
+        reads_in_steps(&rt, rt.alloc(), step)?;
+    }
+    Ok(())
+}
+
+/// A root with a child, and the first byte of what follows.
+const CHILD_FOLLOWED: [u8; 19] = [
+    0x0e, 0, 0, 0, 0x05, 0, 0x01, 0x08, 0, 0, 0, 0, 0x01, 0x61, 0, 0x02, 0x04, 0, 0x02,
+];
+
+fn has_a_child(rt: &impl Abort, unit: &Unit) -> Result<(), Fail> {
     assert!(rt; unit.size() == 18);
     let root = unit.root();
     assert!(rt; (root.offset(), root.end_offset()) == (12, 18));
     let child = root.children().next().ok_or("no child")?;
     assert!(rt; (child.offset(), child.end_offset(), child.tag()) == (15, 17, 0x24));
-    assert!(rt; *reader.into_inner().inner() == [0x02].as_slice());
     Ok(())
 }
+
+#[test]
+fn reads_a_root_with_a_child(rt: HostRuntime) -> Result<(), Fail> {
+    let (unit, left) = stepped(rt.alloc(), &TYPED, &CHILD_FOLLOWED, 1)?;
+    same(&rt, left, &[0x02]);
+    has_a_child(&rt, &unit)
+}
+
+/// A unit of the 64-bit format, and a byte behind it.
+const WIDE_FOLLOWED: [u8; 28] = [
+    0xff, 0xff, 0xff, 0xff, 0x0f, 0, 0, 0, 0, 0, 0, 0, 0x05, 0, 0x01, 0x08, 0, 0, 0, 0, 0, 0, 0, 0,
+    0x01, 0x61, 0, 0xff,
+];
 
 #[test]
 fn reads_the_sixty_four_bit_format(rt: HostRuntime) -> Result<(), Fail> {
-    let alloc = rt.alloc();
-    let bytes = followed(alloc, &SIXTY_FOUR, &[0xff])?;
-    let mut reader = Watched::new(Stepped::new(bytes.as_slice(), 1));
-    let unit = little(alloc, &NAMED, &mut reader)?;
+    let (unit, left) = stepped(rt.alloc(), &NAMED, &WIDE_FOLLOWED, 1)?;
+    same(&rt, left, &[0xff]);
     assert!(rt; (unit.size(), unit.root().offset()) == (27, 24));
-    assert!(rt; *reader.into_inner().inner() == [0xff].as_slice());
     Ok(())
 }
 
-/// A name of 9,000 bytes, so that the unit comes in more than one piece whatever the reader gives.
-#[test]
-fn reads_a_long_unit(rt: HostRuntime) -> Result<(), Fail> {
-    let alloc = rt.alloc();
-    let mut bytes = followed(alloc, &[0x32, 0x23], &FIFTEEN[2..13])?;
+/// A unit whose name has 9,000 bytes, and a byte behind it.
+fn long_unit(alloc: Global) -> Result<Vec<u8>, AllocError> {
+    let head = [0x32, 0x23, 0, 0, 0x05, 0, 0x01, 0x08, 0, 0, 0, 0, 0x01];
+    let mut bytes = Vec::from_slice(alloc, &head)?;
     for _ in 0..9000 {
         bytes.push(0x61)?;
     }
     bytes.extend_from_slice(&[0, 0xff])?;
+    Ok(bytes)
+}
+
+fn reads_long(rt: &impl Abort, alloc: Global, bytes: &[u8], step: usize) -> Result<(), Fail> {
+    let (unit, left) = stepped(alloc, &NAMED, bytes, step)?;
+    same(rt, left, &[0xff]);
+    assert!(rt; unit.size() == 9014);
+    let name = name_of(&unit).ok_or("no name")?;
+    assert!(rt; name.len() == 9000);
+    Ok(())
+}
+
+/// The unit comes in more than one piece whatever the reader gives.
+#[test]
+fn reads_a_long_unit(rt: HostRuntime) -> Result<(), Fail> {
+    let bytes = long_unit(rt.alloc())?;
     for step in [1, 4095, 4096, 4097, 100_000] {
-        let mut reader = Watched::new(Stepped::new(bytes.as_slice(), step));
-        let unit = little(alloc, &NAMED, &mut reader)?;
-        assert!(rt; unit.size() == 9014);
-        let name = name_of(&unit).ok_or("no name")?;
-        assert!(rt; name.len() == 9000);
-        assert!(rt; *reader.into_inner().inner() == [0xff].as_slice());
+        reads_long(&rt, rt.alloc(), bytes.as_slice(), step)?;
     }
     Ok(())
 }
 
+const TWICE: [u8; 30] = [
+    0x0b, 0, 0, 0, 0x05, 0, 0x01, 0x08, 0, 0, 0, 0, 0x01, 0x61, 0, 0x0b, 0, 0, 0, 0x05, 0, 0x01,
+    0x08, 0, 0, 0, 0, 0x01, 0x61, 0,
+];
+
 #[test]
 fn reads_one_unit_and_then_the_next(rt: HostRuntime) -> Result<(), Fail> {
-    let alloc = rt.alloc();
-    let bytes = followed(alloc, &FIFTEEN, &FIFTEEN)?;
-    let mut reader = Watched::new(Stepped::new(bytes.as_slice(), 4));
-    assert!(rt; little(alloc, &NAMED, &mut reader)?.size() == 15);
-    assert!(rt; little(alloc, &NAMED, &mut reader)?.size() == 15);
+    let mut reader = Watched::new(Stepped::new(TWICE.as_slice(), 4));
+    assert!(rt; little(rt.alloc(), &NAMED, &mut reader)?.size() == 15);
+    assert!(rt; little(rt.alloc(), &NAMED, &mut reader)?.size() == 15);
     assert!(rt; reader.into_inner().inner().len() == 0);
     Ok(())
 }
 
 #[test]
 fn tells_where_the_input_ends(rt: HostRuntime) {
-    let alloc = rt.alloc();
-    let little = Order::Little;
-    let cut = refused(alloc, little, &NAMED, &FIFTEEN[..14]);
-    assert!(rt; cut == Some((13, Reason::Truncated, 0)));
-    let header = refused(alloc, little, &NAMED, &FIFTEEN[..5]);
-    assert!(rt; header == Some((4, Reason::Truncated, 0)));
-    let short = refused(alloc, little, &NAMED, &FIFTEEN[..3]);
-    assert!(rt; short == Some((0, Reason::Truncated, 0)));
-    let wide = refused(alloc, little, &NAMED, &SIXTY_FOUR[..11]);
-    assert!(rt; wide == Some((0, Reason::Truncated, 0)));
-    let nothing = refused(alloc, little, &NAMED, &[]);
-    assert!(rt; nothing == Some((0, Reason::Truncated, 0)));
+    for (bytes, offset) in [
+        (&FIFTEEN[..14], 13),
+        (&FIFTEEN[..5], 4),
+        (&FIFTEEN[..3], 0),
+        (&SIXTY_FOUR[..11], 0),
+        (&[], 0),
+    ] {
+        let answer = refused(rt.alloc(), Order::Little, &NAMED, bytes);
+        assert!(rt; answer == Some((offset, Reason::Truncated, 0)));
+    }
 }
 
 /// The unit ends before the null of its children, and before a third entry that would be read as it.
+const WITHOUT_A_NULL: [u8; 19] = [
+    0x0d, 0, 0, 0, 0x05, 0, 0x01, 0x08, 0, 0, 0, 0, 0x01, 0x61, 0, 0x02, 0x04, 0, 0xff,
+];
+
+const OF_VERSION_FOUR: [u8; 17] = [
+    0x0b, 0, 0, 0, 0x04, 0, 0x01, 0x08, 0, 0, 0, 0, 0x01, 0x61, 0, 0xff, 0xff,
+];
+
 #[test]
 fn takes_nothing_past_the_units_end(rt: HostRuntime) {
-    let missing = [
-        0x0d, 0, 0, 0, 0x05, 0, 0x01, 0x08, 0, 0, 0, 0, 0x01, 0x61, 0, 0x02, 0x04, 0, 0xff,
-    ];
-    let answer = refused(rt.alloc(), Order::Little, &TYPED, &missing);
+    let answer = refused(rt.alloc(), Order::Little, &TYPED, &WITHOUT_A_NULL);
     assert!(rt; answer == Some((17, Reason::PastUnit, 2)));
-    let old = [
-        0x0b, 0, 0, 0, 0x04, 0, 0x01, 0x08, 0, 0, 0, 0, 0x01, 0x61, 0, 0xff, 0xff,
-    ];
-    let answer = refused(rt.alloc(), Order::Little, &NAMED, &old);
+    let answer = refused(rt.alloc(), Order::Little, &NAMED, &OF_VERSION_FOUR);
     assert!(rt; matches!(answer, Some((4, Reason::BadVersion, left)) if left >= 2));
 }
 
+const FIRST_RESERVED: [u8; 13] = [0xf0, 0xff, 0xff, 0xff, 1, 2, 3, 4, 5, 6, 7, 8, 9];
+
+const LAST_RESERVED: [u8; 13] = [0xff, 0xff, 0xff, 0xfe, 1, 2, 3, 4, 5, 6, 7, 8, 9];
+
+const TOO_FAR: [u8; 15] = [
+    0xff, 0xff, 0xff, 0xff, 0xff, 0xff, 0xff, 0xff, 0xff, 0xff, 0xff, 0x7f, 1, 2, 3,
+];
+
 #[test]
 fn takes_nothing_past_a_refused_length(rt: HostRuntime) {
-    let alloc = rt.alloc();
-    let first = [0xf0, 0xff, 0xff, 0xff, 1, 2, 3, 4, 5, 6, 7, 8, 9];
-    let answer = refused(alloc, Order::Little, &NAMED, &first);
-    assert!(rt; answer == Some((0, Reason::ReservedLength, 9)));
-    let last = [0xff, 0xff, 0xff, 0xfe, 1, 2, 3, 4, 5, 6, 7, 8, 9];
-    let answer = refused(alloc, Order::Big, &NAMED, &last);
-    assert!(rt; answer == Some((0, Reason::ReservedLength, 9)));
-    let far = [
-        0xff, 0xff, 0xff, 0xff, 0xff, 0xff, 0xff, 0xff, 0xff, 0xff, 0xff, 0x7f, 1, 2, 3,
-    ];
-    let answer = refused(alloc, Order::Little, &NAMED, &far);
-    assert!(rt; answer == Some((0, Reason::LengthTooBig, 3)));
+    for (order, bytes, reason, left) in [
+        (
+            Order::Little,
+            FIRST_RESERVED.as_slice(),
+            Reason::ReservedLength,
+            9,
+        ),
+        (
+            Order::Big,
+            LAST_RESERVED.as_slice(),
+            Reason::ReservedLength,
+            9,
+        ),
+        (Order::Little, TOO_FAR.as_slice(), Reason::LengthTooBig, 3),
+    ] {
+        let answer = refused(rt.alloc(), order, &NAMED, bytes);
+        assert!(rt; answer == Some((0, reason, left)));
+    }
 }
 
-/// A length of almost 4 GB, of which 15 bytes come: the next null of the padding is cut. No more room
-/// is made for the unit than for a piece of what comes.
+/// A length of almost 4 GB, of which 15 bytes come: the next null of the padding is cut.
+const ALMOST_FOUR_GIGABYTES: [u8; 15] = [
+    0xef, 0xff, 0xff, 0xff, 0x05, 0, 0x01, 0x08, 0, 0, 0, 0, 0x01, 0x61, 0,
+];
+
+/// No more room is made for the unit than for a piece of what comes.
 #[test]
 fn believes_no_announced_length(rt: HostRuntime) -> Result<(), Fail> {
-    let alloc = rt.alloc();
-    let bytes = followed(alloc, &[0xef, 0xff, 0xff, 0xff], &FIFTEEN[4..])?;
-    let answer = refused(alloc, Order::Little, &NAMED, bytes.as_slice());
+    let bytes = ALMOST_FOUR_GIGABYTES.as_slice();
+    let answer = refused(rt.alloc(), Order::Little, &NAMED, bytes);
     assert!(rt; answer == Some((15, Reason::Truncated, 0)));
-    let mut reader = Watched::new(bytes.as_slice());
-    let taken = unit_bytes(alloc, Order::Little, &mut reader)?;
-    same(&rt, taken.as_slice(), bytes.as_slice());
+    let mut reader = Watched::new(bytes);
+    let taken = unit_bytes(rt.alloc(), Order::Little, &mut reader)?;
+    same(&rt, taken.as_slice(), bytes);
     assert!(rt; taken.capacity() < 10_000);
     Ok(())
 }
 
+/// A reader of the fifteen bytes fails after so many of them, takes no more, and its error is told.
+fn fails_after(rt: &impl Abort, alloc: Global, after: u64, kind: ErrorKind) {
+    let device = Stepped::failing(FIFTEEN.as_slice(), 1, after, kind);
+    let mut reader = Watched::new(device);
+    let told = little(alloc, &NAMED, &mut reader).err();
+    assert!(rt; told == Some(ReadError::Io(kind)));
+    assert!(rt; reader.fault() == Some(kind));
+    let left = reader.into_inner().inner().len() as u64;
+    assert!(rt; after <= 15 && left == 15 - after);
+}
+
 #[test]
 fn tells_a_readers_fault(rt: HostRuntime) -> Result<(), Fail> {
-    let alloc = rt.alloc();
     for after in [0, 1, 3, 4, 5, 12, 14] {
         for kind in [ErrorKind::TimedOut, ErrorKind::Interrupted] {
-            let device = Stepped::failing(FIFTEEN.as_slice(), 1, after, kind);
-            let mut reader = Watched::new(device);
-            let answer = little(alloc, &NAMED, &mut reader);
-            assert!(rt; matches!(answer, Err(ReadError::Io(told)) if told == kind));
-            assert!(rt; reader.fault() == Some(kind));
-            let left = reader.into_inner().inner().len() as u64;
-            assert!(rt; left == 15 - after);
+            fails_after(&rt, rt.alloc(), after, kind);
         }
     }
     let device = Stepped::failing(FIFTEEN.as_slice(), 1, 15, ErrorKind::TimedOut);
     let mut reader = Watched::new(device);
-    assert!(rt; little(alloc, &NAMED, &mut reader)?.size() == 15);
+    assert!(rt; little(rt.alloc(), &NAMED, &mut reader)?.size() == 15);
     Ok(())
 }

@@ -1,10 +1,10 @@
 //! What no clause says: units of all kinds, in both formats and both byte orders, whose headers come
 //! from section 7.5.1 of the standard.
-use crate::common::{NAMED, in_info, refusal, written};
-use dw_abbrev::Tables;
+use crate::common::{NAMED, read, refuses, spells};
 use dw_leb::{Format, Order, Reason};
-use dw_unit::{Header, Kind, read_header, read_unit};
+use dw_unit::{Header, Kind, Unit, read_header};
 use std::alloc::{AllocError, Global};
+use std::process::Abort;
 use std::test::Fail;
 
 /// Where the table stands.
@@ -103,45 +103,58 @@ fn section(alloc: Global) -> Result<Vec<u8>, AllocError> {
     Ok(bytes)
 }
 
-/// Whether a unit of these bytes is read with this header and unit_length, its root at `root`, and
-/// written back; and whether the header is also read of its own bytes alone.
-fn stands(
-    alloc: Global,
-    header: Header,
-    unit_length: u64,
-    root: usize,
-    bytes: &[u8],
-) -> Result<bool, Fail> {
+/// Over it the unit at the front of these bytes, and the count of its bytes.
+fn over_section(alloc: Global, order: Order, bytes: &[u8]) -> Result<(Unit, usize), Fail> {
     let section = section(alloc)?;
-    let mut tables = Tables::new(alloc, section.as_slice());
-    let (unit, size) = read_unit(alloc, header.order(), &mut tables, bytes)?;
-    let back = written(alloc, &unit)?;
-    let alone = bytes.get(..root).ok_or("no header")?;
-    Ok(
-        unit.header() == header
-            && size == bytes.len()
-            && unit.root().offset() == root as u64
-            && back.as_slice() == bytes
-            && read_header(header.order(), bytes).ok() == Some((header, unit_length))
-            && read_header(header.order(), alone).ok() == Some((header, unit_length)),
+    Ok(read(alloc, order, section.as_slice(), bytes)?)
+}
+
+/// Whether the header is read of the unit's bytes, and of its own bytes alone, which end at `root`.
+fn header_stands(header: Header, unit_length: u64, root: usize, bytes: &[u8]) -> Option<bool> {
+    let want = Some((header, unit_length));
+    let alone = bytes.get(..root)?;
+    Some(
+        read_header(header.order(), bytes).ok() == want
+            && read_header(header.order(), alone).ok() == want,
     )
+}
+
+/// Whether the unit is read with this header and its root there, and written back.
+fn unit_stands(alloc: Global, header: Header, root: usize, bytes: &[u8]) -> Result<bool, Fail> {
+    let (unit, size) = over_section(alloc, header.order(), bytes)?;
+    let is_read = unit.header() == header
+        && size == bytes.len()
+        && unit.root().offset() == root as u64;
+    Ok(is_read && spells(alloc, &unit, bytes)?)
+}
+
+/// A format and an order, a kind, a unit_length, where the root stands, and the unit's bytes.
+type Row = ((Format, Order), Kind, u64, usize, &'static [u8]);
+
+/// Units of this address size stand in both formats and both byte orders.
+fn stand(rt: &impl Abort, alloc: Global, address_size: u8, rows: [Row; 4]) -> Result<(), Fail> {
+    for ((format, order), kind, unit_length, root, bytes) in rows {
+        let header = Header::new(order, format, kind, address_size, TABLE as u64).ok_or(
+            "no header",
+        )?;
+        assert!(rt;
+            header_stands(header, unit_length, root, bytes) == Some(true),
+            "{header:?}"
+        );
+        assert!(rt; unit_stands(alloc, header, root, bytes)?, "{header:?}");
+    }
+    Ok(())
 }
 
 #[test]
 fn compile_units(rt: HostRuntime) -> Result<(), Fail> {
-    for ((format, order), kind, unit_length, root, bytes) in [
+    let rows = [
         (LITTLE_32, Kind::Compile, 11, 12, &COMPILE_32_LITTLE[..]),
         (BIG_32, Kind::Compile, 11, 12, &COMPILE_32_BIG[..]),
         (LITTLE_64, Kind::Compile, 15, 24, &COMPILE_64_LITTLE[..]),
         (BIG_64, Kind::Compile, 15, 24, &COMPILE_64_BIG[..]),
-    ] {
-        let header = Header::new(order, format, kind, 8, TABLE as u64).ok_or("no header")?;
-        assert!(rt;
-            stands(rt.alloc(), header, unit_length, root, bytes)?,
-            "in {format:?}, {order:?}"
-        );
-    }
-    Ok(())
+    ];
+    stand(&rt, rt.alloc(), 8, rows)
 }
 
 const SIGNATURE: u64 = 0x1122334455667788;
@@ -159,36 +172,24 @@ const TYPE_64: Kind = Kind::TypeUnit {
 
 #[test]
 fn type_units(rt: HostRuntime) -> Result<(), Fail> {
-    for ((format, order), kind, unit_length, root, bytes) in [
+    let rows = [
         (LITTLE_32, TYPE_32, 23, 24, &TYPE_32_LITTLE[..]),
         (BIG_32, TYPE_32, 23, 24, &TYPE_32_BIG[..]),
         (LITTLE_64, TYPE_64, 31, 40, &TYPE_64_LITTLE[..]),
         (BIG_64, TYPE_64, 31, 40, &TYPE_64_BIG[..]),
-    ] {
-        let header = Header::new(order, format, kind, 4, TABLE as u64).ok_or("no header")?;
-        assert!(rt;
-            stands(rt.alloc(), header, unit_length, root, bytes)?,
-            "in {format:?}, {order:?}"
-        );
-    }
-    Ok(())
+    ];
+    stand(&rt, rt.alloc(), 4, rows)
 }
 
 #[test]
 fn partial_units(rt: HostRuntime) -> Result<(), Fail> {
-    for ((format, order), kind, unit_length, root, bytes) in [
+    let rows = [
         (LITTLE_32, Kind::Partial, 11, 12, &PARTIAL_32_LITTLE[..]),
         (BIG_32, Kind::Partial, 11, 12, &PARTIAL_32_BIG[..]),
         (LITTLE_64, Kind::Partial, 15, 24, &PARTIAL_64_LITTLE[..]),
         (BIG_64, Kind::Partial, 15, 24, &PARTIAL_64_BIG[..]),
-    ] {
-        let header = Header::new(order, format, kind, 1, TABLE as u64).ok_or("no header")?;
-        assert!(rt;
-            stands(rt.alloc(), header, unit_length, root, bytes)?,
-            "in {format:?}, {order:?}"
-        );
-    }
-    Ok(())
+    ];
+    stand(&rt, rt.alloc(), 1, rows)
 }
 
 const SKELETON: Kind = Kind::Skeleton {
@@ -197,24 +198,24 @@ const SKELETON: Kind = Kind::Skeleton {
 
 #[test]
 fn skeleton_units(rt: HostRuntime) -> Result<(), Fail> {
-    for ((format, order), kind, unit_length, root, bytes) in [
+    let rows = [
         (LITTLE_32, SKELETON, 19, 20, &SKELETON_32_LITTLE[..]),
         (BIG_32, SKELETON, 19, 20, &SKELETON_32_BIG[..]),
         (LITTLE_64, SKELETON, 23, 32, &SKELETON_64_LITTLE[..]),
         (BIG_64, SKELETON, 23, 32, &SKELETON_64_BIG[..]),
-    ] {
-        let header = Header::new(order, format, kind, 8, TABLE as u64).ok_or("no header")?;
-        assert!(rt;
-            stands(rt.alloc(), header, unit_length, root, bytes)?,
-            "in {format:?}, {order:?}"
-        );
-    }
-    Ok(())
+    ];
+    stand(&rt, rt.alloc(), 8, rows)
 }
+
+const OF_VERSION_FOUR: [u8; 14] = [0x0a, 0, 0, 0, 0x04, 0, 0, 0, 0, 0, 0x08, 0x01, 0x61, 0];
 
 #[test]
 fn a_unit_of_version_four(rt: HostRuntime) {
-    let bytes = [0x0a, 0, 0, 0, 0x04, 0, 0, 0, 0, 0, 0x08, 0x01, 0x61, 0];
-    let fault = refusal(rt.alloc(), Order::Little, &NAMED, &bytes);
-    assert!(rt; fault == in_info(4, Reason::BadVersion));
+    refuses(
+        &rt,
+        rt.alloc(),
+        &NAMED,
+        &OF_VERSION_FOUR,
+        (4, Reason::BadVersion),
+    );
 }

@@ -1,12 +1,12 @@
 //! A unit of more entries and texts than any list begins with, built, written and read. A limit there, told
 //! as want of memory, would pass every contract.
-use crate::common::{direct, finished, little, written};
+use crate::common::{builder, finished, little, writes, written};
 use dw_abbrev::Tables;
 use dw_feed::read_unit_from;
-use dw_form::Value;
+use dw_form::{AttrValue, Value};
 use dw_leb::devices::Stepped;
-use dw_leb::{Format, Order, Uleb, Watched};
-use dw_unit::{Header, Kind, Unit, UnitBuilder};
+use dw_leb::{Format, Order, ReadError, Uleb, Watched};
+use dw_unit::{Refusal, Unit, UnitBuilder};
 use std::alloc::Global;
 use std::process::Abort;
 use std::test::Fail;
@@ -16,18 +16,18 @@ use std::test::Fail;
 const VARIABLES: [u8; 13] = [0x01, 0x11, 1, 0, 0, 0x02, 0x34, 0, 0x03, 0x08, 0, 0, 0];
 
 /// A root with so many children.
-fn built(alloc: Global, children: u32) -> Result<Unit, Fail> {
-    let table = Tables::new(alloc, &VARIABLES).get(0)?;
-    let header = Header::new(Order::Little, Format::Dwarf32, Kind::Compile, 8, 0).ok_or(
-        "no header",
-    )?;
-    let mut builder = UnitBuilder::new(alloc, header, table);
+fn fill(builder: &mut UnitBuilder, children: u32) -> Result<(), Refusal> {
     builder.open(Uleb::least(1), &[])?;
-    let name = [direct(Value::Text(b"name"))];
+    let name = [AttrValue::from(Value::Text(b"name"))];
     for _ in 0..children {
         builder.open(Uleb::least(2), &name)?;
     }
-    builder.close(1)?;
+    builder.close(1)
+}
+
+fn built(alloc: Global, children: u32) -> Result<Unit, Fail> {
+    let mut builder = builder(alloc, &VARIABLES, Format::Dwarf32)?;
+    fill(&mut builder, children)?;
     Ok(finished(builder)?)
 }
 
@@ -53,18 +53,35 @@ fn is_large(rt: &impl Abort, unit: &Unit) {
     assert!(rt; last == Some(420_013));
 }
 
+/// The bytes of the unit that is built.
+fn bytes_of_large(rt: &impl Abort, alloc: Global) -> Result<Vec<u8>, Fail> {
+    let unit = built(alloc, 70_000)?;
+    is_large(rt, &unit);
+    Ok(written(alloc, &unit)?)
+}
+
+fn is_read_and_written(rt: &impl Abort, alloc: Global, bytes: &[u8]) -> Result<(), Fail> {
+    let (unit, _) = little(alloc, &VARIABLES, bytes)?;
+    is_large(rt, &unit);
+    Ok(writes(rt, alloc, &unit, bytes)?)
+}
+
+/// The unit of a reader that gives a thousand bytes a call.
+fn fed(alloc: Global, bytes: &[u8]) -> Result<Unit, ReadError> {
+    let mut tables = Tables::new(alloc, &VARIABLES);
+    let mut reader = Watched::new(Stepped::new(bytes, 1000));
+    read_unit_from(alloc, Order::Little, &mut tables, &mut reader)
+}
+
+fn is_fed(rt: &impl Abort, alloc: Global, bytes: &[u8]) -> Result<(), Fail> {
+    let unit = fed(alloc, bytes)?;
+    is_large(rt, &unit);
+    Ok(())
+}
+
 #[test]
 fn many_entries_and_texts(rt: HostRuntime) -> Result<(), Fail> {
-    let alloc = rt.alloc();
-    let unit = built(alloc, 70_000)?;
-    is_large(&rt, &unit);
-    let bytes = written(alloc, &unit)?;
-    let (again, _) = little(alloc, &VARIABLES, bytes.as_slice())?;
-    is_large(&rt, &again);
-    assert!(rt; written(alloc, &again)?.as_slice() == bytes.as_slice());
-    let mut tables = Tables::new(alloc, &VARIABLES);
-    let mut reader = Watched::new(Stepped::new(bytes.as_slice(), 1000));
-    let fed = read_unit_from(alloc, Order::Little, &mut tables, &mut reader)?;
-    is_large(&rt, &fed);
-    Ok(())
+    let bytes = bytes_of_large(&rt, rt.alloc())?;
+    is_read_and_written(&rt, rt.alloc(), bytes.as_slice())?;
+    is_fed(&rt, rt.alloc(), bytes.as_slice())
 }

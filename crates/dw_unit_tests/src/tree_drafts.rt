@@ -5,7 +5,7 @@ ghost use Rattle.dw_leb.specs.View.{uleb_of};
 ghost use Rattle.dw_tree.specs.Steps.{closed_at, end_of};
 ghost use Rattle.dw_unit_tests.specs.Samples.{two_codes as two_codes_table, bare_code as bare_code_table, little, with_name, with_size};
 
-use crate::common::{BARE, TYPED, number_of, same, text_of};
+use crate::common::{BARE, TYPED, same};
 use dw_abbrev::{Table, Tables};
 use dw_form::{AttrValue, Ctx, Value};
 use dw_leb::devices::Stepped;
@@ -13,6 +13,7 @@ use dw_leb::{Format, Order, Uleb, Watched, WriteError};
 use dw_tree::{EntryRef, EntryTree, TreeDraft, write_null};
 use std::alloc::Global;
 use std::io::ErrorKind;
+use std::process::Abort;
 use std::rc::Rc;
 use std::test::Fail;
 
@@ -190,8 +191,17 @@ fn written(alloc: Global, tree: &EntryTree) -> Result<Vec<u8>, WriteError> {
     Ok(writer.into_inner())
 }
 
+/// The tree is written as these bytes.
+fn writes(rt: &impl Abort, alloc: Global, tree: &EntryTree, want: &[u8]) -> Result<(), WriteError> {
+    let bytes = written(alloc, tree)?;
+    same(rt, bytes.as_slice(), want);
+    Ok(())
+}
+
 /// Where an entry begins and ends, its level and its tag.
-fn place(entry: &EntryRef<'_>) -> (u64, u64, u64, u64) {
+type Place = (u64, u64, u64, u64);
+
+fn place(entry: &EntryRef<'_>) -> Place {
     (
         entry.offset(),
         entry.end_offset(),
@@ -200,19 +210,24 @@ fn place(entry: &EntryRef<'_>) -> (u64, u64, u64, u64) {
     )
 }
 
-fn place_at(tree: &EntryTree, offset: u64) -> Option<(u64, u64, u64, u64)> {
+fn place_at(tree: &EntryTree, offset: u64) -> Option<Place> {
     let entry = tree.entry_at(offset)?;
     Some(place(&entry))
 }
 
+/// An entry stands there. An assertion of a place where it is made costs the prover more.
+fn stands(rt: &impl Abort, entry: &EntryRef<'_>, want: Place) {
+    assert!(rt; place(entry) == want);
+}
+
+/// A root with a child, as it is written.
+const WITH_A_CHILD: [u8; 6] = [0x01, 0x61, 0, 0x02, 0x04, 0];
+
 #[test]
 fn a_name_in_pieces(rt: HostRuntime) -> Result<(), Fail> {
-    let alloc = rt.alloc();
-    let tree = root_in_pieces(alloc)?;
-    let bytes = written(alloc, &tree)?;
-    same(&rt, bytes.as_slice(), &[0x01, 0x61, 0, 0x02, 0x04, 0]);
-    assert!(rt; place(&tree.root()) == (12, 18, 1, 0x11));
-    Ok(())
+    let tree = root_in_pieces(rt.alloc())?;
+    stands(&rt, &tree.root(), (12, 18, 1, 0x11));
+    Ok(writes(&rt, rt.alloc(), &tree, &WITH_A_CHILD)?)
 }
 
 #[test]
@@ -222,162 +237,236 @@ fn keeps_the_bytes_of_texts_alone(rt: HostRuntime) -> Result<(), Fail> {
     let mut draft = TreeDraft::new(alloc, context(), two_codes(alloc)?, 12);
     named(&mut draft, 1)?;
     sized(&mut draft, 1)?;
-    assert!(rt; draft.content() == [0x61].as_slice());
+    same(&rt, draft.content(), &[0x61]);
     near(&draft)?;
     draft.begin(in_width(1, 1)?)?;
     draft.start(None, None)?;
     draft.bytes(&[0x62, 0x63])?;
-    assert!(rt; draft.content() == [0x61, 0x62, 0x63].as_slice());
+    same(&rt, draft.content(), &[0x61, 0x62, 0x63]);
     draft.undo();
-    assert!(rt; draft.content() == [0x61].as_slice());
+    same(&rt, draft.content(), &[0x61]);
+    Ok(())
+}
+
+fn has_a_root_and_a_child(rt: &impl Abort, tree: &EntryTree) -> Result<(), Fail> {
+    let root = tree.root();
+    stands(rt, &root, (12, 18, 1, 0x11));
+    assert!(rt; (root.code().value, root.code().width) == (1, 1));
+    let mut children = root.children();
+    let child = children.next().ok_or("no child")?;
+    stands(rt, &child, (15, 17, 2, 0x24));
+    assert!(rt; (child.code().value, child.code().width) == (2, 1));
+    assert!(rt; children.next().is_none());
+    assert!(rt; child.children().next().is_none());
+    Ok(())
+}
+
+/// These are all the entries of the tree, in their order.
+fn has_entries(rt: &impl Abort, tree: &EntryTree, places: &[Place]) -> Result<(), Fail> {
+    let mut entries = tree.entries();
+    for want in places {
+        let entry = entries.next().ok_or("too few entries")?;
+        stands(rt, &entry, *want);
+    }
+    assert!(rt; entries.next().is_none());
     Ok(())
 }
 
 #[test]
 fn a_root_with_a_child(rt: HostRuntime) -> Result<(), Fail> {
     let tree = root_with_child(rt.alloc(), 1, 1)?;
-    let root = tree.root();
-    assert!(rt; place(&root) == (12, 18, 1, 0x11));
-    assert!(rt; (root.code().value, root.code().width) == (1, 1));
-    let mut children = root.children();
-    let child = children.next().ok_or("no child")?;
-    assert!(rt; place(&child) == (15, 17, 2, 0x24));
-    assert!(rt; (child.code().value, child.code().width) == (2, 1));
-    assert!(rt; children.next().is_none());
-    assert!(rt; child.children().next().is_none());
-    let mut entries = tree.entries();
-    let first = entries.next().ok_or("no entry")?;
-    assert!(rt; place(&first) == (12, 18, 1, 0x11));
-    let second = entries.next().ok_or("one entry")?;
-    assert!(rt; place(&second) == (15, 17, 2, 0x24));
-    assert!(rt; entries.next().is_none());
+    has_a_root_and_a_child(&rt, &tree)?;
+    has_entries(&rt, &tree, &[(12, 18, 1, 0x11), (15, 17, 2, 0x24)])
+}
+
+fn has_a_name_alone(rt: &impl Abort, entry: &EntryRef<'_>) -> Result<(), Fail> {
+    let mut attrs = entry.attrs();
+    let name = attrs.next().ok_or("no attribute")?;
+    assert!(rt; (name.name, name.form, name.offset) == (0x03, 0x08, 13));
+    assert!(rt; name.attr.as_text() == Some([0x61].as_slice()));
+    assert!(rt; attrs.next().is_none());
     Ok(())
+}
+
+fn has_a_size_alone(rt: &impl Abort, entry: &EntryRef<'_>) -> Result<(), Fail> {
+    let mut attrs = entry.attrs();
+    let size = attrs.next().ok_or("no attribute")?;
+    assert!(rt; (size.name, size.form, size.offset) == (0x0b, 0x0b, 16));
+    assert!(rt; size.attr.as_number() == Some(4));
+    assert!(rt; attrs.next().is_none());
+    let same = entry.attr(0x0b).ok_or("no size")?;
+    assert!(rt; (same.offset, same.attr.as_number()) == (16, Some(4)));
+    assert!(rt; entry.attr(0x03).is_none());
+    Ok(())
+}
+
+fn has_attributes(rt: &impl Abort, tree: &EntryTree) -> Result<(), Fail> {
+    let root = tree.root();
+    has_a_name_alone(rt, &root)?;
+    let child = root.children().next().ok_or("no child")?;
+    has_a_size_alone(rt, &child)
 }
 
 #[test]
 fn attributes_of_a_root_and_its_child(rt: HostRuntime) -> Result<(), Fail> {
     let tree = root_with_child(rt.alloc(), 1, 1)?;
-    let root = tree.root();
-    let mut attrs = root.attrs();
-    let name = attrs.next().ok_or("no attribute")?;
-    assert!(rt; (name.name, name.form, name.offset) == (0x03, 0x08, 13));
-    assert!(rt; text_of(&name) == Some([0x61].as_slice()));
-    assert!(rt; attrs.next().is_none());
-    let child = root.children().next().ok_or("no child")?;
-    let mut attrs = child.attrs();
-    let size = attrs.next().ok_or("no attribute")?;
-    assert!(rt; (size.name, size.form, size.offset) == (0x0b, 0x0b, 16));
-    assert!(rt; number_of(&size) == Some(4));
-    assert!(rt; attrs.next().is_none());
-    let same = child.attr(0x0b).ok_or("no size")?;
-    assert!(rt; (same.offset, number_of(&same)) == (16, Some(4)));
-    assert!(rt; child.attr(0x03).is_none());
-    Ok(())
+    has_attributes(&rt, &tree)
+}
+
+fn has_entries_at_two_offsets(rt: &impl Abort, tree: &EntryTree) {
+    assert!(rt; place_at(tree, 12) == Some((12, 18, 1, 0x11)));
+    assert!(rt; place_at(tree, 15) == Some((15, 17, 2, 0x24)));
+    for nowhere in [0, 11, 13, 14, 16, 17, 18, u64::MAX] {
+        assert_eq!(rt; place_at(tree, nowhere), None, "at {nowhere}");
+    }
 }
 
 #[test]
 fn entries_by_their_offsets(rt: HostRuntime) -> Result<(), Fail> {
     let tree = root_with_child(rt.alloc(), 1, 1)?;
-    assert!(rt; place_at(&tree, 12) == Some((12, 18, 1, 0x11)));
-    assert!(rt; place_at(&tree, 15) == Some((15, 17, 2, 0x24)));
-    for nowhere in [0, 11, 13, 14, 16, 17, 18, u64::MAX] {
-        assert_eq!(rt; place_at(&tree, nowhere), None, "at {nowhere}");
-    }
+    has_entries_at_two_offsets(&rt, &tree);
     Ok(())
+}
+
+/// The root has two children, and the first of them has one.
+fn has_children_below(rt: &impl Abort, tree: &EntryTree) -> Result<(), Fail> {
+    let root = tree.root();
+    let mut children = root.children();
+    let inner = children.next().ok_or("no child")?;
+    stands(rt, &inner, (15, 21, 2, 0x11));
+    let last = children.next().ok_or("one child")?;
+    stands(rt, &last, (21, 23, 2, 0x24));
+    assert!(rt; children.next().is_none());
+    let below = inner.children().next().ok_or("no grandchild")?;
+    stands(rt, &below, (18, 20, 3, 0x24));
+    Ok(())
+}
+
+/// The entries of three levels.
+const THREE_LEVELS: [Place; 4] = [
+    (12, 24, 1, 0x11),
+    (15, 21, 2, 0x11),
+    (18, 20, 3, 0x24),
+    (21, 23, 2, 0x24),
+];
+
+/// Each entry is found at its offset, and none at a null.
+fn has_entries_at_their_offsets(rt: &impl Abort, tree: &EntryTree) {
+    for want in THREE_LEVELS {
+        assert_eq!(rt; place_at(tree, want.0), Some(want), "at {want:?}");
+    }
+    for null in [20, 23] {
+        assert!(rt; place_at(tree, null) == None);
+    }
 }
 
 #[test]
 fn children_and_not_their_children(rt: HostRuntime) -> Result<(), Fail> {
     let tree = three_levels(rt.alloc())?;
-    let root = tree.root();
-    assert!(rt; place(&root) == (12, 24, 1, 0x11));
-    let mut children = root.children();
-    let inner = children.next().ok_or("no child")?;
-    assert!(rt; place(&inner) == (15, 21, 2, 0x11));
-    let last = children.next().ok_or("one child")?;
-    assert!(rt; place(&last) == (21, 23, 2, 0x24));
-    assert!(rt; children.next().is_none());
-    let below = inner.children().next().ok_or("no grandchild")?;
-    assert!(rt; place(&below) == (18, 20, 3, 0x24));
-    let mut entries = tree.entries();
-    for offset in [12, 15, 18, 21] {
-        let entry = entries.next().ok_or("too few entries")?;
-        assert!(rt; entry.offset() == offset);
-        assert_eq!(rt; place_at(&tree, offset), Some(place(&entry)), "at {offset}");
-    }
-    assert!(rt; entries.next().is_none());
-    assert!(rt; place_at(&tree, 20) == None);
-    assert!(rt; place_at(&tree, 23) == None);
+    has_children_below(&rt, &tree)?;
+    has_entries(&rt, &tree, &THREE_LEVELS)?;
+    has_entries_at_their_offsets(&rt, &tree);
     let bytes = [0x01, 0x61, 0, 0x01, 0x61, 0, 0x02, 0x04, 0, 0x02, 0x04, 0];
-    same(
-        &rt,
-        written(rt.alloc(), &tree)?.as_slice(),
-        bytes.as_slice(),
-    );
-    Ok(())
+    Ok(writes(&rt, rt.alloc(), &tree, &bytes)?)
+}
+
+/// The same, the root's code and its null in two bytes each.
+const PADDED: [u8; 8] = [0x81, 0, 0x61, 0, 0x02, 0x04, 0x80, 0];
+
+fn has_a_padded_root(rt: &impl Abort, tree: &EntryTree) {
+    let root = tree.root();
+    stands(rt, &root, (12, 20, 1, 0x11));
+    assert!(rt; (root.code().value, root.code().width) == (1, 2));
+    assert!(rt; place_at(tree, 16) == Some((16, 18, 2, 0x24)));
+    assert!(rt; place_at(tree, 18) == None);
+}
+
+/// The root with a child, of these widths, is written as these bytes.
+fn writes_widths(
+    rt: &impl Abort,
+    alloc: Global,
+    (code, null): (u8, u8),
+    want: &[u8],
+) -> Result<(), Fail> {
+    let tree = root_with_child(alloc, code, null)?;
+    Ok(writes(rt, alloc, &tree, want)?)
 }
 
 #[test]
 fn writes_each_width(rt: HostRuntime) -> Result<(), Fail> {
-    let alloc = rt.alloc();
-    let tree = root_with_child(alloc, 1, 1)?;
-    let bytes = [0x01, 0x61, 0, 0x02, 0x04, 0];
-    same(&rt, written(alloc, &tree)?.as_slice(), bytes.as_slice());
-    let padded = root_with_child(alloc, 2, 2)?;
-    let bytes = [0x81, 0, 0x61, 0, 0x02, 0x04, 0x80, 0];
-    same(&rt, written(alloc, &padded)?.as_slice(), bytes.as_slice());
-    let root = padded.root();
-    assert!(rt; place(&root) == (12, 20, 1, 0x11));
-    assert!(rt; (root.code().value, root.code().width) == (1, 2));
-    assert!(rt; place_at(&padded, 16) == Some((16, 18, 2, 0x24)));
-    assert!(rt; place_at(&padded, 18) == None);
+    writes_widths(&rt, rt.alloc(), (1, 1), &WITH_A_CHILD)?;
+    writes_widths(&rt, rt.alloc(), (2, 2), &PADDED)?;
+    let tree = root_with_child(rt.alloc(), 2, 2)?;
+    has_a_padded_root(&rt, &tree);
     Ok(())
 }
 
 #[test]
 fn takes_an_entry_back(rt: HostRuntime) -> Result<(), Fail> {
     let tree = child_begun_twice(rt.alloc())?;
-    assert!(rt; place(&tree.root()) == (12, 18, 1, 0x11));
-    let bytes = [0x01, 0x61, 0, 0x02, 0x04, 0];
-    same(
-        &rt,
-        written(rt.alloc(), &tree)?.as_slice(),
-        bytes.as_slice(),
-    );
-    Ok(())
+    stands(&rt, &tree.root(), (12, 18, 1, 0x11));
+    Ok(writes(&rt, rt.alloc(), &tree, &WITH_A_CHILD)?)
 }
 
-#[test]
-fn the_deepest_tree(rt: HostRuntime) -> Result<(), Fail> {
-    let tree = nested(rt.alloc())?;
-    assert!(rt; place(&tree.root()) == (12, 524, 1, 0x11));
-    assert!(rt; place_at(&tree, 267) == Some((267, 269, 256, 0x11)));
-    assert!(rt; place_at(&tree, 268) == None);
+/// Each of the entries stands a byte and a level behind the one before.
+fn has_256_levels(rt: &impl Abort, tree: &EntryTree) -> Result<(), Fail> {
     let mut entries = tree.entries();
     for offset in 12..268u64 {
         let entry = entries.next().ok_or("too few entries")?;
         assert!(rt; (entry.offset(), entry.depth()) == (offset, offset - 11));
     }
     assert!(rt; entries.next().is_none());
-    let bytes = written(rt.alloc(), &tree)?;
+    Ok(())
+}
+
+fn has_a_deepest_entry(rt: &impl Abort, tree: &EntryTree) {
+    stands(rt, &tree.root(), (12, 524, 1, 0x11));
+    assert!(rt; place_at(tree, 267) == Some((267, 269, 256, 0x11)));
+    assert!(rt; place_at(tree, 268) == None);
+}
+
+/// These are 256 codes and as many nulls.
+fn are_codes_and_nulls(rt: &impl Abort, bytes: &[u8]) {
     assert!(rt; bytes.len() == 512);
     for (at, byte) in bytes.iter().enumerate() {
         let code = if at < 256 { 1 } else { 0 };
         assert_eq!(rt; *byte, code, "at {at}");
     }
+}
+
+fn writes_codes_and_nulls(
+    rt: &impl Abort,
+    alloc: Global,
+    tree: &EntryTree,
+) -> Result<(), WriteError> {
+    let bytes = written(alloc, tree)?;
+    are_codes_and_nulls(rt, bytes.as_slice());
     Ok(())
 }
 
 #[test]
-fn keeps_a_writers_fault(rt: HostRuntime) -> Result<(), Fail> {
-    let tree = root_with_child(rt.alloc(), 1, 1)?;
-    let device = Stepped::failing(Vec::new(rt.alloc()), 1, 4, ErrorKind::Other);
+fn the_deepest_tree(rt: HostRuntime) -> Result<(), Fail> {
+    let tree = nested(rt.alloc())?;
+    has_a_deepest_entry(&rt, &tree);
+    has_256_levels(&rt, &tree)?;
+    Ok(writes_codes_and_nulls(&rt, rt.alloc(), &tree)?)
+}
+
+/// A writer that fails behind four bytes gets these, and its error is told.
+fn fails_behind_four(rt: &impl Abort, alloc: Global, tree: &EntryTree) {
+    let device = Stepped::failing(Vec::new(alloc), 1, 4, ErrorKind::Other);
     let mut writer = Watched::new(device);
     let answer = tree.write(&mut writer);
     assert!(rt; answer == Err(WriteError::Io(ErrorKind::Other)));
     assert!(rt; writer.fault() == Some(ErrorKind::Other));
     let device = writer.into_inner();
-    same(&rt, device.inner().as_slice(), &[0x01, 0x61, 0, 0x02]);
+    same(rt, device.inner().as_slice(), &[0x01, 0x61, 0, 0x02]);
+}
+
+#[test]
+fn keeps_a_writers_fault(rt: HostRuntime) -> Result<(), Fail> {
+    let tree = root_with_child(rt.alloc(), 1, 1)?;
+    fails_behind_four(&rt, rt.alloc(), &tree);
     Ok(())
 }
 

@@ -1,50 +1,32 @@
 //! The program `dwarf`: reads and writes DWARF 5 debugging entries. It ends with status 0 where all
 //! is well, 1 where the sections are refused, 2 where the command line is, 3 where a file or the
-//! output failed, and 4 where there was no memory, and says why on standard error.
+//! output failed, and 4 where there was no memory, and says why on standard error. Which status and
+//! which line that is, `dw_tool::failure` and `dw_line::outcome` say.
 #![tactic(auto)]
 
-ghost use Rattle.std.specs.Prelude.{◌≡◌, ◌≢◌};
-ghost use Rattle.std.specs.declared.io.ErrorKind.TheVariants.{OutOfMemory};
+ghost use Rattle.std.specs.Prelude.{◌≡◌};
+ghost use Rattle.dw_tool.specs.Failure.{exit_status};
 
-use dw_leb::{Fault, Section, Watched};
-use dw_line::line::line;
+use dw_leb::Watched;
+use dw_line::line::{line, unreadable};
 use dw_line::outcome::{Line, LineError};
+use dw_tool::failure::{Failure, exit_status};
 use dw_tool::run::{Inputs, run};
-use dw_tool::status::ToolError;
-use std::io::{BufWriter, ErrorKind, Write};
+use dw_tool::status::Status;
+use std::io::{BufWriter, Write};
 use std::process::ExitCode;
 use std::rt::{Env, Files};
 use std::{env, fs, io};
-
-const REFUSED: u8 = 1;
-
-const FILE_FAILED: u8 = 3;
-
-const NO_MEMORY: u8 = 4;
 
 fn main(rt: HostRuntime) -> ExitCode {
     ExitCode::from(act(&rt))
 }
 
-// Does what the command line says, and gives the exit status.
+// Does what the words after the program's name say, and gives the exit status.
 fn act(rt: &(impl AllocGlobal + Env + Files + Print + Eprint)) -> u8 {
-    let Ok(words) = words(rt) else {
-        return no_memory(rt);
-    };
-    let Ok(texts) = words
-        .iter()
-        .map(|word| word.as_str())
-        .collect::<Vec<&str>>(rt.alloc())
-    else {
-        return no_memory(rt);
-    };
-    match line(rt.alloc(), texts.as_slice()) {
-        Ok(line) => act_on(rt, &line),
-        Err(LineError::Parse(error)) => {
-            let _printed = error.print(rt);
-            error.exit_code() as u8
-        }
-        Err(LineError::Memory) => no_memory(rt),
+    match words(rt) {
+        Ok(words) => act_on_words(rt, words.as_slice()),
+        Err(error) => refused(rt, unreadable(rt.alloc(), error.kind())),
     }
 }
 
@@ -53,68 +35,58 @@ fn words(rt: &(impl AllocGlobal + Env)) -> io::Result<Vec<String>> {
     Ok(env::args(rt)?.skip(1).collect(rt.alloc())?)
 }
 
-fn act_on(rt: &(impl AllocGlobal + Files + Print + Eprint), line: &Line<'_>) -> u8 {
-    let abbrev = match fs::read(rt, line.abbrev) {
-        Ok(abbrev) => abbrev,
-        Err(error) => return file_failed(rt, line.abbrev, error.kind()),
+fn act_on_words(rt: &(impl AllocGlobal + Files + Print + Eprint), words: &[String]) -> u8 {
+    let Ok(texts) = words
+        .iter()
+        .map(|word| word.as_str())
+        .collect::<Vec<&str>>(rt.alloc())
+    else {
+        return ended(rt, Err(Failure::Memory));
     };
-    let info = match fs::open(rt, line.info) {
-        Ok(info) => info,
-        Err(error) => return file_failed(rt, line.info, error.kind()),
-    };
+    match line(rt.alloc(), texts.as_slice()) {
+        Ok(line) => ended(rt, act_on(rt, &line)),
+        Err(error) => refused(rt, error),
+    }
+}
+
+fn act_on<'a>(
+    rt: &(impl AllocGlobal + Files + Print),
+    line: &Line<'a>,
+) -> Result<Status, Failure<'a>> {
+    let abbrev = fs::read(rt, line.abbrev).map_err(|e| Failure::of_file(line.abbrev, e.kind()))?;
+    let info = fs::open(rt, line.info).map_err(|e| Failure::of_file(line.info, e.kind()))?;
     let inputs = Inputs {
         order: line.order,
         info: &mut Watched::new(info),
         abbrev: abbrev.as_slice(),
     };
-    let Ok(output) = BufWriter::new(rt.alloc(), io::writer(rt)) else {
-        return no_memory(rt);
-    };
-    let mut output = Watched::new(output);
+    let output = BufWriter::new(rt.alloc(), io::writer(rt));
+    let mut output = Watched::new(output.map_err(|e| Failure::of_output(e.kind()))?);
     let ran = run(rt.alloc(), line.command, inputs, &mut output);
-    match ran {
-        Ok(status) => flushed(rt, &mut output.into_inner(), status as u8),
-        Err(ToolError::Fault(fault)) => refused(rt, fault),
-        Err(ToolError::Read(kind)) => file_failed(rt, line.info, kind),
-        Err(ToolError::Write(_)) => file_failed(rt, "standard output", ErrorKind::Other),
-        Err(ToolError::Memory) => no_memory(rt),
-    }
+    let status = ran.map_err(|e| Failure::of_run(e, line.info))?;
+    let flushed = output.into_inner().flush();
+    flushed.map_err(|e| Failure::of_output(e.kind()))?;
+    Ok(status)
 }
 
-// Writes what is left of the output, and gives the exit status.
-fn flushed(rt: &impl Eprint, output: &mut impl Write, status: u8) -> u8 {
-    match output.flush() {
-        Ok(()) => status,
-        Err(_) => file_failed(rt, "standard output", ErrorKind::Other),
-    }
-}
-
-fn refused(rt: &impl Eprint, fault: Fault) -> u8
-    ensures { result ≡ 1 }
-{
-    let section = match fault.section {
-        Section::Info => "info",
-        Section::Abbrev => "abbrev",
+// Says why words aren't taken, or prints the help that they ask for, and gives the exit status.
+fn refused(rt: &(impl Print + Eprint), error: LineError) -> u8 {
+    let printed = match &error {
+        LineError::Parse(error) => error.print(rt),
+        LineError::Memory => Ok(()),
     };
-    let _printed = eprintln!(rt; "fault {section} {:#x} {:?}", fault.offset, fault.reason);
-    REFUSED
-}
-
-// A file that can't be read for want of memory is no file that failed.
-fn file_failed(rt: &impl Eprint, path: &str, kind: ErrorKind) -> u8
-    ensures memory { kind ≡ OutOfMemory → result ≡ 4 }
-    ensures file { kind ≢ OutOfMemory → result ≡ 3 }
-{
-    if kind == ErrorKind::OutOfMemory {
-        return no_memory(rt);
+    match error.ended(printed) {
+        Ok(status) => status,
+        Err(failure) => ended(rt, Err(failure)),
     }
-    let _printed = eprintln!(rt; "file {path}");
-    FILE_FAILED
 }
 
-fn no_memory(rt: &impl Eprint) -> u8
-    ensures { result ≡ 4 }
+// Says why the program gave up, where it did, and gives the exit status.
+fn ended(rt: &impl Eprint, outcome: Result<Status, Failure<'_>>) -> u8
+    ensures { result ≡ exit_status outcome.entry }
 {
-    let _printed = eprintln!(rt; "memory");
-    NO_MEMORY
+    if let Err(failure) = &outcome {
+        let _printed = eprintln!(rt; "{failure}");
+    }
+    exit_status(outcome)
 }

@@ -5,7 +5,7 @@ use Rattle.dw_leb.specs.Part.{Taken}
 use Rattle.dw_leb.specs.Number.{initial_length, length_limit, length_size}
 use Rattle.dw_leb.specs.Known.{consumes_more}
 use Rattle.dw_feed.proofs.Cut.{field_uncut, field_size}
-use Rattle.dw_feed.proofs.Taking.{bytes_error, rest_error, unit_held}
+use Rattle.dw_feed.proofs.Taking.{bytes_error, rest_error, unit_held, kept_more}
 use Rattle.dw_feed.proofs.bytes.unit_bytes.Goals as goal
 
 pub returns-in_err-bytes-clause-bytes : goal.returns-in_err-bytes-clause-bytes
@@ -50,3 +50,8 @@ returns-in-Err-clause-bytes g c =
         why = elim field.2 [ inl is ↦ inl (field_uncut c.args.order bytes 0 reason is breaks) | inr e ↦ inr e ];
       }),
     )
+
+pub returns-in_err-read_up_to-in-Ok-clause-memory : goal.returns-in_err-read_up_to-in-Ok-clause-memory
+returns-in_err-read_up_to-in-Ok-clause-memory g c =
+    let p = err_from_is_err_and c.from_residual-in_err-read_up_to-in-Ok.result c.from_residual-in_err-read_up_to-in-Ok.ensures.1 in
+    rw (p.1, p.2) (kept_more _ _ _ c.in_ok-bytes.bytes.items c.in_err-read_up_to-in-Ok.field-0.0 c.in_ok-bytes.ensures.bytes.0 c.in_err-read_up_to-in-Ok.ensures.memory)

@@ -8,5 +8,5 @@ use Rattle.dw_form.proofs.lend.by_form.Goals as goal
 
 pub returns-in-Err-clause-exact : goal.returns-in-Err-clause-exact
 returns-in-Err-clause-exact c =
-    let direct : (c.args.form == 0x16) ≡ false = ne_eqb c.args.form 0x16 c.if-form-eq22.false in
+    let direct : (c.args.form == 0x16) ≡ false = ne_eqb c.args.form 0x16 c.if-form-eq-DW_FORM_INDIRECT.false in
     rw direct (lends_err value_of attribute_of direct_from c.in-Err.reason (read_formed c.args.ctx (option_map sleb_of c.args.implicit) c.args.form c.args.b.now c.args.lim) c.in-Err.ensures.exact)

@@ -1,9 +1,12 @@
 use Rattle.dw_header.specs.DecideHeader.{fields_stays}
-use Rattle.dw_header.specs.HeadLaws.{header_breaks_stay}
+use Rattle.dw_header.specs.HeadLaws.{header_breaks_stay, headers_stay}
 use Rattle.dw_header.proofs.laws.outcomes_are_stable.Goals as goal
 
 pub returns-clause-fields : goal.returns-clause-fields
 returns-clause-fields c = fields_stays
 
+pub returns-clause-breaks : goal.returns-clause-breaks
+returns-clause-breaks c = header_breaks_stay
+
 pub returns-clause-headers : goal.returns-clause-headers
-returns-clause-headers c = header_breaks_stay
+returns-clause-headers c = headers_stay

@@ -1,6 +1,6 @@
 use Rattle.dw_leb.specs.Stay.{one_front}
 use Rattle.dw_leb.specs.Digits.{fixed_decides}
-use Rattle.dw_leb.specs.DecideNumber.{uleb_decides, sleb_decides, initial_length_decides}
+use Rattle.dw_leb.specs.DecideNumber.{uleb_decides, sleb_decides, length_field_decides}
 use Rattle.dw_leb.proofs.laws.one_spelling.Goals as goal
 
 pub returns-clause-fixed_numbers : goal.returns-clause-fixed_numbers
@@ -13,4 +13,4 @@ pub returns-clause-signed_numbers : goal.returns-clause-signed_numbers
 returns-clause-signed_numbers c = one_front _ _ sleb_decides
 
 pub returns-clause-lengths : goal.returns-clause-lengths
-returns-clause-lengths c = λ order start. one_front _ _ (initial_length_decides order start)
+returns-clause-lengths c = λ order. one_front _ _ (length_field_decides order)

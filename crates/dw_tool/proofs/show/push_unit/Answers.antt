@@ -1,6 +1,6 @@
 use Rattle.std.proofs.Common.{rules, length}
 use Rattle.dw_tree.specs.Lent.{entries_of}
-use Rattle.dw_unit.specs.WholeUnit.{bytes_of, tree_of}
+use Rattle.dw_unit.specs.Unit.{bytes_of, tree_of}
 use Rattle.dw_tool.specs.Show.{entries_text, header_line}
 use Rattle.dw_tool.proofs.Appending.{appends_after, appends_stopped}
 use Rattle.dw_tool.proofs.show.push_unit.Goals as goal
@@ -9,10 +9,10 @@ pub returns-in_err-push_header : goal.returns-in_err-push_header
 returns-in_err-push_header c =
     let u = c.args.unit.now in
     appends_stopped c.from_residual.result _ (header_line u.header (length (bytes_of u))) (entries_text (entries_of (tree_of u))) _ (search rules)
-    (rw (c.header.ensures, c.size.ensures) at c.in_err-push_header.ensures)
+    (rw (c.header.ensures, c.size.ensures.size) at c.in_err-push_header.ensures)
 
 pub returns : goal.returns
 returns c =
     let u = c.args.unit.now in
     appends_after c.push_entries.result _ _ (header_line u.header (length (bytes_of u))) (entries_text (entries_of (tree_of u))) _
-    (rw (c.header.ensures, c.size.ensures) at c.in_ok-push_header.ensures) (rw c.entries.ensures at c.push_entries.ensures)
+    (rw (c.header.ensures, c.size.ensures.size) at c.in_ok-push_header.ensures) (rw c.entries.ensures at c.push_entries.ensures)

@@ -1,16 +1,25 @@
 use Rattle.dw_tree.specs.DecideTree.{tree_stays}
-use Rattle.dw_unit.specs.DecideUnit.{unit_stays, fault_stays, front_cut, unit_says}
-use Rattle.dw_unit.specs.ReadUnit.{read_unit}
+use Rattle.dw_unit.specs.DecideUnit.{front_stays, break_stays, unit_stays, fault_stays}
+use Rattle.dw_unit.specs.UnitLaws.{fronts_are_cut, fronts_are_truncated}
 use Rattle.dw_unit.proofs.laws.outcomes_are_stable.Goals as goal
 
 pub returns-clause-trees : goal.returns-clause-trees
 returns-clause-trees c = tree_stays
 
+pub returns-clause-fronts_stay : goal.returns-clause-fronts_stay
+returns-clause-fronts_stay c = front_stays
+
 pub returns-clause-breaks : goal.returns-clause-breaks
-returns-clause-breaks c = unit_stays
+returns-clause-breaks c = break_stays
+
+pub returns-clause-fronts : goal.returns-clause-fronts
+returns-clause-fronts c = fronts_are_cut
+
+pub returns-clause-units : goal.returns-clause-units
+returns-clause-units c = unit_stays
 
 pub returns-clause-faults : goal.returns-clause-faults
 returns-clause-faults c = fault_stays
 
-pub returns-clause-fronts : goal.returns-clause-fronts
-returns-clause-fronts c = λ section front b more u fit_s fit h. front_cut section front b more u h (read_unit u.header.order section front) (unit_says u.header.order section front fit_s fit)
+pub returns-clause-truncated : goal.returns-clause-truncated
+returns-clause-truncated c = fronts_are_truncated

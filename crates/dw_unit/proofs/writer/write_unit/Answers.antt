@@ -5,8 +5,8 @@ use Rattle.dw_leb.specs.Known.{wrote_then, wrote_err}
 use Rattle.dw_leb.specs.Number.{length_size}
 use Rattle.dw_tree.specs.Tree.{tree, nulls, nesting}
 use Rattle.dw_tree.specs.Steps.{TreeAt}
-use Rattle.dw_unit.specs.Unit.{body_bytes}
-use Rattle.dw_unit.specs.WholeUnit.{WholeUnit, bytes_of, contents_of}
+use Rattle.dw_unit.specs.Unit.{WholeUnit, body_bytes, bytes_of, UnitFits}
+use Rattle.dw_unit.specs.UnitLaws.{written_is_read}
 use Rattle.dw_unit.proofs.UnitWritten.{counted, parted, head_bytes, root_bytes}
 use Rattle.dw_unit.proofs.writer.write_unit.Goals as goal
 
@@ -15,7 +15,7 @@ returns-in_err-write_header-clause-written g c =
     let i = c.unit.inside in
     let u : WholeUnit = record { header = i.header; table = i.tree.table; root = i.tree.root; padding = i.padding.items } in
     let n = i.size - c.length_size.result in
-    let n_is : n ≡ length (body_bytes u.table (contents_of u)) = ap (λ (m : ℕ). i.size - m) (c.length_size.ensures ∙ ap length_size c.format.ensures) ∙ counted u i.size c.unit.invariant.sized in
+    let n_is : n ≡ length (body_bytes u) = ap (λ (m : ℕ). i.size - m) (c.length_size.ensures ∙ ap length_size c.format.ensures) ∙ counted u i.size c.unit.invariant.sized in
     let same : (head_bytes u n) ++ (root_bytes u ++ nulls u.padding) ≡ bytes_of c.args.unit.now = parted u n n_is ∙ ap bytes_of c.unit.view_is in
     let a = g.W.Write.contents (inner_of c.args.writer.now) in
     let b = g.W.Write.contents (inner_of c.write_header.new.writer) in
@@ -27,7 +27,7 @@ returns-in_err-write-clause-written g c =
     let i = c.unit.inside in
     let u : WholeUnit = record { header = i.header; table = i.tree.table; root = i.tree.root; padding = i.padding.items } in
     let n = i.size - c.length_size.result in
-    let n_is : n ≡ length (body_bytes u.table (contents_of u)) = ap (λ (m : ℕ). i.size - m) (c.length_size.ensures ∙ ap length_size c.format.ensures) ∙ counted u i.size c.unit.invariant.sized in
+    let n_is : n ≡ length (body_bytes u) = ap (λ (m : ℕ). i.size - m) (c.length_size.ensures ∙ ap length_size c.format.ensures) ∙ counted u i.size c.unit.invariant.sized in
     let same : (head_bytes u n) ++ (root_bytes u ++ nulls u.padding) ≡ bytes_of c.args.unit.now = parted u n n_is ∙ ap bytes_of c.unit.view_is in
     let a = g.W.Write.contents (inner_of c.args.writer.now) in
     let b = g.W.Write.contents (inner_of c.write_header.new.writer) in
@@ -44,7 +44,7 @@ returns-clause-written g c =
     let i = c.unit.inside in
     let u : WholeUnit = record { header = i.header; table = i.tree.table; root = i.tree.root; padding = i.padding.items } in
     let n = i.size - c.length_size.result in
-    let n_is : n ≡ length (body_bytes u.table (contents_of u)) = ap (λ (m : ℕ). i.size - m) (c.length_size.ensures ∙ ap length_size c.format.ensures) ∙ counted u i.size c.unit.invariant.sized in
+    let n_is : n ≡ length (body_bytes u) = ap (λ (m : ℕ). i.size - m) (c.length_size.ensures ∙ ap length_size c.format.ensures) ∙ counted u i.size c.unit.invariant.sized in
     let same : (head_bytes u n) ++ (root_bytes u ++ nulls u.padding) ≡ bytes_of c.args.unit.now = parted u n n_is ∙ ap bytes_of c.unit.view_is in
     let a = g.W.Write.contents (inner_of c.args.writer.now) in
     let b = g.W.Write.contents (inner_of c.write_header.new.writer) in
@@ -57,3 +57,14 @@ returns-clause-written g c =
     subst (λ (bytes : List ℕ). Wrote a e bytes r) same
     (wrote_then a b e (head_bytes u n) (root_bytes u ++ nulls u.padding) r c.in_ok-write_header.ensures.written
     (wrote_then b d e (root_bytes u) (nulls u.padding) r second third))
+
+-- ---- what is written is read back
+
+pub returns-in_err-write_header-clause-read_back : goal.returns-in_err-write_header-clause-read_back
+returns-in_err-write_header-clause-read_back g c = λ section rest place. written_is_read section rest c.args.unit.now (subst UnitFits c.unit.view_is c.unit.invariant.fits) place
+
+pub returns-in_err-write-clause-read_back : goal.returns-in_err-write-clause-read_back
+returns-in_err-write-clause-read_back g c = λ section rest place. written_is_read section rest c.args.unit.now (subst UnitFits c.unit.view_is c.unit.invariant.fits) place
+
+pub returns-clause-read_back : goal.returns-clause-read_back
+returns-clause-read_back g c = λ section rest place. written_is_read section rest c.args.unit.now (subst UnitFits c.unit.view_is c.unit.invariant.fits) place

@@ -4,16 +4,9 @@ use Rattle.dw_leb.specs.View.{uleb_of}
 use Rattle.dw_leb.specs.Reader.{seen_by, answer}
 use Rattle.dw_leb.specs.ReadNumber.{read_uleb}
 use Rattle.dw_leb.specs.DecideNumber.{uleb_decides, uleb_field, length-uleb}
-use Rattle.dw_leb.specs.Field.{are_bytes, found_by, broken_by, only_by, outcome_by, ok_seen, err_seen, only_seen, outcome_seen}
+use Rattle.dw_leb.specs.Field.{are_bytes, found_by, broken_by, only_by, ok_seen, err_seen, only_seen}
 use Rattle.dw_leb.proofs.GroupLemmas.{unsigned_read}
 use Rattle.dw_leb.proofs.unsigned.Uleb.read.Goals as goal
-
-pub returns-clause-exact : goal.returns-clause-exact
-returns-clause-exact c =
-    let fit = are_bytes c.args.b.now (λ k. omega (arith, c.type_inv.b k)) in
-    let same = c.scan.ensures.exact ∙ sym (unsigned_read c.args.b.now c.args.lim fit) in
-    outcome_by uleb read_uleb uleb_decides c.args.b.now c.args.lim (λ x. x.width) (λ x fits. length-uleb x) uleb_field fit (seen_by uleb_of c.scan.result) same
-    ∙ outcome_seen uleb_of (λ x. x.width) c.scan.result
 
 pub returns-clause-found : goal.returns-clause-found
 returns-clause-found c =

@@ -11,7 +11,7 @@ use Rattle.dw_tree.specs.Row.{row_bytes, rows_bytes}
 use Rattle.dw_tree.specs.Flat.{tokens, token_of, RowFits}
 use Rattle.dw_tree.specs.Sound.{TokenFits}
 use Rattle.dw_tree.proofs.WriteLemmas.{rows_next, no_items}
-use Rattle.dw_tree.proofs.Written.{spelled_as, tokens_fit}
+use Rattle.dw_tree.proofs.Written.{spelled_as, fits_as, tokens_fit}
 use Rattle.dw_tree.proofs.tree.EntryTree.write.Goals as goal
 
 pub loop-row-init : goal.loop-row-init
@@ -83,3 +83,9 @@ returns-clause-written g c =
     let none : c.loop-row.left.now ≡ [] = no_items c.loop-row.left.now c.in_default.ensures.cases in
     let to = subst (λ (rs : List Row). Towards x y (rows_bytes a.context a.table.value (tokens a.table.value rs a.values.items a.pool.items)) all) none c.loop-row.invariant.written in
     subst (λ (s : List ℕ). Appends x y s) (spelled_as a c.self.invariant c.args.self.now c.self.view_is) (towards_end x y all to)
+
+pub returns-in_err-write_row-clause-fits : goal.returns-in_err-write_row-clause-fits
+returns-in_err-write_row-clause-fits g c = fits_as c.self.inside c.self.invariant c.args.self.now c.self.view_is
+
+pub returns-clause-fits : goal.returns-clause-fits
+returns-clause-fits g c = fits_as c.self.inside c.self.invariant c.args.self.now c.self.view_is

@@ -1,5 +1,5 @@
--- What a unit is, with the table over which it stands.
-use Rattle.std.specs.Prelude.{◌≡◌, ◌+◌, ℕ, Bool, true, false, List, ◌++◌, length, ◌⊎◌}
+-- The program's units, and errors of reading one, as those of the definitions.
+use Rattle.std.specs.Prelude.{◌≡◌, ◌≤◌, ◌<◌, ◌+◌, ℕ, Bool, true, false, List, length, ◌⊎◌}
 use Rattle.std.proofs.Common.{refl}
 use Rattle.std.specs.Coded.{Coded, code_by, coded×, coded⊎, coded_ℕ, coded_list, coded_bool}
 use mathlib.Core.Logic.{inl, inr}
@@ -8,7 +8,7 @@ use Rattle.dw_leb.specs.declared.order.Format.{Format}
 use Rattle.dw_leb.specs.declared.errors.ReadError.{ReadError}
 use Rattle.dw_leb.specs.declared.errors.ReadError.TheVariants as reads
 use Rattle.dw_leb.specs.declared.errors.Section.TheVariants.{Info}
-use Rattle.dw_abbrev.specs.Table.{Table, TableAt}
+use Rattle.dw_abbrev.specs.Table.{Table}
 use Rattle.dw_tree.specs.Tree.{Tree}
 use Rattle.dw_tree.specs.Codes.{order_code, format_code, table_code, tree_code}
 use Rattle.dw_tree.specs.Steps.{TreeAt}
@@ -16,32 +16,9 @@ use Rattle.dw_unit.specs.declared.bad.BodyError.{BodyError}
 use Rattle.dw_unit.specs.declared.bad.BodyError.TheVariants as errors
 use Rattle.dw_header.specs.declared.kind.Kind.{Kind}
 use Rattle.dw_header.specs.declared.kind.Kind.TheVariants.{Compile, Partial, TypeUnit, Skeleton}
-use Rattle.dw_header.specs.Header.{Header, context_of}
-use Rattle.dw_header.specs.Headed.{header_size}
-use Rattle.dw_unit.specs.Unit.{Contents, UnitFits, unit_bytes, Fails}
-
--- a header, the table at its abbreviation offset, the root with all entries below it, and the widths of the nulls after it
-pub record WholeUnit : Type 0 where
-  pub header : Header
-  pub table : Table
-  pub root : Tree
-  pub padding : List ℕ
-
-abbrev pub contents_of : WholeUnit → Contents
-contents_of u = record { header = u.header; root = u.root; padding = u.padding }
-
--- the one spelling of a unit
-abbrev pub bytes_of : WholeUnit → List ℕ
-bytes_of u = unit_bytes u.table (contents_of u)
-
--- the unit, of so many bytes, stands at the front of the bytes, over the table in the section at its header's offset
-pub record UnitAt (section : List ℕ) (order : Order) (bytes : List ℕ) (u : WholeUnit) (size : ℕ) : Type 0 where
-  pub order_is : u.header.order ≡ order
-  pub table_at : TableAt section u.header.abbrev_offset u.table
-  pub fits : UnitFits u.table (contents_of u)
-  pub rest : List ℕ
-  pub split : bytes ≡ bytes_of u ++ rest
-  pub is_size : length (bytes_of u) ≡ size
+use Rattle.dw_header.specs.Header.{Header}
+use Rattle.dw_header.specs.Headed.{HeaderAt}
+use Rattle.dw_unit.specs.Unit.{WholeUnit, bytes_of, tree_of, UnitFits, Fails}
 
 -- An error of reading a unit: a fault is the first one. A reading without a reader has no reader's error.
 abbrev pub TellsFault : List ℕ → Order → List ℕ → ReadError → Type 0
@@ -49,18 +26,27 @@ TellsFault section order bytes (reads.Fault f) = Fails order section bytes f.sec
 TellsFault section order bytes reads.NoMemory = Unit {0}
 TellsFault section order bytes (reads.Io kind) = ⊥
 
+-- A fault in the unit's own bytes stands within so many bytes, or just behind them.
+abbrev pub FaultWithin : ℕ → ReadError → Type 0
+FaultWithin n (reads.Fault f) = f.section ≡ Info → f.offset ≤ n
+FaultWithin n reads.NoMemory = Unit {0}
+FaultWithin n (reads.Io kind) = Unit {0}
+
+-- a header stands at the front, and the offset of its table lies in the abbreviation section
+pub record NamesTable (section : List ℕ) (order : Order) (bytes : List ℕ) : Type 0 where
+  pub header : Header
+  pub count : ℕ
+  pub stands : HeaderAt order bytes header count
+  pub inside : header.abbrev_offset < length section
+
 -- the error of reading a unit where its entries, which begin at a place, give this one
 abbrev pub unit_error_of : ℕ → BodyError → ReadError
 unit_error_of at (errors.Bad e) = reads.Fault (record { section = Info; offset = at + e.offset; reason = e.reason })
 unit_error_of at errors.NoMemory = reads.NoMemory
 
--- the tree of a unit: the root stands behind the header
-abbrev pub tree_of : WholeUnit → TreeAt
-tree_of u = record { context = context_of u.header; table = u.table; start = header_size u.header; root = u.root }
-
 -- what a unit keeps: its tree, a spelling, and its size
 pub record IsUnit (u : WholeUnit) (tree : TreeAt) (size : ℕ) : Type 0 where
-  pub fits : UnitFits u.table (contents_of u)
+  pub fits : UnitFits u
   pub tree_is : tree ≡ tree_of u
   pub sized : length (bytes_of u) ≡ size
 

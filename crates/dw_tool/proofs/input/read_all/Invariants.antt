@@ -1,7 +1,7 @@
 use Rattle.std.proofs.Common.{◌≡◌, ◌-◌, ◌^◌, None, vec_len}
 use Rattle.std.specs.Io.KnownBytes.{Consumes}
 use Rattle.dw_leb.specs.Watch.{inner_of, fault_of}
-use Rattle.dw_leb.proofs.transfer.read_all.Given as goal
+use Rattle.dw_tool.proofs.input.read_all.Given as goal
 
 -- what was taken stands in the vector
 abbrev pub invariant-loop-got : goal.invariant-loop-got

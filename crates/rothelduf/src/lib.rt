@@ -1,0 +1,26 @@
+//! DWARF 5 debugging entries: read, looked at, built and written, by code that is proved. Whoever uses
+//! the library needs this crate alone; the crates below say where each item stands.
+//!
+//! A unit is read from the bytes of `.debug_info`, over the table at its header's offset in
+//! `.debug_abbrev`:
+//!
+//! - `Tables` holds the abbreviation section, and reads each table when it is first asked for;
+//! - `read_unit` answers the unit at the front of bytes, or the first fault; `read_unit_from` does so from
+//!   any reader;
+//! - `Unit` lends its entries (`EntryRef`) and their attributes (`AttrRef`);
+//! - `UnitBuilder` makes a unit entry by entry, over a table of `TableBuilder`;
+//! - `write_unit` writes a unit as it was read or built, each number in its own width.
+//!
+//! `constants` has the numbers of the standard by name.
+#![tactic(auto)]
+
+pub use dw_abbrev::{Decl, Pair, Table, TableBuilder, TableRefusal, Tables};
+pub use dw_feed::read_unit_from;
+pub use dw_form::{AttrValue, Ctx, Shape, Value};
+pub use dw_leb::{
+    Fault, Format, Order, ReadError, Reason, Section, Sleb, Uleb, Watched, WriteError, constants,
+};
+pub use dw_unit::{
+    AttrRef, Attrs, Children, Draft, Entries, EntryRef, Header, Kind, Refusal, Unit, UnitBuilder,
+    most_levels, read_header, read_unit, write_unit,
+};
