@@ -17,8 +17,8 @@ use Rattle.dw_abbrev.specs.ReadTable.{read_code, read_described, read_declaratio
 use Rattle.dw_abbrev.specs.DecideTable.{declarations_back, AreBytes-drop, table_decides}
 use Rattle.dw_abbrev.specs.Laws.{one_table_at, no_break_at}
 use Rattle.dw_abbrev.specs.TableView.{decls_in, AreKeyed}
-use Rattle.dw_abbrev.specs.Tells.{TellsFault, Declares, IsFault, refused_memory}
-use Rattle.dw_abbrev.specs.Place.{Gives, Fails, fault_at, checked_refuses, checked_passes, made_fails, made_gives, ReadTo, nothing_yet, one_item, items_end, head_fails, body_fails}
+use Rattle.dw_abbrev.specs.TableErrors.{IsTableError, Declares, IsFault, refused_memory}
+use Rattle.dw_abbrev.specs.Place.{Gives, IsErrorAt, fault_at, checked_refuses, checked_passes, made_fails, made_gives, ReadTo, nothing_yet, one_item, items_end, head_fails, body_fails}
 
 -- ---- look-ups by code
 
@@ -50,70 +50,70 @@ no_value (Some x) e = absurd cc
 
 -- ---- a code
 
-module _ (section : List ℕ) (at : ℕ) (es : List (ℕ × Declaration)) (keyed : AreKeyed es) (code : Unsigned) (next : ℕ) (g : Gives read_uleb section at code next) where
-  pub code_repeats : true ≡ is_some (lookup (eqb code.value) es) → Fails (read_code (map declaration_parts (decls_in es))) section at (fault_at at DuplicateCode)
-  code_repeats e = checked_refuses read_uleb (repeats (map declaration_parts (decls_in es))) section at code next g DuplicateCode
+module _ (abbreviations : List ℕ) (at : ℕ) (es : List (ℕ × Declaration)) (keyed : AreKeyed es) (code : Unsigned) (next : ℕ) (g : Gives read_uleb abbreviations at code next) where
+  pub code_repeats : true ≡ is_some (lookup (eqb code.value) es) → IsErrorAt (read_code (map declaration_parts (decls_in es))) abbreviations at (fault_at at DuplicateCode)
+  code_repeats e = checked_refuses read_uleb (repeats (map declaration_parts (decls_in es))) abbreviations at code next g DuplicateCode
       (ap (λ (b : Bool). if b then Some DuplicateCode else None) (among_keys es code.value keyed ∙ sym e))
 
-  pub code_passes : false ≡ is_some (lookup (eqb code.value) es) → Gives (read_code (map declaration_parts (decls_in es))) section at code next
-  code_passes e = checked_passes read_uleb (repeats (map declaration_parts (decls_in es))) section at code next g
+  pub code_passes : false ≡ is_some (lookup (eqb code.value) es) → Gives (read_code (map declaration_parts (decls_in es))) abbreviations at code next
+  code_passes e = checked_passes read_uleb (repeats (map declaration_parts (decls_in es))) abbreviations at code next g
       (ap (λ (b : Bool). if b then Some DuplicateCode else None) (among_keys es code.value keyed ∙ sym e))
 
 -- ---- declarations
 
 abbrev pub DeclsTo : List ℕ → ℕ → List (ℕ × Declaration) → ℕ → Type 0
-DeclsTo section start es here = ReadTo read_code is_null (λ _. read_described) section start (map declaration_parts (decls_in es)) here
+DeclsTo abbreviations start es here = ReadTo read_code is_null (λ _. read_described) abbreviations start (map declaration_parts (decls_in es)) here
 
-pub no_decls : (section : List ℕ) (start : ℕ) → start ≤ length section → DeclsTo section start [] start
-no_decls section start within = nothing_yet read_code is_null (λ _. read_described) section start within
+pub no_decls : (abbreviations : List ℕ) (start : ℕ) → start ≤ length abbreviations → DeclsTo abbreviations start [] start
+no_decls abbreviations start within = nothing_yet read_code is_null (λ _. read_described) abbreviations start within
 
-module _ (section : List ℕ) (start : ℕ) (es : List (ℕ × Declaration)) (here : ℕ) (r : DeclsTo section start es here) where
-  pub code_fails : (e : ReadError) → Fails (read_code (map declaration_parts (decls_in es))) section here e → Fails read_table section start e
+module _ (abbreviations : List ℕ) (start : ℕ) (es : List (ℕ × Declaration)) (here : ℕ) (r : DeclsTo abbreviations start es here) where
+  pub code_fails : (e : ReadError) → IsErrorAt (read_code (map declaration_parts (decls_in es))) abbreviations here e → IsErrorAt read_table abbreviations start e
   unfolding read_table
-  code_fails e h = made_fails table_from read_declarations section start e (head_fails read_code is_null (λ _. read_described) section start (map declaration_parts (decls_in es)) here r e h)
+  code_fails e h = made_fails table_from read_declarations abbreviations start e (head_fails read_code is_null (λ _. read_described) abbreviations start (map declaration_parts (decls_in es)) here r e h)
 
-  module _ (code : Unsigned) (behind : ℕ) (g : Gives (read_code (map declaration_parts (decls_in es))) section here code behind) where
-    pub table_there : is_null code ≡ true → Gives read_table section start (record { declarations = decls_in es; last_zero = code.width }) behind
+  module _ (code : Unsigned) (behind : ℕ) (g : Gives (read_code (map declaration_parts (decls_in es))) abbreviations here code behind) where
+    pub table_there : is_null code ≡ true → Gives read_table abbreviations start (record { declarations = decls_in es; last_zero = code.width }) behind
     unfolding read_table
-    table_there e = subst (λ (ds : List Declaration). Gives read_table section start (record { declarations = ds; last_zero = code.width }) behind) (declarations_back (decls_in es))
-        (made_gives table_from read_declarations section start (map declaration_parts (decls_in es), code) behind
-        (items_end read_code is_null (λ _. read_described) section start (map declaration_parts (decls_in es)) here r code behind g e))
+    table_there e = subst (λ (ds : List Declaration). Gives read_table abbreviations start (record { declarations = ds; last_zero = code.width }) behind) (declarations_back (decls_in es))
+        (made_gives table_from read_declarations abbreviations start (map declaration_parts (decls_in es), code) behind
+        (items_end read_code is_null (λ _. read_described) abbreviations start (map declaration_parts (decls_in es)) here r code behind g e))
 
-    pub declaration_fails : is_null code ≡ false → (e : ReadError) → Fails read_described section behind e → Fails read_table section start e
+    pub declaration_fails : is_null code ≡ false → (e : ReadError) → IsErrorAt read_described abbreviations behind e → IsErrorAt read_table abbreviations start e
     unfolding read_table
-    declaration_fails f e h = made_fails table_from read_declarations section start e (body_fails read_code is_null (λ _. read_described) section start (map declaration_parts (decls_in es)) here r code behind g f e h)
+    declaration_fails f e h = made_fails table_from read_declarations abbreviations start e (body_fails read_code is_null (λ _. read_described) abbreviations start (map declaration_parts (decls_in es)) here r code behind g f e h)
 
-    pub one_declaration : is_null code ≡ false → here < behind → (d : Declaration) → d.code ≡ code → (next : ℕ) → Gives read_described section behind (described_of d) next
-        → DeclsTo section start (es ++ (d.code.value, d) ∷ []) next
+    pub one_declaration : is_null code ≡ false → here < behind → (d : Declaration) → d.code ≡ code → (next : ℕ) → Gives read_described abbreviations behind (described_of d) next
+        → DeclsTo abbreviations start (es ++ (d.code.value, d) ∷ []) next
     one_declaration f lt d same next h =
         let e : map declaration_parts (decls_in (es ++ (d.code.value, d) ∷ [])) ≡ map declaration_parts (decls_in es) ++ (d.code, described_of d) ∷ [] =
         ap (map declaration_parts) (decls-push es d) ∙ map-append declaration_parts (decls_in es) (d ∷ []) in
-        subst (λ (xs : List (Unsigned × Described)). ReadTo read_code is_null (λ _. read_described) section start xs next) (sym e)
-        (subst (λ (u : Unsigned). ReadTo read_code is_null (λ _. read_described) section start (map declaration_parts (decls_in es) ++ (u, described_of d) ∷ []) next) (sym same)
-        (one_item read_code is_null (λ _. read_described) section start (map declaration_parts (decls_in es)) here r code behind g lt f (described_of d) next h))
+        subst (λ (xs : List (Unsigned × Described)). ReadTo read_code is_null (λ _. read_described) abbreviations start xs next) (sym e)
+        (subst (λ (u : Unsigned). ReadTo read_code is_null (λ _. read_described) abbreviations start (map declaration_parts (decls_in es) ++ (u, described_of d) ∷ []) next) (sym same)
+        (one_item read_code is_null (λ _. read_described) abbreviations start (map declaration_parts (decls_in es)) here r code behind g lt f (described_of d) next h))
 
 -- ---- a table
 
-module _ (section : List ℕ) (at : ℕ) (fit : AreBytes section) where
+module _ (abbreviations : List ℕ) (at : ℕ) (fit : AreBytes abbreviations) where
   abbrev lim : ℕ
-  lim = unbounded section
+  lim = unbounded abbreviations
 
-  said : Says table (drop at section) lim (read_table (drop at section) lim)
-  said = table_decides.says (drop at section) lim (AreBytes-drop at section fit)
+  said : Says table (drop at abbreviations) lim (read_table (drop at abbreviations) lim)
+  said = table_decides.says (drop at abbreviations) lim (AreBytes-drop at abbreviations fit)
 
-  pub table_fits : (t : Table) (next : ℕ) → Gives read_table section at t next → table.Fits t
+  pub table_fits : (t : Table) (next : ℕ) → Gives read_table abbreviations at t next → table.Fits t
   table_fits t next g =
-      let h : Says table (drop at section) lim (found t (next - at)) = subst (λ (o : Outcome Table). Says table (drop at section) lim o) (g.reads lim (omega arith)) said in
+      let h : Says table (drop at abbreviations) lim (found t (next - at)) = subst (λ (o : Outcome Table). Says table (drop at abbreviations) lim o) (g.reads lim (omega arith)) said in
       h.fits
 
   -- the code at the front of what is read
-  pub declares : (here : ℕ) → (here ≡ at) ⊎ Declares section at → (before : List (Unsigned × Described)) (code : Unsigned) (next : ℕ) → Gives (read_code before) section here code next
-      → here < next → next ≤ length section → is_null code ≡ false → Declares section at
+  pub declares : (here : ℕ) → (here ≡ at) ⊎ Declares abbreviations at → (before : List (Unsigned × Described)) (code : Unsigned) (next : ℕ) → Gives (read_code before) abbreviations here code next
+      → here < next → next ≤ length abbreviations → is_null code ≡ false → Declares abbreviations at
   declares here begun before code next g lt within some =
-      let all = (judged_decides uleb read_uleb (repeats before) uleb_decides).says (drop here section) lim (AreBytes-drop here section fit) in
-      let h : Says (judged uleb (repeats before)) (drop here section) lim (found code (next - here)) =
-      subst (λ (o : Outcome Unsigned). Says (judged uleb (repeats before)) (drop here section) lim o) (g.reads lim (omega arith)) all in
-      let there : Declares section here = record {
+      let all = (judged_decides uleb read_uleb (repeats before) uleb_decides).says (drop here abbreviations) lim (AreBytes-drop here abbreviations fit) in
+      let h : Says (judged uleb (repeats before)) (drop here abbreviations) lim (found code (next - here)) =
+      subst (λ (o : Outcome Unsigned). Says (judged uleb (repeats before)) (drop here abbreviations) lim o) (g.reads lim (omega arith)) all in
+      let there : Declares abbreviations here = record {
         inside = omega (arith, lt, within);
         code = code;
         some = some;
@@ -121,33 +121,33 @@ module _ (section : List ℕ) (at : ℕ) (fit : AreBytes section) where
         taken = record { rest = h.rest; fits = h.fits.0; split = h.split; is_size = h.is_size; within = h.within };
       } in
       elim begun [
-        | inl e ↦ subst (λ (n : ℕ). Declares section n) e there
+        | inl e ↦ subst (λ (n : ℕ). Declares abbreviations n) e there
         | inr s ↦ s
       ]
 
-  pub table_at : at < length section → (t : Table) (next : ℕ) → Gives read_table section at t next → TableAt section at t
+  pub table_at : at < length abbreviations → (t : Table) (next : ℕ) → Gives read_table abbreviations at t next → TableAt abbreviations at t
   table_at lt t next g =
-      let h : Says table (drop at section) lim (found t (next - at)) = subst (λ (o : Outcome Table). Says table (drop at section) lim o) (g.reads lim (omega arith)) said in
+      let h : Says table (drop at abbreviations) lim (found t (next - at)) = subst (λ (o : Outcome Table). Says table (drop at abbreviations) lim o) (g.reads lim (omega arith)) said in
       record { inside = lt; fits = h.fits; rest = h.rest; split = h.split }
 
-  pub table_tells : at < length section → (e : ReadError) → Fails read_table section at e → TellsFault section at e
+  pub table_tells : at < length abbreviations → (e : ReadError) → IsErrorAt read_table abbreviations at e → IsTableError abbreviations at e
   table_tells lt (reads.Fault f) g =
-      let h : Says table (drop at section) lim (broken Table (f.offset - at) f.reason) = subst (λ (o : Outcome Table). Says table (drop at section) lim o) (g.reads lim (omega arith)) said in
+      let h : Says table (drop at abbreviations) lim (broken Table (f.offset - at) f.reason) = subst (λ (o : Outcome Table). Says table (drop at abbreviations) lim o) (g.reads lim (omega arith)) said in
       (g.in_table, inr (lt, (f.offset - at, omega (arith, g.forward), h)))
   table_tells lt reads.NoMemory g = tt
   table_tells lt (reads.Io kind) g = absurd g
 
 -- ---- where a table stands, nothing else is answered
 
-pub only_memory : (section : List ℕ) (offset : ℕ) (t : Table) (e : ReadError) → TableAt section offset t → TellsFault section offset e → e ≡ refused_memory
-only_memory section offset t (reads.Fault f) h k = absurd (no_break_at section offset t f.offset f.reason h k.1)
-only_memory section offset t reads.NoMemory h k = refl
-only_memory section offset t (reads.Io kind) h k = absurd k
+pub only_memory : (abbreviations : List ℕ) (offset : ℕ) (t : Table) (e : ReadError) → TableAt abbreviations offset t → IsTableError abbreviations offset e → e ≡ refused_memory
+only_memory abbreviations offset t (reads.Fault f) h k = absurd (no_break_at abbreviations offset t f.offset f.reason h k.1)
+only_memory abbreviations offset t reads.NoMemory h k = refl
+only_memory abbreviations offset t (reads.Io kind) h k = absurd k
 
-pub only_that : (section : List ℕ) (offset : ℕ) (r : Result Table ReadError) → IfOk r (λ x. TableAt section offset x) → IfErr r (λ e. TellsFault section offset e)
-    → (t : Table) → TableAt section offset t → IfOk r (λ x. x ≡ t) × IfErr r (λ e. e ≡ refused_memory)
-only_that section offset (Ok x) h k t at = (one_table_at section offset x t h at, tt)
-only_that section offset (Err e) h k t at = (tt, only_memory section offset t e at k)
+pub only_that : (abbreviations : List ℕ) (offset : ℕ) (r : Result Table ReadError) → IfOk r (λ x. TableAt abbreviations offset x) → IfErr r (λ e. IsTableError abbreviations offset e)
+    → (t : Table) → TableAt abbreviations offset t → IfOk r (λ x. x ≡ t) × IfErr r (λ e. e ≡ refused_memory)
+only_that abbreviations offset (Ok x) h k t at = (one_table_at abbreviations offset x t h at, tt)
+only_that abbreviations offset (Err e) h k t at = (tt, only_memory abbreviations offset t e at k)
 
 pub no_memory : (e : ReadError) → IsFault e → e ≡ refused_memory → ⊥
 no_memory e h same = subst (λ (x : ReadError). IsFault x) same h

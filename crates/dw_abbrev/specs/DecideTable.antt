@@ -106,40 +106,40 @@ table_decides = seen_decides declarations read_declarations table_parts table_fr
 
 -- ---- at a place
 
-pub table_take : (section : List ℕ) (offset : ℕ) (t : Table) → TableAt section offset t → read_table_at section offset ≡ found t (length (table.spell t))
+pub table_take : (abbreviations : List ℕ) (offset : ℕ) (t : Table) → TableAt abbreviations offset t → read_table_at abbreviations offset ≡ found t (length (table.spell t))
 unfolding read_table_at
-table_take section offset t h =
-    let len : length (drop offset section) ≡ length (table.spell t) + length h.rest = ap length h.split ∙ length-append (table.spell t) h.rest in
-    let len2 : length (drop offset section) ≡ length section - offset = length-drop offset section in
-    let within : length (table.spell t) ≤ unbounded section = omega arith in
-    rw (lt-ltb offset (length section) h.inside)
-    (ap (λ (b : List ℕ). placed offset (read_table b (unbounded section))) h.split
-    ∙ ap (placed offset) (table_decides.takes t h.rest (unbounded section) h.fits within))
+table_take abbreviations offset t h =
+    let len : length (drop offset abbreviations) ≡ length (table.spell t) + length h.rest = ap length h.split ∙ length-append (table.spell t) h.rest in
+    let len2 : length (drop offset abbreviations) ≡ length abbreviations - offset = length-drop offset abbreviations in
+    let within : length (table.spell t) ≤ unbounded abbreviations = omega arith in
+    rw (lt-ltb offset (length abbreviations) h.inside)
+    (ap (λ (b : List ℕ). placed offset (read_table b (unbounded abbreviations))) h.split
+    ∙ ap (placed offset) (table_decides.takes t h.rest (unbounded abbreviations) h.fits within))
 
-pub table_fault : (section : List ℕ) (offset at : ℕ) (reason : Reason) → TableBreaks section offset at reason → read_table_at section offset ≡ broken Table at reason
+pub table_fault : (abbreviations : List ℕ) (offset at : ℕ) (reason : Reason) → TableBreaks abbreviations offset at reason → read_table_at abbreviations offset ≡ broken Table at reason
 unfolding read_table_at
-table_fault section offset at reason h = elim h [
-  | inl past ↦ rw (le-ltb offset (length section) (omega (arith, past.0)), past.1, past.2) refl
-  | inr own ↦ rw (lt-ltb offset (length section) own.0) (ap (placed offset) (table_decides.faults (drop offset section) (unbounded section) own.1.0 reason own.1.2) ∙ ap (λ (n : ℕ). broken Table n reason) (sym own.1.1))
+table_fault abbreviations offset at reason h = elim h [
+  | inl past ↦ rw (le-ltb offset (length abbreviations) (omega (arith, past.0)), past.1, past.2) refl
+  | inr own ↦ rw (lt-ltb offset (length abbreviations) own.0) (ap (placed offset) (table_decides.faults (drop offset abbreviations) (unbounded abbreviations) own.1.0 reason own.1.2) ∙ ap (λ (n : ℕ). broken Table n reason) (sym own.1.1))
 ]
 
 abbrev pub TableSays : List ℕ → ℕ → Outcome Table → Type 0
-TableSays section offset (Found t size) = TableAt section offset t
-TableSays section offset (Broken at reason) = TableBreaks section offset at reason
+TableSays abbreviations offset (Found t size) = TableAt abbreviations offset t
+TableSays abbreviations offset (Broken at reason) = TableBreaks abbreviations offset at reason
 
 pub AreBytes-drop : (n : ℕ) (bytes : List ℕ) → AreBytes bytes → AreBytes (drop n bytes)
 AreBytes-drop zero bytes h = h
 AreBytes-drop (suc n) [] h = tt
 AreBytes-drop (suc n) (b ∷ bytes) h = AreBytes-drop n bytes h.1
 
-pub table_says : (section : List ℕ) (offset : ℕ) → AreBytes section → TableSays section offset (read_table_at section offset)
+pub table_says : (abbreviations : List ℕ) (offset : ℕ) → AreBytes abbreviations → TableSays abbreviations offset (read_table_at abbreviations offset)
 unfolding read_table_at
-table_says section offset fit = by (nat_lt offset (length section)) refl
+table_says abbreviations offset fit = by (nat_lt offset (length abbreviations)) refl
   where
-    in_place : offset < length section → (o : Outcome Table) → Says table (drop offset section) (unbounded section) o → TableSays section offset (placed offset o)
+    in_place : offset < length abbreviations → (o : Outcome Table) → Says table (drop offset abbreviations) (unbounded abbreviations) o → TableSays abbreviations offset (placed offset o)
     in_place lt (Found t size) h = record { inside = lt; fits = h.fits; rest = h.rest; split = h.split }
     in_place lt (Broken own reason) h = inr (lt, (own, refl, h))
 
-    by : (v : Bool) → nat_lt offset (length section) ≡ v → TableSays section offset (if v then placed offset (read_table (drop offset section) (unbounded section)) else Broken offset AbbrevOffset)
-    by true e = in_place (ltb-true _ _ e) (read_table (drop offset section) (unbounded section)) (table_decides.says (drop offset section) (unbounded section) (AreBytes-drop offset section fit))
+    by : (v : Bool) → nat_lt offset (length abbreviations) ≡ v → TableSays abbreviations offset (if v then placed offset (read_table (drop offset abbreviations) (unbounded abbreviations)) else Broken offset AbbrevOffset)
+    by true e = in_place (ltb-true _ _ e) (read_table (drop offset abbreviations) (unbounded abbreviations)) (table_decides.says (drop offset abbreviations) (unbounded abbreviations) (AreBytes-drop offset abbreviations fit))
     by false e = inl (omega (arith, ltb-false _ _ e), refl, refl)

@@ -14,10 +14,10 @@ use Rattle.dw_abbrev.specs.DecideTable.{code_head, table_take, table_fault, Tabl
 
 -- a section and an offset have exactly one of: one table that stands there, one break
 pub record OneTable : Type 0 where
-  pub one_table : (section : List ℕ) (offset : ℕ) (x y : Table) → TableAt section offset x → TableAt section offset y → x ≡ y
-  pub one_break : (section : List ℕ) (offset m n : ℕ) (r s : Reason) → TableBreaks section offset m r → TableBreaks section offset n s → (m ≡ n) × (r ≡ s)
-  pub not_both : (section : List ℕ) (offset : ℕ) (x : Table) (m : ℕ) (r : Reason) → TableAt section offset x → TableBreaks section offset m r → ⊥
-  pub some : (section : List ℕ) (offset : ℕ) → AreBytes section → ((x : Table) × TableAt section offset x) ⊎ ((m : ℕ) × (r : Reason) × TableBreaks section offset m r)
+  pub one_table : (abbreviations : List ℕ) (offset : ℕ) (x y : Table) → TableAt abbreviations offset x → TableAt abbreviations offset y → x ≡ y
+  pub one_break : (abbreviations : List ℕ) (offset m n : ℕ) (r s : Reason) → TableBreaks abbreviations offset m r → TableBreaks abbreviations offset n s → (m ≡ n) × (r ≡ s)
+  pub not_both : (abbreviations : List ℕ) (offset : ℕ) (x : Table) (m : ℕ) (r : Reason) → TableAt abbreviations offset x → TableBreaks abbreviations offset m r → ⊥
+  pub some : (abbreviations : List ℕ) (offset : ℕ) → AreBytes abbreviations → ((x : Table) × TableAt abbreviations offset x) ⊎ ((m : ℕ) × (r : Reason) × TableBreaks abbreviations offset m r)
 
 -- a table that fits stands where it is written
 abbrev pub WrittenStands : Type 0
@@ -25,31 +25,31 @@ WrittenStands = (before rest : List ℕ) (t : Table) → table.Fits t → TableA
 
 -- ---- proofs
 
-some_table : (section : List ℕ) (offset : ℕ) (o : Outcome Table) → TableSays section offset o → ((x : Table) × TableAt section offset x) ⊎ ((m : ℕ) × (r : Reason) × TableBreaks section offset m r)
-some_table section offset (Found t size) h = inl (t, h)
-some_table section offset (Broken at reason) h = inr (at, reason, h)
+some_table : (abbreviations : List ℕ) (offset : ℕ) (o : Outcome Table) → TableSays abbreviations offset o → ((x : Table) × TableAt abbreviations offset x) ⊎ ((m : ℕ) × (r : Reason) × TableBreaks abbreviations offset m r)
+some_table abbreviations offset (Found t size) h = inl (t, h)
+some_table abbreviations offset (Broken at reason) h = inr (at, reason, h)
 
-pub one_table_at : (section : List ℕ) (offset : ℕ) (x y : Table) → TableAt section offset x → TableAt section offset y → x ≡ y
-one_table_at section offset x y h k =
-    let e : found x (length (table.spell x)) ≡ found y (length (table.spell y)) = sym (table_take section offset x h) ∙ table_take section offset y k in cc
+pub one_table_at : (abbreviations : List ℕ) (offset : ℕ) (x y : Table) → TableAt abbreviations offset x → TableAt abbreviations offset y → x ≡ y
+one_table_at abbreviations offset x y h k =
+    let e : found x (length (table.spell x)) ≡ found y (length (table.spell y)) = sym (table_take abbreviations offset x h) ∙ table_take abbreviations offset y k in cc
 
-one_break_at : (section : List ℕ) (offset m n : ℕ) (r s : Reason) → TableBreaks section offset m r → TableBreaks section offset n s → (m ≡ n) × (r ≡ s)
-one_break_at section offset m n r s h k =
-    let e : broken Table m r ≡ broken Table n s = sym (table_fault section offset m r h) ∙ table_fault section offset n s k in
+one_break_at : (abbreviations : List ℕ) (offset m n : ℕ) (r s : Reason) → TableBreaks abbreviations offset m r → TableBreaks abbreviations offset n s → (m ≡ n) × (r ≡ s)
+one_break_at abbreviations offset m n r s h k =
+    let e : broken Table m r ≡ broken Table n s = sym (table_fault abbreviations offset m r h) ∙ table_fault abbreviations offset n s k in
     let same : m ≡ n = cc in
     let why : r ≡ s = cc in
     (same, why)
 
-pub no_break_at : (section : List ℕ) (offset : ℕ) (x : Table) (m : ℕ) (r : Reason) → TableAt section offset x → TableBreaks section offset m r → ⊥
-no_break_at section offset x m r h k =
-    let e : found x (length (table.spell x)) ≡ broken Table m r = sym (table_take section offset x h) ∙ table_fault section offset m r k in absurd cc
+pub no_break_at : (abbreviations : List ℕ) (offset : ℕ) (x : Table) (m : ℕ) (r : Reason) → TableAt abbreviations offset x → TableBreaks abbreviations offset m r → ⊥
+no_break_at abbreviations offset x m r h k =
+    let e : found x (length (table.spell x)) ≡ broken Table m r = sym (table_take abbreviations offset x h) ∙ table_fault abbreviations offset m r k in absurd cc
 
 pub one_table : OneTable
 one_table = record {
   one_table = one_table_at;
   one_break = one_break_at;
   not_both = no_break_at;
-  some = λ section offset fit. some_table section offset (read_table_at section offset) (table_says section offset fit);
+  some = λ abbreviations offset fit. some_table abbreviations offset (read_table_at abbreviations offset) (table_says abbreviations offset fit);
 }
 
 some_bytes : (before xs : List (Unsigned × Described)) (end : Unsigned) → ItemsFit code_head is_null (λ _. described) before xs end → 0 < length (items_bytes code_head is_null (λ _. described) before xs end)

@@ -4,7 +4,7 @@ pub mod DecideTable
 pub mod Place
 pub mod PairView
 pub mod TableView
-pub mod Tells
+pub mod TableErrors
 pub mod Spelling
 pub mod Build
 pub mod Laws

@@ -50,4 +50,4 @@ placed offset (Found t size) = Found t size
 placed offset (Broken own reason) = Broken (offset + own) reason
 
 unfoldable pub read_table_at : List ℕ → ℕ → Outcome Table
-read_table_at section offset = if nat_lt offset (length section) then placed offset (read_table (drop offset section) (unbounded section)) else Broken offset AbbrevOffset
+read_table_at abbreviations offset = if nat_lt offset (length abbreviations) then placed offset (read_table (drop offset abbreviations) (unbounded abbreviations)) else Broken offset AbbrevOffset

@@ -107,17 +107,17 @@ abbrev pub unbounded : List ℕ → ℕ
 unbounded bytes = length bytes + 16
 
 -- the table t stands in the section at the offset
-pub record TableAt (section : List ℕ) (offset : ℕ) (t : Table) : Type 0 where
-  pub inside : offset < length section
+pub record TableAt (abbreviations : List ℕ) (offset : ℕ) (t : Table) : Type 0 where
+  pub inside : offset < length abbreviations
   pub fits : table.Fits t
   pub rest : List ℕ
-  pub split : drop offset section ≡ table.spell t ++ rest
+  pub split : drop offset abbreviations ≡ table.spell t ++ rest
 
 -- the table at the offset breaks; the broken field's offset counts from the section's first byte
 abbrev pub TableBreaks : List ℕ → ℕ → ℕ → Reason → Type 0
-TableBreaks section offset at reason =
-    (length section < suc offset) × (at ≡ offset) × (reason ≡ AbbrevOffset)
-    ⊎ (offset < length section) × ((own : ℕ) × (at ≡ offset + own) × table.Break (drop offset section) (unbounded section) own reason)
+TableBreaks abbreviations offset at reason =
+    (length abbreviations < suc offset) × (at ≡ offset) × (reason ≡ AbbrevOffset)
+    ⊎ (offset < length abbreviations) × ((own : ℕ) × (at ≡ offset + own) × table.Break (drop offset abbreviations) (unbounded abbreviations) own reason)
 
 -- the declaration of a code
 abbrev pub declared_in : List Declaration → ℕ → Option Declaration

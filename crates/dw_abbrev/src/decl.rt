@@ -2,13 +2,13 @@
 ghost use Rattle.std.specs.Prelude.{◌≡◌, ◌<◌, ◌≤◌, false, length, None, IfOk, IfErr, OnOk, OnErr, map};
 ghost use Rattle.std.specs.Result.{result_err};
 ghost use Rattle.dw_leb.specs.View.{uleb_of};
-ghost use Rattle.dw_leb.specs.Watch.{inner_of, fault_of, told_by_write, Wrote};
+ghost use Rattle.dw_leb.specs.Watch.{inner_of, fault_of, writer_fault, Wrote};
 ghost use Rattle.dw_abbrev.specs.Spelling.{head_bytes, zeros_bytes, declaration_bytes};
 ghost use Rattle.dw_abbrev.specs.Table.{described_of, is_null};
 ghost use Rattle.dw_abbrev.specs.Build.{new_refusal, without_pairs, pair_refusal, with_pair, or_memory, has_too_many, DeclarationFits};
 ghost use Rattle.dw_abbrev.specs.ReadTable.{read_described};
 ghost use Rattle.dw_abbrev.specs.PairView.{pair_of, pair_from};
-ghost use Rattle.dw_abbrev.specs.Place.{Gives, Fails};
+ghost use Rattle.dw_abbrev.specs.Place.{Gives, IsErrorAt};
 
 use crate::fields::{flag_at, uleb_at, write_flag, write_uleb, zero};
 use crate::pair::{MOST_PAIRS, Pair, misfit, pairs_at, write_pairs};
@@ -153,7 +153,7 @@ impl Decl {
     pub(crate) fn write<W: Write>(&self, writer: &mut Watched<W>) -> Result<(), WriteError>
         requires { fault_of writer.old ≡ None }
         ensures written { Wrote (W.contents (inner_of writer.old)) (W.contents (inner_of writer.new)) (declaration_bytes self.now) result }
-        ensures fault { fault_of writer.new ≡ told_by_write result }
+        ensures fault { fault_of writer.new ≡ writer_fault result }
     {
         self.write_head(writer)?;
         write_pairs(writer, self.pairs.as_slice())?;
@@ -164,7 +164,7 @@ impl Decl {
     fn write_head<W: Write>(&self, writer: &mut Watched<W>) -> Result<(), WriteError>
         requires { fault_of writer.old ≡ None }
         ensures written { Wrote (W.contents (inner_of writer.old)) (W.contents (inner_of writer.new)) (head_bytes self.now) result }
-        ensures fault { fault_of writer.new ≡ told_by_write result }
+        ensures fault { fault_of writer.new ≡ writer_fault result }
     {
         write_uleb(writer, self.code)?;
         write_uleb(writer, self.tag)?;
@@ -175,7 +175,7 @@ impl Decl {
     fn write_zeros<W: Write>(&self, writer: &mut Watched<W>) -> Result<(), WriteError>
         requires { fault_of writer.old ≡ None }
         ensures written { Wrote (W.contents (inner_of writer.old)) (W.contents (inner_of writer.new)) (zeros_bytes self.now) result }
-        ensures fault { fault_of writer.new ≡ told_by_write result }
+        ensures fault { fault_of writer.new ≡ writer_fault result }
     {
         write_uleb(writer, self.name_zero)?;
         write_uleb(writer, self.form_zero)
@@ -185,20 +185,20 @@ impl Decl {
 /// The declaration of a code: what stands behind the code, at `at`, and where what follows begins.
 pub(crate) fn decl_at(
     alloc: Global,
-    section: &[u8],
+    abbreviations: &[u8],
     at: usize,
     code: Uleb,
 ) -> Result<(Decl, usize), ReadError>
-    requires within { at ≤ length section.now }
+    requires within { at ≤ length abbreviations.now }
     requires some { is_null (uleb_of code) ≡ false }
-    ensures ok { IfOk result (λ x. Gives read_described section.now at (described_of x.0) x.1) }
+    ensures ok { IfOk result (λ x. Gives read_described abbreviations.now at (described_of x.0) x.1) }
     ensures code { IfOk result (λ x. x.0.code ≡ uleb_of code) }
-    ensures forward { IfOk result (λ x. (at < x.1) × (x.1 ≤ length section.now)) }
-    ensures err { IfErr result (λ e. Fails read_described section.now at e) }
+    ensures forward { IfOk result (λ x. (at < x.1) × (x.1 ≤ length abbreviations.now)) }
+    ensures err { IfErr result (λ e. IsErrorAt read_described abbreviations.now at e) }
 {
-    let (tag, behind_tag) = uleb_at(section, at)?;
-    let (children, behind_flag) = flag_at(section, behind_tag)?;
-    let (pairs, next) = pairs_at(alloc, section, behind_flag)?;
+    let (tag, behind_tag) = uleb_at(abbreviations, at)?;
+    let (children, behind_flag) = flag_at(abbreviations, behind_tag)?;
+    let (pairs, next) = pairs_at(alloc, abbreviations, behind_flag)?;
     let decl = Decl {
         code,
         tag,

@@ -4,7 +4,7 @@ ghost use Rattle.std.specs.Prelude.{◌≡◌, ◌<◌, ◌≤◌, length, None,
 ghost use Rattle.std.specs.Result.{result_err};
 ghost use Rattle.dw_leb.specs.Number.{uleb, sleb};
 ghost use Rattle.dw_leb.specs.View.{uleb_of, sleb_of};
-ghost use Rattle.dw_leb.specs.Watch.{inner_of, fault_of, told_by_write, Wrote};
+ghost use Rattle.dw_leb.specs.Watch.{inner_of, fault_of, writer_fault, Wrote};
 ghost use Rattle.dw_abbrev.specs.Table.{zero_of};
 ghost use Rattle.dw_abbrev.specs.Build.{width_refusal};
 ghost use Rattle.dw_abbrev.specs.Spelling.{flag_bytes};
@@ -12,12 +12,12 @@ ghost use Rattle.dw_leb.specs.ReadNumber.{read_fixed as fixed_reader, read_uleb,
 ghost use Rattle.dw_leb.specs.Reader.{outcome_of};
 ghost use Rattle.dw_leb.specs.declared.order.Order.TheVariants.{Little};
 ghost use Rattle.dw_abbrev.specs.ReadTable.{read_flag, flag_number};
-ghost use Rattle.dw_abbrev.specs.Place.{Gives, Fails, fault_at};
-ghost use Rattle.dw_abbrev.specs.Tells.{IsFault};
+ghost use Rattle.dw_abbrev.specs.Place.{Gives, IsErrorAt, fault_at};
+ghost use Rattle.dw_abbrev.specs.TableErrors.{IsFault};
 
 use crate::refusal::TableRefusal;
 use dw_leb::{
-    Fault, Order, ReadError, Reason, Section, Sleb, Uleb, Watched, WriteError, read_fixed,
+    Fault, Order, ReadError, Reason, SectionId, Sleb, Uleb, Watched, WriteError, read_fixed,
     write_all,
 };
 use std::io::Write;
@@ -27,7 +27,7 @@ pub(crate) fn fault(at: usize, reason: Reason) -> ReadError
     ensures { result ≡ fault_at at reason }
 {
     ReadError::Fault(Fault {
-        section: Section::Abbrev,
+        section: SectionId::Abbrev,
         offset: at as u64,
         reason,
     })
@@ -45,27 +45,27 @@ pub(crate) fn zero(width: u8) -> Result<Uleb, TableRefusal>
 }
 
 /// The unsigned number at `at`, and where what follows begins.
-pub(crate) fn uleb_at(section: &[u8], at: usize) -> Result<(Uleb, usize), ReadError>
-    requires { at ≤ length section.now }
-    ensures ok { IfOk result (λ x. Gives read_uleb section.now at (uleb_of x.0) x.1) }
-    ensures forward { IfOk result (λ x. (at < x.1) × (x.1 ≤ length section.now)) }
-    ensures err { IfErr result (λ e. Fails read_uleb section.now at e) }
+pub(crate) fn uleb_at(abbreviations: &[u8], at: usize) -> Result<(Uleb, usize), ReadError>
+    requires { at ≤ length abbreviations.now }
+    ensures ok { IfOk result (λ x. Gives read_uleb abbreviations.now at (uleb_of x.0) x.1) }
+    ensures forward { IfOk result (λ x. (at < x.1) × (x.1 ≤ length abbreviations.now)) }
+    ensures err { IfErr result (λ e. IsErrorAt read_uleb abbreviations.now at e) }
     ensures fault { IfErr result IsFault }
 {
-    match Uleb::read(&section[at..], u64::MAX) {
+    match Uleb::read(&abbreviations[at..], u64::MAX) {
         Ok(n) => Ok((n, at + n.width as usize)),
         Err(reason) => Err(fault(at, reason)),
     }
 }
 
 /// The signed number at `at`, and where what follows begins.
-pub(crate) fn sleb_at(section: &[u8], at: usize) -> Result<(Sleb, usize), ReadError>
-    requires { at ≤ length section.now }
-    ensures ok { IfOk result (λ x. Gives read_sleb section.now at (sleb_of x.0) x.1) }
-    ensures forward { IfOk result (λ x. (at < x.1) × (x.1 ≤ length section.now)) }
-    ensures err { IfErr result (λ e. Fails read_sleb section.now at e) }
+pub(crate) fn sleb_at(abbreviations: &[u8], at: usize) -> Result<(Sleb, usize), ReadError>
+    requires { at ≤ length abbreviations.now }
+    ensures ok { IfOk result (λ x. Gives read_sleb abbreviations.now at (sleb_of x.0) x.1) }
+    ensures forward { IfOk result (λ x. (at < x.1) × (x.1 ≤ length abbreviations.now)) }
+    ensures err { IfErr result (λ e. IsErrorAt read_sleb abbreviations.now at e) }
 {
-    match Sleb::read(&section[at..], u64::MAX) {
+    match Sleb::read(&abbreviations[at..], u64::MAX) {
         Ok(n) => Ok((n, at + n.width as usize)),
         Err(reason) => Err(fault(at, reason)),
     }
@@ -80,13 +80,13 @@ fn byte(b: &[u8], lim: u64) -> Result<u128, Reason>
 }
 
 /// The children flag at `at`, and where what follows begins.
-pub(crate) fn flag_at(section: &[u8], at: usize) -> Result<(bool, usize), ReadError>
-    requires { at ≤ length section.now }
-    ensures ok { IfOk result (λ x. Gives read_flag section.now at (flag_number x.0) x.1) }
-    ensures forward { IfOk result (λ x. (at < x.1) × (x.1 ≤ length section.now)) }
-    ensures err { IfErr result (λ e. Fails read_flag section.now at e) }
+pub(crate) fn flag_at(abbreviations: &[u8], at: usize) -> Result<(bool, usize), ReadError>
+    requires { at ≤ length abbreviations.now }
+    ensures ok { IfOk result (λ x. Gives read_flag abbreviations.now at (flag_number x.0) x.1) }
+    ensures forward { IfOk result (λ x. (at < x.1) × (x.1 ≤ length abbreviations.now)) }
+    ensures err { IfErr result (λ e. IsErrorAt read_flag abbreviations.now at e) }
 {
-    match byte(&section[at..], u64::MAX) {
+    match byte(&abbreviations[at..], u64::MAX) {
         Ok(0) => Ok((false, at + 1)),
         Ok(1) => Ok((true, at + 1)),
         Ok(_) => Err(fault(at, Reason::BadChildren)),
@@ -98,7 +98,7 @@ pub(crate) fn flag_at(section: &[u8], at: usize) -> Result<(bool, usize), ReadEr
 pub(crate) fn write_uleb<W: Write>(writer: &mut Watched<W>, n: Uleb) -> Result<(), WriteError>
     requires { fault_of writer.old ≡ None }
     ensures written { Wrote (W.contents (inner_of writer.old)) (W.contents (inner_of writer.new)) (uleb.spell (uleb_of n)) result }
-    ensures fault { fault_of writer.new ≡ told_by_write result }
+    ensures fault { fault_of writer.new ≡ writer_fault result }
 {
     write_all(writer, n.bytes().as_slice())
 }
@@ -107,7 +107,7 @@ pub(crate) fn write_uleb<W: Write>(writer: &mut Watched<W>, n: Uleb) -> Result<(
 pub(crate) fn write_sleb<W: Write>(writer: &mut Watched<W>, n: Sleb) -> Result<(), WriteError>
     requires { fault_of writer.old ≡ None }
     ensures written { Wrote (W.contents (inner_of writer.old)) (W.contents (inner_of writer.new)) (sleb.spell (sleb_of n)) result }
-    ensures fault { fault_of writer.new ≡ told_by_write result }
+    ensures fault { fault_of writer.new ≡ writer_fault result }
 {
     write_all(writer, n.bytes().as_slice())
 }
@@ -116,7 +116,7 @@ pub(crate) fn write_sleb<W: Write>(writer: &mut Watched<W>, n: Sleb) -> Result<(
 pub(crate) fn write_flag<W: Write>(writer: &mut Watched<W>, flag: bool) -> Result<(), WriteError>
     requires { fault_of writer.old ≡ None }
     ensures written { Wrote (W.contents (inner_of writer.old)) (W.contents (inner_of writer.new)) (flag_bytes flag) result }
-    ensures fault { fault_of writer.new ≡ told_by_write result }
+    ensures fault { fault_of writer.new ≡ writer_fault result }
 {
     write_all(writer, &[flag as u8])
 }

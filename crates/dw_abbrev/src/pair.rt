@@ -1,12 +1,12 @@
 //! Attribute specifications: the pairs of name and form (section 7.5.3).
 ghost use Rattle.std.specs.Prelude.{◌≡◌, ◌<◌, ◌≤◌, true, length, None, IfOk, IfErr, OnOk, map, option_map};
 ghost use Rattle.dw_leb.specs.View.{uleb_of, sleb_of};
-ghost use Rattle.dw_leb.specs.Watch.{inner_of, fault_of, told_by_write, Wrote};
+ghost use Rattle.dw_leb.specs.Watch.{inner_of, fault_of, writer_fault, Wrote};
 ghost use Rattle.dw_abbrev.specs.Spelling.{pair_bytes, pairs_bytes};
 ghost use Rattle.dw_abbrev.specs.Table.{is_end as ends_pairs, refused_pair};
 ghost use Rattle.dw_abbrev.specs.ReadTable.{read_names, read_constant, read_pairs};
 ghost use Rattle.dw_abbrev.specs.PairView.{pair_of, pairs_of};
-ghost use Rattle.dw_abbrev.specs.Place.{Gives, Fails};
+ghost use Rattle.dw_abbrev.specs.Place.{Gives, IsErrorAt};
 ghost use Rattle.dw_abbrev.specs.Build.{constant_belongs, pair_refusal, ArePairs};
 
 use crate::fields::{fault, sleb_at, uleb_at, write_sleb, write_uleb};
@@ -72,15 +72,15 @@ fn refusal(name: Uleb, form: Uleb, before: usize) -> Option<Reason>
 }
 
 /// The name and the form at `at`, and where what follows begins.
-fn names_at(section: &[u8], at: usize, before: usize) -> Result<((Uleb, Uleb), usize), ReadError>
-    requires { at ≤ length section.now }
-    ensures ok { IfOk result (λ x. Gives (read_names before) section.now at (uleb_of x.0.0, uleb_of x.0.1) x.1) }
-    ensures forward { IfOk result (λ x. (at < x.1) × (x.1 ≤ length section.now)) }
+fn names_at(abbreviations: &[u8], at: usize, before: usize) -> Result<((Uleb, Uleb), usize), ReadError>
+    requires { at ≤ length abbreviations.now }
+    ensures ok { IfOk result (λ x. Gives (read_names before) abbreviations.now at (uleb_of x.0.0, uleb_of x.0.1) x.1) }
+    ensures forward { IfOk result (λ x. (at < x.1) × (x.1 ≤ length abbreviations.now)) }
     ensures judged { IfOk result (λ x. refused_pair before (uleb_of x.0.0, uleb_of x.0.1) ≡ None) }
-    ensures err { IfErr result (λ e. Fails (read_names before) section.now at e) }
+    ensures err { IfErr result (λ e. IsErrorAt (read_names before) abbreviations.now at e) }
 {
-    let (name, form_at) = uleb_at(section, at)?;
-    let (form, next) = uleb_at(section, form_at)?;
+    let (name, form_at) = uleb_at(abbreviations, at)?;
+    let (form, next) = uleb_at(abbreviations, form_at)?;
     match refusal(name, form, before) {
         Some(reason) => Err(fault(at, reason)),
         None => Ok(((name, form), next)),
@@ -89,21 +89,21 @@ fn names_at(section: &[u8], at: usize, before: usize) -> Result<((Uleb, Uleb), u
 
 /// The constant that a pair of this form has, at `at`, and where what follows begins.
 fn constant_at(
-    section: &[u8],
+    abbreviations: &[u8],
     at: usize,
     name: Uleb,
     form: Uleb,
 ) -> Result<(Option<Sleb>, usize), ReadError>
-    requires { at ≤ length section.now }
-    ensures ok { IfOk result (λ x. Gives (read_constant (uleb_of name, uleb_of form)) section.now at (option_map sleb_of x.0) x.1) }
-    ensures forward { IfOk result (λ x. (at ≤ x.1) × (x.1 ≤ length section.now)) }
+    requires { at ≤ length abbreviations.now }
+    ensures ok { IfOk result (λ x. Gives (read_constant (uleb_of name, uleb_of form)) abbreviations.now at (option_map sleb_of x.0) x.1) }
+    ensures forward { IfOk result (λ x. (at ≤ x.1) × (x.1 ≤ length abbreviations.now)) }
     ensures belongs { IfOk result (λ x. constant_belongs (uleb_of form) (option_map sleb_of x.0) ≡ true) }
-    ensures err { IfErr result (λ e. Fails (read_constant (uleb_of name, uleb_of form)) section.now at e) }
+    ensures err { IfErr result (λ e. IsErrorAt (read_constant (uleb_of name, uleb_of form)) abbreviations.now at e) }
 {
     if form.value != DW_FORM_IMPLICIT_CONST {
         return Ok((None, at));
     }
-    let (constant, next) = sleb_at(section, at)?;
+    let (constant, next) = sleb_at(abbreviations, at)?;
     Ok((Some(constant), next))
 }
 
@@ -111,20 +111,20 @@ fn constant_at(
 /// judged before.
 pub(crate) fn pairs_at(
     alloc: Global,
-    section: &[u8],
+    abbreviations: &[u8],
     at: usize,
 ) -> Result<(Pairs, usize), ReadError>
-    requires { at ≤ length section.now }
-    ensures ok { IfOk result (λ x. Gives read_pairs section.now at (pairs_of x.0) x.1) }
-    ensures forward { IfOk result (λ x. (at < x.1) × (x.1 ≤ length section.now)) }
+    requires { at ≤ length abbreviations.now }
+    ensures ok { IfOk result (λ x. Gives read_pairs abbreviations.now at (pairs_of x.0) x.1) }
+    ensures forward { IfOk result (λ x. (at < x.1) × (x.1 ≤ length abbreviations.now)) }
     ensures zeros { IfOk result (λ x. (x.0.name_zero.value ≡ 0) × (x.0.form_zero.value ≡ 0)) }
     ensures pairs { IfOk result (λ x. ArePairs (map pair_of x.0.list.items)) }
-    ensures err { IfErr result (λ e. Fails read_pairs section.now at e) }
+    ensures err { IfErr result (λ e. IsErrorAt read_pairs abbreviations.now at e) }
 {
     let mut list = Vec::new(alloc);
     let mut here = at;
     loop {
-        let ((name, form), behind) = names_at(section, here, list.len())?;
+        let ((name, form), behind) = names_at(abbreviations, here, list.len())?;
         if is_end(name, form) {
             let pairs = Pairs {
                 list,
@@ -133,7 +133,7 @@ pub(crate) fn pairs_at(
             };
             return Ok((pairs, behind));
         }
-        let (constant, next) = constant_at(section, behind, name, form)?;
+        let (constant, next) = constant_at(abbreviations, behind, name, form)?;
         let pair = Pair {
             name,
             form,
@@ -153,7 +153,7 @@ pub(crate) fn write_pairs<W: Write>(
 ) -> Result<(), WriteError>
     requires { fault_of writer.old ≡ None }
     ensures written { Wrote (W.contents (inner_of writer.old)) (W.contents (inner_of writer.new)) (pairs_bytes (map pair_of pairs.now)) result }
-    ensures fault { fault_of writer.new ≡ told_by_write result }
+    ensures fault { fault_of writer.new ≡ writer_fault result }
 {
     for pair in pairs {
         write_pair(writer, *pair)?;
@@ -164,7 +164,7 @@ pub(crate) fn write_pairs<W: Write>(
 fn write_pair<W: Write>(writer: &mut Watched<W>, pair: Pair) -> Result<(), WriteError>
     requires { fault_of writer.old ≡ None }
     ensures written { Wrote (W.contents (inner_of writer.old)) (W.contents (inner_of writer.new)) (pair_bytes (pair_of pair)) result }
-    ensures fault { fault_of writer.new ≡ told_by_write result }
+    ensures fault { fault_of writer.new ≡ writer_fault result }
 {
     write_uleb(writer, pair.name)?;
     write_uleb(writer, pair.form)?;

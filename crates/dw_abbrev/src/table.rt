@@ -2,17 +2,17 @@
 ghost use Rattle.std.specs.Prelude.{◌≡◌, ◌<◌, ◌≤◌, ◌∷◌, ◌++◌, [], length, map, nat_eq, None, IfOk, IfErr, OnOk, OnErr, option_copied};
 ghost use Rattle.indexmap.specs.IndexMap.{get};
 ghost use Rattle.dw_leb.specs.View.{uleb_of};
-ghost use Rattle.dw_leb.specs.Watch.{inner_of, fault_of, told_by_write, Wrote};
+ghost use Rattle.dw_leb.specs.Watch.{inner_of, fault_of, writer_fault, Wrote};
 ghost use Rattle.dw_abbrev.specs.Spelling.{declarations_bytes};
 ghost use Rattle.dw_abbrev.specs.Table.{Table as Spelled, table as part, declared, declaration_parts, IsZero, TableAt};
 ghost use Rattle.dw_abbrev.specs.TableView.{decls_in, AreKeyed};
-ghost use Rattle.dw_abbrev.specs.Tells.{IsScan, TellsFault, Declares, IsFault, refused_memory};
-ghost use Rattle.dw_abbrev.specs.Place.{Gives, Fails};
+ghost use Rattle.dw_abbrev.specs.TableErrors.{IsScan, IsTableError, Declares, IsFault, refused_memory};
+ghost use Rattle.dw_abbrev.specs.Place.{Gives, IsErrorAt};
 ghost use Rattle.dw_abbrev.specs.ReadTable.{read_code, read_table};
 
 use crate::decl::{Decl, decl_at};
 use crate::fields::{fault, uleb_at, write_uleb};
-use dw_leb::{Fault, ReadError, Reason, Section, Uleb, Watched, WriteError};
+use dw_leb::{Fault, ReadError, Reason, SectionId, Uleb, Watched, WriteError};
 use indexmap::IndexMap;
 use std::alloc::Global;
 use std::io::Write;
@@ -50,39 +50,39 @@ impl Table {
     /// 0 and 1 (`BadChildren`), a pair of which one number is 0 (`HalfPair`) and one past 1,024
     /// others (`TooManyPairs`), both at the pair's name. `NoMemory` is answered where a growth by
     /// one pair or one declaration was refused; so there is one. Never `Io`.
-    pub fn read(alloc: Global, section: &[u8], offset: u64) -> Result<Table, ReadError>
-        ensures found { IfOk result (λ t. TableAt section.now offset t) }
-        ensures only { (t : Spelled) → TableAt section.now offset t → IfOk result (λ x. x ≡ t) × IfErr result (λ e. e ≡ refused_memory) }
-        ensures broken { IfErr result (λ e. TellsFault section.now offset e) }
-        ensures memory { IfErr result (λ e. e ≡ refused_memory → Declares section.now offset) }
+    pub fn read(alloc: Global, abbreviations: &[u8], offset: u64) -> Result<Table, ReadError>
+        ensures found { IfOk result (λ t. TableAt abbreviations.now offset t) }
+        ensures only { (t : Spelled) → TableAt abbreviations.now offset t → IfOk result (λ x. x ≡ t) × IfErr result (λ e. e ≡ refused_memory) }
+        ensures broken { IfErr result (λ e. IsTableError abbreviations.now offset e) }
+        ensures memory { IfErr result (λ e. e ≡ refused_memory → Declares abbreviations.now offset) }
     {
-        if offset >= section.len() as u64 {
+        if offset >= abbreviations.len() as u64 {
             return Err(ReadError::Fault(Fault {
-                section: Section::Abbrev,
+                section: SectionId::Abbrev,
                 offset,
                 reason: Reason::AbbrevOffset,
             }));
         }
-        Table::scan(alloc, section, offset as usize)
+        Table::scan(alloc, abbreviations, offset as usize)
     }
 
-    fn scan(alloc: Global, section: &[u8], at: usize) -> Result<Table, ReadError>
-        requires { at ≤ length section.now }
-        ensures ok { IfOk result (λ t. IsScan section.now at t) }
-        ensures err { IfErr result (λ e. Fails read_table section.now at e) }
-        ensures memory { IfErr result (λ e. e ≡ refused_memory → Declares section.now at) }
+    fn scan(alloc: Global, abbreviations: &[u8], at: usize) -> Result<Table, ReadError>
+        requires { at ≤ length abbreviations.now }
+        ensures ok { IfOk result (λ t. IsScan abbreviations.now at t) }
+        ensures err { IfErr result (λ e. IsErrorAt read_table abbreviations.now at e) }
+        ensures memory { IfErr result (λ e. e ≡ refused_memory → Declares abbreviations.now at) }
     {
         let mut decls = IndexMap::new(alloc);
         let mut here = at;
         loop {
-            let (code, behind) = code_at(&decls, section, here)?;
+            let (code, behind) = code_at(&decls, abbreviations, here)?;
             if code.value == 0 {
                 return Ok(Table {
                     decls,
                     last_zero: code,
                 });
             }
-            let (decl, next) = decl_at(alloc, section, behind, code)?;
+            let (decl, next) = decl_at(alloc, abbreviations, behind, code)?;
             match keep(&mut decls, decl) {
                 Ok(_) => here = next,
                 Err(_) => return Err(ReadError::NoMemory),
@@ -115,7 +115,7 @@ impl Table {
         requires { fault_of writer.old ≡ None }
         ensures written { Wrote (W.contents (inner_of writer.old)) (W.contents (inner_of writer.new)) (part.spell self.now) result }
         ensures fits { part.Fits self.now }
-        ensures fault { fault_of writer.new ≡ told_by_write result }
+        ensures fault { fault_of writer.new ≡ writer_fault result }
     {
         write_decls(writer, &self.decls)?;
         write_uleb(writer, self.last_zero)
@@ -125,18 +125,18 @@ impl Table {
 /// The code at `at`, behind these declarations, and where what follows begins.
 fn code_at(
     decls: &IndexMap<u64, Decl>,
-    section: &[u8],
+    abbreviations: &[u8],
     at: usize,
 ) -> Result<(Uleb, usize), ReadError>
-    requires within { at ≤ length section.now }
+    requires within { at ≤ length abbreviations.now }
     requires keyed { AreKeyed decls.now.entries }
-    ensures ok { IfOk result (λ x. Gives (read_code (map declaration_parts (decls_in decls.now.entries))) section.now at (uleb_of x.0) x.1) }
-    ensures forward { IfOk result (λ x. (at < x.1) × (x.1 ≤ length section.now)) }
+    ensures ok { IfOk result (λ x. Gives (read_code (map declaration_parts (decls_in decls.now.entries))) abbreviations.now at (uleb_of x.0) x.1) }
+    ensures forward { IfOk result (λ x. (at < x.1) × (x.1 ≤ length abbreviations.now)) }
     ensures fresh { IfOk result (λ x. get nat_eq decls.now x.0.value ≡ None) }
-    ensures err { IfErr result (λ e. Fails (read_code (map declaration_parts (decls_in decls.now.entries))) section.now at e) }
+    ensures err { IfErr result (λ e. IsErrorAt (read_code (map declaration_parts (decls_in decls.now.entries))) abbreviations.now at e) }
     ensures fault { IfErr result IsFault }
 {
-    let (code, next) = uleb_at(section, at)?;
+    let (code, next) = uleb_at(abbreviations, at)?;
     if decls.contains_key(&code.value) {
         return Err(fault(at, Reason::DuplicateCode));
     }
@@ -163,7 +163,7 @@ fn write_decls<W: Write>(
 ) -> Result<(), WriteError>
     requires { fault_of writer.old ≡ None }
     ensures written { Wrote (W.contents (inner_of writer.old)) (W.contents (inner_of writer.new)) (declarations_bytes (decls_in decls.now.entries)) result }
-    ensures fault { fault_of writer.new ≡ told_by_write result }
+    ensures fault { fault_of writer.new ≡ writer_fault result }
 {
     for decl in decls.values() {
         decl.write(writer)?;

@@ -2,7 +2,7 @@
 ghost use Rattle.std.specs.Prelude.{◌≡◌, ◌<◌, length, ◌∷◌, ◌++◌, [], nat_eq, None, IfOk, IfErr, OnOk, OnErr};
 ghost use Rattle.indexmap.specs.IndexMap.{get};
 ghost use Rattle.dw_abbrev.specs.Table.{Table as Spelled, TableAt};
-ghost use Rattle.dw_abbrev.specs.Tells.{TellsFault, refused_memory};
+ghost use Rattle.dw_abbrev.specs.TableErrors.{IsTableError, refused_memory};
 
 use crate::table::Table;
 use dw_leb::ReadError;
@@ -16,7 +16,7 @@ use std::rc::Rc;
 #[derive(Drop)]
 pub struct Tables<'a> {
     alloc: Global,
-    section: &'a [u8],
+    abbreviations: &'a [u8],
     kept: IndexMap<u64, Rc<Table>>,
 }
 
@@ -27,19 +27,19 @@ impl<'a> Model for Tables<'a> {
 
     ghost Value = { List ℕ };
 
-    ghost view = { λ t. t.section.now };
+    ghost view = { λ t. t.abbreviations.now };
 
-    ghost invariant = { λ t. AllByRecursion (λ e. TableAt t.section.now e.0 e.1.value) t.kept.entries };
+    ghost invariant = { λ t. AllByRecursion (λ e. TableAt t.abbreviations.now e.0 e.1.value) t.kept.entries };
 }
 
 impl<'a> Tables<'a> {
     /// The tables of this section, of which none is read yet.
-    pub fn new(alloc: Global, section: &'a [u8]) -> Tables<'a>
-        ensures { result ≡ section.now }
+    pub fn new(alloc: Global, abbreviations: &'a [u8]) -> Tables<'a>
+        ensures { result ≡ abbreviations.now }
     {
         Tables {
             alloc,
-            section,
+            abbreviations,
             kept: IndexMap::new(alloc),
         }
     }
@@ -50,14 +50,14 @@ impl<'a> Tables<'a> {
     pub fn get(&mut self, offset: u64) -> Result<Rc<Table>, ReadError>
         ensures found { IfOk result (λ t. TableAt self.old offset t.value) }
         ensures only { (t : Spelled) → TableAt self.old offset t → IfOk result (λ x. x.value ≡ t) × IfErr result (λ e. e ≡ refused_memory) }
-        ensures broken { IfErr result (λ e. TellsFault self.old offset e) }
+        ensures broken { IfErr result (λ e. IsTableError self.old offset e) }
         ensures memory { IfErr result (λ e. e ≡ refused_memory → offset < length self.old) }
-        ensures section { self.new ≡ self.old }
+        ensures abbreviations { self.new ≡ self.old }
     {
         if let Some(table) = self.kept.get(&offset) {
             return share(table);
         }
-        let table = place(self.alloc, Table::read(self.alloc, self.section, offset)?)?;
+        let table = place(self.alloc, Table::read(self.alloc, self.abbreviations, offset)?)?;
         let shared = share(&table)?;
         keep(&mut self.kept, offset, table)?;
         Ok(shared)

@@ -6,27 +6,27 @@ use Rattle.std.proofs.lemmas.List.{length-append, take-append-drop}
 use Rattle.std.specs.Io.KnownBytes.{IsAtEnd}
 use Rattle.dw_leb.specs.declared.errors.Reason.{Reason}
 use Rattle.dw_leb.specs.declared.errors.Reason.TheVariants.{Truncated, ReservedLength, LengthTooBig}
-use Rattle.dw_leb.specs.declared.errors.Section.{Section}
-use Rattle.dw_leb.specs.declared.errors.Section.TheVariants.{Info}
+use Rattle.dw_leb.specs.declared.errors.SectionId.{SectionId}
+use Rattle.dw_leb.specs.declared.errors.SectionId.TheVariants.{Info}
 use Rattle.dw_leb.specs.declared.order.Order.{Order}
 use Rattle.dw_leb.specs.declared.order.Order.TheVariants.{Little, Big}
 use Rattle.dw_leb.specs.declared.order.Format.{Format}
 use Rattle.dw_leb.specs.declared.order.Format.TheVariants.{Dwarf32, Dwarf64}
 use Rattle.dw_leb.specs.Part.{Taken, optional}
 use Rattle.dw_leb.specs.Number.{length_field, initial_length, length_limit, length_size, fixed, fixed_bytes, reserved, too_far}
-use Rattle.dw_leb.specs.Stay.{one_front, no_break}
+use Rattle.dw_leb.specs.PartLaws.{one_front, no_break}
 use Rattle.dw_leb.specs.Digits.{fixed_decides, length-fixed}
 use Rattle.dw_leb.specs.DecideNumber.{initial_length_decides, initial-size, initial_within}
 use Rattle.dw_leb.specs.ReadNumber.{read_length, read_fixed}
 use Rattle.dw_header.specs.Header.{fields, fields_of, context_of}
-use Rattle.dw_header.specs.HeadRead.{head_size}
+use Rattle.dw_header.specs.HeaderFound.{head_size}
 use Rattle.dw_unit.specs.Unit.{WholeUnit, body_bytes, bytes_of, UnitAt, Fails, left_behind}
 use Rattle.dw_unit.specs.DecideUnit.{unit_fault, fault_stays}
 use Rattle.dw_unit.specs.ReadUnit.{Fault}
 use Rattle.dw_feed.specs.Feed.{escape, InField, IsField, FieldRefused, UnitHeld}
 use Rattle.dw_feed.specs.Laws.{HoldsUnit}
-use Rattle.dw_feed.specs.Uncut.{refuses_where, refuses_unless}
-use Rattle.dw_feed.specs.UncutUnit.{fields_uncut, entries_uncut}
+use Rattle.dw_feed.specs.NeverTruncated.{refuses_where, refuses_unless}
+use Rattle.dw_feed.specs.UnitNeverTruncated.{fields_never_truncated, entries_never_truncated}
 
 abbrev length_bytes : Order → Format × ℕ → List ℕ
 length_bytes order x = (length_field order).spell x
@@ -47,44 +47,44 @@ module _ (order : Order) (bytes : List ℕ) (h : HoldsUnit order bytes) where
       omega (arith, h.2, h.1.is_size)
 
   -- bytes that hold the whole unit are never cut
-  pub whole_uncut : (section : List ℕ) (offset : ℕ) (reason : Reason) → Fails order section bytes Info offset reason → reason ≢ Truncated
-  whole_uncut section offset reason (inl (inl one)) =
+  pub whole_never_truncated : (abbreviations : List ℕ) (offset : ℕ) (reason : Reason) → Fails order abbreviations bytes Info offset reason → reason ≢ Truncated
+  whole_never_truncated abbreviations offset reason (inl (inl one)) =
       absurd (no_break (initial_length order 0) (read_length order 0) (initial_length_decides order 0) h.0 h.1.rest length_limit offset reason h.1.fits (initial_within order 0 h.0.0 h.0.1) (rw h.1.split at one))
-  whole_uncut section offset reason (inl (inr (format, n, rest, own, fits, split, sum, breaks))) =
-      fields_uncut order format rest n own reason (behind_length format n rest fits split) breaks
-  whole_uncut section offset reason (inr b) =
+  whole_never_truncated abbreviations offset reason (inl (inr (format, n, rest, own, fits, split, sum, breaks))) =
+      fields_never_truncated order format rest n own reason (behind_length format n rest fits split) breaks
+  whole_never_truncated abbreviations offset reason (inr b) =
       let head = b.stands.2 in
       let f : List ℕ = (fields order b.header.format).spell (fields_of b.header) in
       let left : b.count ≤ length (f ++ b.stands.1) = behind_length b.header.format b.count (f ++ b.stands.1) head.length_fits head.split in
       let sized = head_size order bytes b.header b.count b.stands in
       let enough : left_behind b.header b.count ≤ length b.stands.1 = omega (arith, left, sized, length-append f b.stands.1, initial-size order 0 b.header.format b.count) in
-      entries_uncut (context_of b.header) b.table b.stands.1 (left_behind b.header b.count) b.own reason enough b.breaks
+      entries_never_truncated (context_of b.header) b.table b.stands.1 (left_behind b.header b.count) b.own reason enough b.breaks
 
-  pub whole_fault : (section tail : List ℕ) (s : Section) (offset : ℕ) (reason : Reason) → Fails order section bytes s offset reason → Fails order section (bytes ++ tail) s offset reason
-  whole_fault section tail s offset reason fails =
-      fault_stays order section bytes tail s offset reason (λ info. whole_uncut section offset reason (subst (λ (z : Section). Fails order section bytes z offset reason) info fails)) fails
+  pub whole_fault : (abbreviations tail : List ℕ) (s : SectionId) (offset : ℕ) (reason : Reason) → Fails order abbreviations bytes s offset reason → Fails order abbreviations (bytes ++ tail) s offset reason
+  whole_fault abbreviations tail s offset reason fails =
+      fault_stays order abbreviations bytes tail s offset reason (λ info. whole_never_truncated abbreviations offset reason (subst (λ (z : SectionId). Fails order abbreviations bytes z offset reason) info fails)) fails
 
-same_reason : (s z : Section) (m n : ℕ) (r q : Reason) → Fault s m r ≡ Fault z n q → r ≡ q
+same_reason : (s z : SectionId) (m n : ℕ) (r q : Reason) → Fault s m r ≡ Fault z n q → r ≡ q
 same_reason s z m n r q e = cc
 
 -- a fault of what is held is that of all
-pub held_fault : (order : Order) (section bytes rest : List ℕ) (new : Option (List ℕ)) (s : Section) (offset : ℕ) (reason : Reason)
-    → FieldRefused order bytes new ⊎ UnitHeld order bytes new → (IsAtEnd new → rest ≡ []) → Fails order section bytes s offset reason → Fails order section (bytes ++ rest) s offset reason
-held_fault order section bytes rest new s offset reason held done fails = by held
+pub held_fault : (order : Order) (abbreviations bytes rest : List ℕ) (new : Option (List ℕ)) (s : SectionId) (offset : ℕ) (reason : Reason)
+    → FieldRefused order bytes new ⊎ UnitHeld order bytes new → (IsAtEnd new → rest ≡ []) → Fails order abbreviations bytes s offset reason → Fails order abbreviations (bytes ++ rest) s offset reason
+held_fault order abbreviations bytes rest new s offset reason held done fails = by held
   where
-    at_end : IsAtEnd new → Fails order section (bytes ++ rest) s offset reason
-    at_end e = subst (λ (b : List ℕ). Fails order section b s offset reason) (sym (ap (λ (x : List ℕ). bytes ++ x) (done e) ∙ append-nil bytes)) fails
+    at_end : IsAtEnd new → Fails order abbreviations (bytes ++ rest) s offset reason
+    at_end e = subst (λ (b : List ℕ). Fails order abbreviations b s offset reason) (sym (ap (λ (x : List ℕ). bytes ++ x) (done e) ∙ append-nil bytes)) fails
 
     refused : (reason' : Reason) → (initial_length order 0).Break bytes length_limit 0 reason' → reason' ≢ Truncated → s ≡ Info → reason ≢ Truncated
-    refused reason' breaks ne info = λ e. ne (same_reason Info s 0 offset reason' reason (sym (unit_fault order section bytes Info 0 reason' (inl (inl breaks))) ∙ unit_fault order section bytes s offset reason fails) ∙ e)
+    refused reason' breaks ne info = λ e. ne (same_reason Info s 0 offset reason' reason (sym (unit_fault order abbreviations bytes Info 0 reason' (inl (inl breaks))) ∙ unit_fault order abbreviations bytes s offset reason fails) ∙ e)
 
-    by : FieldRefused order bytes new ⊎ UnitHeld order bytes new → Fails order section (bytes ++ rest) s offset reason
+    by : FieldRefused order bytes new ⊎ UnitHeld order bytes new → Fails order abbreviations (bytes ++ rest) s offset reason
     by (inl h) = elim h.why [
-      | inl ne ↦ fault_stays order section bytes rest s offset reason (refused h.reason h.breaks ne) fails
+      | inl ne ↦ fault_stays order abbreviations bytes rest s offset reason (refused h.reason h.breaks ne) fails
       | inr e ↦ at_end e
     ]
     by (inr h) = elim h.whole [
-      | inl w ↦ whole_fault order bytes ((h.format, h.count), h.field, omega (arith, w)) section rest s offset reason fails
+      | inl w ↦ whole_fault order bytes ((h.format, h.count), h.field, omega (arith, w)) abbreviations rest s offset reason fails
       | inr e ↦ at_end e
     ]
 
@@ -93,9 +93,9 @@ no_rest b s [] e le = e ∙ append-nil s
 no_rest b s (x ∷ rest) e le = absurd (omega (arith, le, ap length e, length-append s (x ∷ rest)))
 
 -- a unit that stands in what is held is all of it
-pub held_unit : (order : Order) (section bytes : List ℕ) (new : Option (List ℕ)) (u : WholeUnit) (size : ℕ)
-    → FieldRefused order bytes new ⊎ UnitHeld order bytes new → UnitAt section order bytes u size → bytes ≡ bytes_of u
-held_unit order section bytes new u size held h = by held
+pub held_unit : (order : Order) (abbreviations bytes : List ℕ) (new : Option (List ℕ)) (u : WholeUnit) (size : ℕ)
+    → FieldRefused order bytes new ⊎ UnitHeld order bytes new → UnitAt abbreviations order bytes u size → bytes ≡ bytes_of u
+held_unit order abbreviations bytes new u size held h = by held
   where
     own : List ℕ
     own = body_bytes u
@@ -129,10 +129,10 @@ escape_is : (order : Order) → fixed_bytes order 4 0xffffffff ≡ escape
 escape_is Little = refl
 escape_is Big = refl
 
-second_uncut : (order : Order) (bytes rest : List ℕ) (own a : ℕ) (v : Bool) → (a == 0xffffffff) ≡ v → IsField bytes → bytes ≡ fixed_bytes order 4 a ++ rest → length (fixed_bytes order 4 a) ≡ 4
+second_never_truncated : (order : Order) (bytes rest : List ℕ) (own a : ℕ) (v : Bool) → (a == 0xffffffff) ≡ v → IsField bytes → bytes ≡ fixed_bytes order 4 a ++ rest → length (fixed_bytes order 4 a) ≡ 4
     → (lim : ℕ) → 8 ≤ lim → (reason : Reason) → (optional v (fixed order 8)).Break rest lim own reason → reason ≢ Truncated
-second_uncut order bytes rest own a false e is split size lim enough reason h = absurd h
-second_uncut order bytes rest own a true e is split size lim enough reason h = elim h.1 [
+second_never_truncated order bytes rest own a false e is split size lim enough reason h = absurd h
+second_never_truncated order bytes rest own a true e is split size lim enough reason h = elim h.1 [
   | inl past ↦ absurd (omega (arith, past.0))
   | inr cut ↦ elim is [
     | inl four ↦
@@ -145,19 +145,19 @@ second_uncut order bytes rest own a true e is split size lim enough reason h = e
 ]
 
 -- a whole length field is not cut
-pub field_uncut : (order : Order) (bytes : List ℕ) (offset : ℕ) (reason : Reason) → IsField bytes → (initial_length order 0).Break bytes length_limit offset reason → reason ≢ Truncated
-field_uncut order bytes offset reason is (inr far) = λ e. far_judges far.value (far.refused ∙ ap (λ (r : Reason). Some r) e)
-field_uncut order bytes offset reason is (inl (here, own, inl (inl short))) = elim short.1 [
+pub field_never_truncated : (order : Order) (bytes : List ℕ) (offset : ℕ) (reason : Reason) → IsField bytes → (initial_length order 0).Break bytes length_limit offset reason → reason ≢ Truncated
+field_never_truncated order bytes offset reason is (inr far) = λ e. far_judges far.value (far.refused ∙ ap (λ (r : Reason). Some r) e)
+field_never_truncated order bytes offset reason is (inl (here, own, inl (inl short))) = elim short.1 [
   | inl past ↦ λ e. cc
   | inr cut ↦ elim is [
     | inl four ↦ absurd (omega (arith, cut.1, four.0))
     | inr twelve ↦ absurd (omega (arith, cut.1, twelve))
   ]
 ]
-field_uncut order bytes offset reason is (inl (here, own, inl (inr bad))) = λ e. reserved_judges bad.value (bad.refused ∙ ap (λ (r : Reason). Some r) e)
-field_uncut order bytes offset reason is (inl (here, own, inr (a, fits, after))) =
+field_never_truncated order bytes offset reason is (inl (here, own, inl (inr bad))) = λ e. reserved_judges bad.value (bad.refused ∙ ap (λ (r : Reason). Some r) e)
+field_never_truncated order bytes offset reason is (inl (here, own, inr (a, fits, after))) =
     let size : length (fixed_bytes order 4 a) ≡ 4 = length-fixed order 4 a in
-    second_uncut order bytes after.rest after.own a (a == 0xffffffff) refl is after.split size (length_limit - length (fixed_bytes order 4 a)) (omega arith) reason after.breaks
+    second_never_truncated order bytes after.rest after.own a (a == 0xffffffff) refl is after.split size (length_limit - length (fixed_bytes order 4 a)) (omega arith) reason after.breaks
 
 -- a length of the 32-bit format doesn't begin with ff ff ff ff
 no_escape : (order : Order) (bytes : List ℕ) (n : ℕ) → Taken (initial_length order 0) bytes length_limit (Dwarf32, n) 4 → take 4 bytes ≡ escape → ⊥

@@ -43,17 +43,17 @@ TakesInUnit order old new = (all : List ℕ) × (h : Takes old new all) × InUni
 
 -- the unit stands at the front of all that the reader had left, and exactly its bytes were taken
 abbrev pub TakesUnit : List ℕ → Order → Option (List ℕ) → Option (List ℕ) → WholeUnit → Type 0
-TakesUnit section order old new u = (all : List ℕ) × Had old all × UnitAt section order all u (length (bytes_of u)) × Consumes old new (bytes_of u)
+TakesUnit abbreviations order old new u = (all : List ℕ) × Had old all × UnitAt abbreviations order all u (length (bytes_of u)) × Consumes old new (bytes_of u)
 
 -- a fault is the first one of all that the reader had left
-abbrev pub TellsFirst : List ℕ → Order → List ℕ → ReadError → Type 0
-TellsFirst section order all (reads.Fault f) = Fails order section all f.section f.offset f.reason
-TellsFirst section order all reads.NoMemory = Unit {0}
-TellsFirst section order all (reads.Io kind) = Unit {0}
+abbrev pub IsFeedError : List ℕ → Order → List ℕ → ReadError → Type 0
+IsFeedError abbreviations order all (reads.Fault f) = Fails order abbreviations all f.section f.offset f.reason
+IsFeedError abbreviations order all reads.NoMemory = Unit {0}
+IsFeedError abbreviations order all (reads.Io kind) = Unit {0}
 
 -- no unit is read: what the error tells, and that no byte was taken past the unit's end
 abbrev pub TakesNoUnit : List ℕ → Order → Option (List ℕ) → Option (List ℕ) → ReadError → Type 0
-TakesNoUnit section order old new e = (all : List ℕ) × (h : Takes old new all) × TellsFirst section order all e × InUnit order all (length h.taken)
+TakesNoUnit abbreviations order old new e = (all : List ℕ) × (h : Takes old new all) × IsFeedError abbreviations order all e × InUnit order all (length h.taken)
 
 -- ---- how it is read
 

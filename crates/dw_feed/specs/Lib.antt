@@ -1,4 +1,4 @@
-pub mod Uncut
-pub mod UncutUnit
+pub mod NeverTruncated
+pub mod UnitNeverTruncated
 pub mod Feed
 pub mod Laws

@@ -1,6 +1,6 @@
 //! The bytes of a unit, taken from a reader.
 ghost use Rattle.std.specs.Prelude.{◌≡◌, None, vec_items};
-ghost use Rattle.dw_leb.specs.Watch.{inner_of, fault_of, told_by_read, KeptSome};
+ghost use Rattle.dw_leb.specs.Watch.{inner_of, fault_of, reader_fault, KeptSome};
 ghost use Rattle.dw_feed.specs.Feed.{ReadsBytes, ReadsField, ReadsUpTo, IsEscape};
 
 use dw_leb::{Order, ReadError, Watched, read_length};
@@ -24,7 +24,7 @@ pub fn unit_bytes<R: Read>(
         (R.remaining (inner_of reader.new))
         result }
     ensures memory { KeptSome (R.remaining (inner_of reader.old)) (R.remaining (inner_of reader.new)) result }
-    ensures fault { fault_of reader.new ≡ told_by_read result }
+    ensures fault { fault_of reader.new ≡ reader_fault result }
 {
     let mut bytes = field_bytes(alloc, reader)?;
     match read_length(order, 0, bytes.as_slice()) {
@@ -44,7 +44,7 @@ fn field_bytes<R: Read>(alloc: Global, reader: &mut Watched<R>) -> Result<Vec<u8
         (R.remaining (inner_of reader.new))
         result }
     ensures memory { KeptSome (R.remaining (inner_of reader.old)) (R.remaining (inner_of reader.new)) result }
-    ensures fault { fault_of reader.new ≡ told_by_read result }
+    ensures fault { fault_of reader.new ≡ reader_fault result }
 {
     let mut bytes = Vec::new(alloc);
     read_up_to(reader, 4, &mut bytes)?;
@@ -74,7 +74,7 @@ fn read_up_to<R: Read>(
         (R.remaining (inner_of reader.new))
         most result }
     ensures memory { KeptSome (R.remaining (inner_of reader.old)) (R.remaining (inner_of reader.new)) result }
-    ensures fault { fault_of reader.new ≡ told_by_read result }
+    ensures fault { fault_of reader.new ≡ reader_fault result }
 {
     let mut chunk = [0u8; CHUNK];
     let mut left = most;

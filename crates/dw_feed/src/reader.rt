@@ -1,6 +1,6 @@
 //! Reading a unit from a reader.
 ghost use Rattle.std.specs.Prelude.{◌≡◌, None, IfOk, IfErr};
-ghost use Rattle.dw_leb.specs.Watch.{inner_of, fault_of, told_by_read, KeptSome};
+ghost use Rattle.dw_leb.specs.Watch.{inner_of, fault_of, reader_fault, KeptSome};
 ghost use Rattle.dw_feed.specs.Feed.{TakesUnit, TakesNoUnit};
 
 use crate::bytes::unit_bytes;
@@ -36,7 +36,7 @@ pub fn read_unit_from<R: Read>(
         (R.remaining (inner_of reader.new))) }
     ensures memory { KeptSome (R.remaining (inner_of reader.old)) (R.remaining (inner_of reader.new)) result }
     ensures tables { tables.new ≡ tables.old }
-    ensures fault { fault_of reader.new ≡ told_by_read result }
+    ensures fault { fault_of reader.new ≡ reader_fault result }
 {
     let bytes = unit_bytes(alloc, order, reader)?;
     let (unit, _) = read_unit(alloc, order, tables, bytes.as_slice())?;

@@ -8,7 +8,7 @@ use Rattle.dw_leb.specs.Number.{fixed, content, text, Unsigned, Signed, uleb, sl
 use Rattle.dw_leb.specs.Reader.{returned}
 use Rattle.dw_leb.specs.ReadNumber.{read_text, read_uleb, read_sleb}
 use Rattle.dw_leb.specs.Decide.{Decides, IsView, then_decides, judged_decides, whole_decides, seen_decides, nothing_decides, exactly_decides, refused_decides}
-use Rattle.dw_leb.specs.Stay.{Stays, then_stays, judged_stays, whole_stays, nothing_stays, refused_stays}
+use Rattle.dw_leb.specs.PartLaws.{Stays, then_stays, judged_stays, whole_stays, nothing_stays, refused_stays}
 use Rattle.dw_leb.specs.Digits.{content_decides, fixed_decides, text_decides, Short_stays, text_stays}
 use Rattle.dw_leb.specs.DecideNumber.{uleb_decides, uleb_stays, sleb_decides, sleb_stays}
 use Rattle.dw_form.specs.declared.shape.Ctx.{Ctx}

@@ -2,8 +2,8 @@ pub mod Form
 pub mod ReadForm
 pub mod DecideForm
 pub mod Lent
-pub mod Kept
-pub mod Told
+pub mod StoredView
+pub mod ValueErrors
 pub mod Pieces
-pub mod Named
+pub mod NamedForms
 pub mod Fit

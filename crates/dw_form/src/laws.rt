@@ -3,11 +3,11 @@
 ghost use Rattle.std.specs.Prelude.{◌≡◌, ◌≤◌, ◌++◌, ℕ, List, length, Option};
 ghost use Rattle.dw_leb.specs.Number.{Signed};
 ghost use Rattle.dw_leb.specs.Laws.{NoneBegins, OneAnswer};
-ghost use Rattle.dw_leb.specs.Stay.{Stays};
+ghost use Rattle.dw_leb.specs.PartLaws.{Stays};
 ghost use Rattle.dw_form.specs.declared.shape.Ctx.{Ctx};
 ghost use Rattle.dw_form.specs.declared.stored.Stored.{Stored};
 ghost use Rattle.dw_form.specs.Form.{attribute};
-ghost use Rattle.dw_form.specs.Kept.{StoredFits, content};
+ghost use Rattle.dw_form.specs.StoredView.{StoredFits, content};
 
 /// One spelling: under one form and constant no value's spelling begins another value's, so each
 /// value has one.

@@ -3,9 +3,9 @@ ghost use Rattle.std.specs.Prelude.{◌≡◌, ◌≤◌, ◌++◌, ℕ, length,
 ghost use Rattle.dw_leb.specs.Part.{Taken};
 ghost use Rattle.dw_leb.specs.View.{sleb_of};
 ghost use Rattle.dw_form.specs.Form.{Attribute, attribute, IsContext};
-ghost use Rattle.dw_form.specs.Kept.{content, bytes_in, StoredFits};
+ghost use Rattle.dw_form.specs.StoredView.{content, bytes_in, StoredFits};
 ghost use Rattle.dw_form.specs.Pieces.{HasSpelling, spelling};
-ghost use Rattle.dw_form.specs.Told.{Refuses, LacksRoom};
+ghost use Rattle.dw_form.specs.ValueErrors.{IsValueError, LacksRoom};
 ghost use Rattle.dw_form.specs.declared.read.ValueError.TheVariants.{Bad, NoMemory};
 ghost use Rattle.dw_leb.specs.declared.errors.Reason.{Reason};
 
@@ -57,7 +57,7 @@ pub fn read_value(
     ensures bytes { IfOk result (λ x.
         spelling ctx form (content pool.new.items x.0) ≡ take x.1 b.now) }
     ensures broken { IfErr result
-        (Refuses (attribute ctx form (option_map sleb_of implicit)) b.now lim) }
+        (IsValueError (attribute ctx form (option_map sleb_of implicit)) b.now lim) }
     ensures pool { IfOk result (λ x.
         pool.new.items ≡ pool.old.items ++ bytes_in (content pool.new.items x.0)) }
     ensures fits { IfOk result (λ x. StoredFits (vec_len pool.new) x.0) }

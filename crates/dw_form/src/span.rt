@@ -1,6 +1,6 @@
 //! A part of a pool of bytes.
 ghost use Rattle.std.specs.Prelude.{◌≡◌, ◌≤◌, ◌<◌, ◌+◌, ◌++◌, length, drop, vec_len, vec_capacity, IfOk, OnErr};
-ghost use Rattle.dw_form.specs.Kept.{part, SpanFits};
+ghost use Rattle.dw_form.specs.StoredView.{part, SpanFits};
 
 use std::alloc::AllocError;
 

@@ -2,7 +2,7 @@
 ghost use Rattle.std.specs.Prelude.{◌≡◌, ◌≤◌, ◌<◌, ◌+◌, ◌*◌, ◌^◌, ◌++◌, length, drop, vec_len, vec_capacity, option_map, IfOk, IfSome, OnErr};
 ghost use Rattle.dw_leb.specs.View.{uleb_of};
 ghost use Rattle.dw_form.specs.Lent.{attribute_of};
-ghost use Rattle.dw_form.specs.Kept.{content, bytes_in, text_or_block, via_form, StoredFits, NamesForm};
+ghost use Rattle.dw_form.specs.StoredView.{content, bytes_in, text_or_block, via_form, StoredFits, NamesForm};
 
 use crate::span::Span;
 use crate::value::{AttrValue, Value};

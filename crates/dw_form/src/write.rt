@@ -1,6 +1,6 @@
 //! Writing values, and their sizes.
 ghost use Rattle.std.specs.Prelude.{◌≡◌, ◌≤◌, ◌<◌, ◌+◌, ◌^◌, ◌++◌, length, None, IfSome};
-ghost use Rattle.dw_leb.specs.Watch.{inner_of, fault_of, told_by_write, Wrote};
+ghost use Rattle.dw_leb.specs.Watch.{inner_of, fault_of, writer_fault, Wrote};
 ghost use Rattle.dw_leb.specs.Number.{uleb, UlebFits};
 ghost use Rattle.dw_form.specs.Form.{shape, ShapeFits, IsContext};
 ghost use Rattle.dw_form.specs.Pieces.{head_of, HeadFits, content_of, tail_of, all_pieces, form_in, via_bytes, HasSpelling, spelling};
@@ -29,7 +29,7 @@ pub fn write_value<W: Write>(
         (W.contents (inner_of writer.old))
         (W.contents (inner_of writer.new))
         (spelling ctx form (attribute_of value.now)) result }
-    ensures fault { fault_of writer.new ≡ told_by_write result }
+    ensures fault { fault_of writer.new ≡ writer_fault result }
 {
     match shape_in(ctx, form, value) {
         Some(shape) => write_pieces(ctx, shape, value, writer),
@@ -51,7 +51,7 @@ fn write_pieces<W: Write>(
         (W.contents (inner_of writer.old))
         (W.contents (inner_of writer.new))
         (all_pieces ctx shape (attribute_of value.now)) result }
-    ensures fault { fault_of writer.new ≡ told_by_write result }
+    ensures fault { fault_of writer.new ≡ writer_fault result }
 {
     write_via(value, writer)?;
     write_head(ctx, shape, &value.value, writer)?;
@@ -66,7 +66,7 @@ fn write_via<W: Write>(value: &AttrValue<'_>, writer: &mut Watched<W>) -> Result
         (W.contents (inner_of writer.old))
         (W.contents (inner_of writer.new))
         (via_bytes (attribute_of value.now).via) result }
-    ensures fault { fault_of writer.new ≡ told_by_write result }
+    ensures fault { fault_of writer.new ≡ writer_fault result }
 {
     write_all(writer, via_part(value).as_slice())
 }
@@ -85,7 +85,7 @@ fn write_head<W: Write>(
         (W.contents (inner_of writer.old))
         (W.contents (inner_of writer.new))
         (head_of ctx shape (value_of value.now)) result }
-    ensures fault { fault_of writer.new ≡ told_by_write result }
+    ensures fault { fault_of writer.new ≡ writer_fault result }
 {
     write_all(writer, head(ctx, shape, value).as_slice())
 }

@@ -9,11 +9,11 @@ use Rattle.dw_leb.specs.declared.errors.Reason.TheVariants.{Truncated}
 use Rattle.dw_leb.specs.Number.{offset_size, fixed, length_field, length_limit}
 use Rattle.dw_leb.specs.Reader.{returned}
 use Rattle.dw_leb.specs.Decide.{Decides, then_decides, judged_decides, seen_decides, nothing_decides}
-use Rattle.dw_leb.specs.Stay.{Stays, then_stays, judged_stays, nothing_stays}
+use Rattle.dw_leb.specs.PartLaws.{Stays, then_stays, judged_stays, nothing_stays}
 use Rattle.dw_leb.specs.DecideNumber.{initial_length_stays}
 use Rattle.dw_leb.specs.Digits.{fixed_decides, Short_stays}
 use Rattle.dw_header.specs.Header.{added_sizes, numbers, bad_version, bad_type, bad_address_size, no_more, first_and_rest, fields, Fields}
-use Rattle.dw_header.specs.Headed.{Headed, HeaderBreaks}
+use Rattle.dw_header.specs.HeaderPlace.{SpelledHeader, HeaderBreaks}
 use Rattle.dw_header.specs.ReadHeader.{read_numbers, read_fields}
 
 first_and_rest_back : (xs : List ℕ) (a : ℕ × List ℕ) → first_and_rest xs ≡ Some a → (a.0 ∷ a.1) ≡ xs
@@ -66,7 +66,7 @@ header_stays order bytes tail offset reason ne (inl one) = inl (initial_length_s
 header_stays order bytes tail offset reason ne (inr (format, n, rest, own, fits, split, sum, breaks)) =
     inr (format, n, rest ++ tail, own, fits, ap (λ (b : List ℕ). b ++ tail) split ∙ append_assoc ((length_field order).spell (format, n)) rest tail, sum, fields_stays order format rest tail n own reason ne breaks)
 
-pub headed_stays : (order : Order) (bytes tail : List ℕ) (format : Format) (n : ℕ) (x : Fields) (rest : List ℕ) → Headed order bytes format n x rest → Headed order (bytes ++ tail) format n x (rest ++ tail)
+pub headed_stays : (order : Order) (bytes tail : List ℕ) (format : Format) (n : ℕ) (x : Fields) (rest : List ℕ) → SpelledHeader order bytes format n x rest → SpelledHeader order (bytes ++ tail) format n x (rest ++ tail)
 headed_stays order bytes tail format n x rest h = record {
   length_fits = h.length_fits;
   fields_fit = h.fields_fit;

@@ -1,8 +1,8 @@
 pub mod Header
-pub mod Headed
+pub mod HeaderPlace
 pub mod ReadHeader
-pub mod HeaderFields
-pub mod HeaderLemmas
+pub mod FieldsView
+pub mod FittingHeaders
 pub mod DecideHeader
-pub mod HeadRead
-pub mod HeadLaws
+pub mod HeaderFound
+pub mod Laws

@@ -5,8 +5,8 @@ ghost use Rattle.dw_leb.specs.Reader.{checked, ◌and_then◌};
 ghost use Rattle.dw_leb.specs.ReadNumber.{read_fixed as fixed_reader};
 ghost use Rattle.dw_header.specs.Header.{fields, added_sizes, kind_number, kind_fields, bad_type, bad_address_size};
 ghost use Rattle.dw_header.specs.ReadHeader.{read_numbers, read_fields};
-ghost use Rattle.dw_leb.specs.Told.{told};
-ghost use Rattle.dw_header.specs.HeaderFields.{after_type, after_version, all_fields};
+ghost use Rattle.dw_leb.specs.Outcomes.{outcome_from};
+ghost use Rattle.dw_header.specs.FieldsView.{after_type, after_version, all_fields};
 
 use crate::kind::Kind;
 use dw_leb::{Bad, Format, Order, Reason, read_fixed};
@@ -23,7 +23,7 @@ pub(crate) struct HeaderFields {
 fn number(order: Order, n: u8, b: &[u8], lim: u64) -> Result<(u64, usize), Bad>
     requires some { 1 ≤ n }
     requires most { n ≤ 8 }
-    ensures exact { fixed_reader order n b.now lim ≡ told (λ x. x) result }
+    ensures exact { fixed_reader order n b.now lim ≡ outcome_from (λ x. x) result }
     ensures small { IfOk result (λ x. x.0 < 256 ^ n) }
     ensures room { IfOk result (λ x. (x.1 ≡ n) × (n ≤ length b.now) × (n ≤ lim)) }
     ensures near { IfErr result (λ e. e.offset ≤ length b.now) }
@@ -44,7 +44,7 @@ fn added(
 ) -> Result<(Kind, usize), Bad>
     requires some { 1 ≤ unit_type }
     requires most { unit_type ≤ 4 }
-    ensures exact { read_numbers order (added_sizes format unit_type) b.now lim ≡ told kind_fields result }
+    ensures exact { read_numbers order (added_sizes format unit_type) b.now lim ≡ outcome_from kind_fields result }
     ensures kind { IfOk result (λ x. kind_number x.0 ≡ unit_type) }
     ensures room { IfOk result (λ x. (x.1 ≤ length b.now) × (x.1 ≤ lim) × (x.1 ≤ 16)) }
     ensures near { IfErr result (λ e. e.offset ≤ length b.now) }
@@ -62,7 +62,7 @@ fn added(
 
 /// The signature and the type's offset.
 fn type_fields(order: Order, format: Format, b: &[u8], lim: u64) -> Result<(Kind, usize), Bad>
-    ensures exact { read_numbers order (added_sizes format 2) b.now lim ≡ told kind_fields result }
+    ensures exact { read_numbers order (added_sizes format 2) b.now lim ≡ outcome_from kind_fields result }
     ensures kind { IfOk result (λ x. kind_number x.0 ≡ 2) }
     ensures room { IfOk result (λ x. (x.1 ≤ length b.now) × (x.1 ≤ lim) × (x.1 ≤ 16)) }
     ensures near { IfErr result (λ e. e.offset ≤ length b.now) }
@@ -90,7 +90,7 @@ fn offsets(
 ) -> Result<((u64, Kind), usize), Bad>
     requires some { 1 ≤ unit_type }
     requires most { unit_type ≤ 4 }
-    ensures exact { (fixed_reader order (offset_size format) and_then λ _. read_numbers order (added_sizes format unit_type)) b.now lim ≡ told (λ x. (x.0, kind_fields x.1)) result }
+    ensures exact { (fixed_reader order (offset_size format) and_then λ _. read_numbers order (added_sizes format unit_type)) b.now lim ≡ outcome_from (λ x. (x.0, kind_fields x.1)) result }
     ensures kind { IfOk result (λ x. kind_number x.0.1 ≡ unit_type) }
     ensures room { IfOk result (λ x. (x.1 ≤ length b.now) × (x.1 ≤ lim) × (x.1 ≤ 24)) }
     ensures near { IfErr result (λ e. e.offset ≤ length b.now) }
@@ -112,7 +112,7 @@ fn address(
 ) -> Result<(HeaderFields, usize), Bad>
     requires some { 1 ≤ unit_type }
     requires most { unit_type ≤ 4 }
-    ensures exact { (checked (fixed_reader order 1) bad_address_size and_then λ _. fixed_reader order (offset_size format) and_then λ _. read_numbers order (added_sizes format unit_type)) b.now lim ≡ told after_type result }
+    ensures exact { (checked (fixed_reader order 1) bad_address_size and_then λ _. fixed_reader order (offset_size format) and_then λ _. read_numbers order (added_sizes format unit_type)) b.now lim ≡ outcome_from after_type result }
     ensures kind { IfOk result (λ x. kind_number x.0.kind ≡ unit_type) }
     ensures room { IfOk result (λ x. (x.1 ≤ length b.now) × (x.1 ≤ lim) × (x.1 ≤ 25)) }
     ensures near { IfErr result (λ e. e.offset ≤ length b.now) }
@@ -136,7 +136,7 @@ fn address(
 
 /// The unit type, and what follows it.
 fn typed(order: Order, format: Format, b: &[u8], lim: u64) -> Result<(HeaderFields, usize), Bad>
-    ensures exact { (checked (fixed_reader order 1) bad_type and_then λ kind. checked (fixed_reader order 1) bad_address_size and_then λ _. fixed_reader order (offset_size format) and_then λ _. read_numbers order (added_sizes format kind)) b.now lim ≡ told after_version result }
+    ensures exact { (checked (fixed_reader order 1) bad_type and_then λ kind. checked (fixed_reader order 1) bad_address_size and_then λ _. fixed_reader order (offset_size format) and_then λ _. read_numbers order (added_sizes format kind)) b.now lim ≡ outcome_from after_version result }
     ensures room { IfOk result (λ x. (x.1 ≤ length b.now) × (x.1 ≤ lim) × (x.1 ≤ 26)) }
     ensures near { IfErr result (λ e. e.offset ≤ length b.now) }
 {
@@ -157,7 +157,7 @@ pub(crate) fn header_fields(
     b: &[u8],
     lim: u64,
 ) -> Result<(HeaderFields, usize), Bad>
-    ensures exact { read_fields order format b.now lim ≡ told all_fields result }
+    ensures exact { read_fields order format b.now lim ≡ outcome_from all_fields result }
     ensures fits { IfOk result (λ x. (fields order format).Fits (all_fields x.0)) }
     ensures room { IfOk result (λ x. (x.1 ≤ length b.now) × (x.1 ≤ lim) × (x.1 ≤ 28)) }
     ensures near { IfErr result (λ e. e.offset ≤ length b.now) }
@@ -167,7 +167,7 @@ pub(crate) fn header_fields(
 
 #[tactic(auto, unfolding(crate::specs::ReadHeader::read_fields))]
 fn versioned(order: Order, format: Format, b: &[u8], lim: u64) -> Result<(HeaderFields, usize), Bad>
-    ensures exact { read_fields order format b.now lim ≡ told all_fields result }
+    ensures exact { read_fields order format b.now lim ≡ outcome_from all_fields result }
     ensures room { IfOk result (λ x. (x.1 ≤ length b.now) × (x.1 ≤ lim) × (x.1 ≤ 28)) }
     ensures near { IfErr result (λ e. e.offset ≤ length b.now) }
 {

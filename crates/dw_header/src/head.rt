@@ -1,18 +1,18 @@
 //! Reading a header and its unit_length.
 ghost use Rattle.std.specs.Prelude.{◌≡◌, ◌≤◌, ◌<◌, ◌+◌, ◌^◌, ℕ, length, IfOk, IfErr, IsOkAnd, Ok, Err};
 ghost use Rattle.dw_leb.specs.declared.errors.Fault.{Fault as TheFault};
-ghost use Rattle.dw_leb.specs.declared.errors.Section.TheVariants.{Info};
+ghost use Rattle.dw_leb.specs.declared.errors.SectionId.TheVariants.{Info};
 ghost use Rattle.dw_header.specs.Header.{Header as TheHeader};
 ghost use Rattle.dw_leb.specs.Number.{length_limit, length_size};
 ghost use Rattle.dw_leb.specs.Reader.{outcome_of};
 ghost use Rattle.dw_leb.specs.ReadNumber.{read_length as length_reader};
-ghost use Rattle.dw_header.specs.Headed.{HeaderAt, HeaderFault, header_size};
+ghost use Rattle.dw_header.specs.HeaderPlace.{HeaderAt, HeaderFault, header_size};
 ghost use Rattle.dw_header.specs.ReadHeader.{read_head};
-ghost use Rattle.dw_leb.specs.Told.{told};
+ghost use Rattle.dw_leb.specs.Outcomes.{outcome_from};
 
 use crate::fields::header_fields;
 use crate::header::Header;
-use dw_leb::{Bad, Fault, Format, Order, Reason, Section, read_length};
+use dw_leb::{Bad, Fault, Format, Order, Reason, SectionId, read_length};
 
 /// The header at the front of `b`, and the unit_length: the count of bytes that the unit has after
 /// its initial length. No memory is taken.
@@ -41,7 +41,7 @@ fn info_fault(e: Bad) -> Fault
     ensures { result ≡ record { section = Info; offset = e.offset; reason = e.reason } }
 {
     Fault {
-        section: Section::Info,
+        section: SectionId::Info,
         offset: e.offset as u64,
         reason: e.reason,
     }
@@ -58,7 +58,7 @@ fn length_at(order: Order, b: &[u8]) -> Result<(Format, u64), Reason>
 
 /// The header with its unit_length, and the count of the bytes of both.
 fn head_at(order: Order, b: &[u8]) -> Result<((Header, u64), usize), Bad>
-    ensures exact { read_head order b.now ≡ told (λ x. x) result }
+    ensures exact { read_head order b.now ≡ outcome_from (λ x. x) result }
     ensures room { IfOk result (λ x. x.1 ≤ length b.now) }
     ensures near { IfErr result (λ e. e.offset ≤ length b.now) }
 {

@@ -1,10 +1,10 @@
 //! Unit headers (section 7.5.1).
 ghost use Rattle.std.specs.Prelude.{◌≡◌, ◌≤◌, ◌<◌, ◌+◌, ◌^◌, ℕ, length, nat_lt, IsSome, IfSome, IsTrue, ◌↔◌};
 ghost use Rattle.dw_leb.specs.Number.{offset_size};
-ghost use Rattle.dw_header.specs.HeaderFields.{all_fields};
+ghost use Rattle.dw_header.specs.FieldsView.{all_fields};
 ghost use Rattle.dw_header.specs.ReadHeader.{header_from};
 ghost use Rattle.dw_header.specs.Header.{HeaderFits, KindFits, context_of, fields as header_part};
-ghost use Rattle.dw_header.specs.Headed.{header_size};
+ghost use Rattle.dw_header.specs.HeaderPlace.{header_size};
 
 use crate::fields::HeaderFields;
 use crate::kind::Kind;

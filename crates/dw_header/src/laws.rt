@@ -1,10 +1,10 @@
 //! Laws of the definitions of headers. They call nothing.
 ghost use Rattle.dw_leb.specs.Laws.{NoneBegins};
-ghost use Rattle.dw_leb.specs.Stay.{Stays};
+ghost use Rattle.dw_leb.specs.PartLaws.{Stays};
 ghost use Rattle.dw_leb.specs.declared.order.Order.{Order};
 ghost use Rattle.dw_leb.specs.declared.order.Format.{Format};
 ghost use Rattle.dw_header.specs.Header.{fields};
-ghost use Rattle.dw_header.specs.HeadLaws.{NoHeaderBegins, HeadersAreSpelled, SpelledHeadersStand, OneHeaderBreak, NoHeaderAndBreak, HeaderOrBreak, HeaderBreaksStay, HeadersStay};
+ghost use Rattle.dw_header.specs.Laws.{NoHeaderBegins, HeadersAreSpelled, SpelledHeadersStand, OneHeaderBreak, NoHeaderAndBreak, HeaderOrBreak, HeaderBreaksStay, HeadersStay};
 
 /// One spelling: no spelling of a header's fields begins another, nor with the initial length before
 /// them (sections 7.2.2 and 7.5.1) in one byte order. So each header with its unit_length has one

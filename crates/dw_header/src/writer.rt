@@ -1,9 +1,9 @@
 //! Writing a header and its unit_length.
 ghost use Rattle.std.specs.Prelude.{◌≡◌, ◌≤◌, ◌++◌, None};
-ghost use Rattle.dw_leb.specs.Watch.{inner_of, fault_of, told_by_write, Wrote};
+ghost use Rattle.dw_leb.specs.Watch.{inner_of, fault_of, writer_fault, Wrote};
 ghost use Rattle.dw_leb.specs.Number.{FitsLength};
 ghost use Rattle.dw_header.specs.Header.{fields, fields_of, numbers, added_sizes, kind_number, kind_fields, KindFits};
-ghost use Rattle.dw_header.specs.Headed.{header_bytes};
+ghost use Rattle.dw_header.specs.HeaderPlace.{header_bytes};
 
 use crate::header::Header;
 use crate::kind::Kind;
@@ -26,7 +26,7 @@ pub fn write_header<W: Write>(
     requires fits { FitsLength header.format unit_length }
     requires clear { fault_of writer.old ≡ None }
     ensures written { Wrote (W.contents (inner_of writer.old)) (W.contents (inner_of writer.new)) (header_bytes header unit_length) result }
-    ensures fault { fault_of writer.new ≡ told_by_write result }
+    ensures fault { fault_of writer.new ≡ writer_fault result }
 {
     write_all(
         writer,

@@ -10,7 +10,7 @@ use Rattle.dw_leb.specs.Number.{UlebFits, SlebFits, marked, fixed_bytes, length_
 use Rattle.dw_leb.specs.Reader.{made}
 use Rattle.dw_leb.specs.ReadNumber.{undigits, read_fixed, read_groups, uleb_from, signed_from, sleb_from, read_uleb, read_sleb, initial_from, read_length_field, read_length}
 use Rattle.dw_leb.specs.Decide.{IsTotalView, viewed_decides, Decides, IsView, then_decides, judged_decides, whole_decides, seen_decides, optional_decides}
-use Rattle.dw_leb.specs.Stay.{Stays, then_stays, judged_stays, whole_stays, optional_stays}
+use Rattle.dw_leb.specs.PartLaws.{Stays, then_stays, judged_stays, whole_stays, optional_stays}
 use Rattle.dw_leb.specs.Digits.{length-marked, digits_below, length-fixed, length-digits, undigits-digits, undigits_below, digits-undigits, fixed_decides, groups_decides, Short_stays, groups_stays}
 
 -- an Option that a test chose

@@ -6,7 +6,7 @@ use Rattle.dw_leb.specs.Part.{Reason, Part, Taken}
 use Rattle.dw_leb.specs.Repeat.{item_bytes, ItemFits, items_bytes, ItemsFit, BreaksBehind, repeated}
 use Rattle.dw_leb.specs.Reader.{Outcome, Found, Broken, Reader, paired, behind, ◌and_then◌, mapped, read_optional, joined, read_items, read_repeated}
 use Rattle.dw_leb.specs.Decide.{Decides, Says, AreBytes, AreBytes-behind, found, broken}
-use Rattle.dw_leb.specs.Stay.{Stays, After_stays}
+use Rattle.dw_leb.specs.PartLaws.{Stays, After_stays}
 
 pub behind_at : {A B : Type 0} (P : Part A) (R : Reader A) (it : Decides P R) (S : A → Reader B) (a : A) (rest : List ℕ) (lim : ℕ) → P.Fits a → length (P.spell a) ≤ lim
     → (R and_then S) (P.spell a ++ rest) lim ≡ paired a (length (P.spell a)) (S a rest (lim - length (P.spell a)))

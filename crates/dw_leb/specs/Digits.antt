@@ -11,7 +11,7 @@ use Rattle.dw_leb.specs.Number.{Order, Little, Big, digits, fixed_bytes, Short, 
 use Rattle.dw_leb.specs.Reader.{Outcome, Found, Broken, mapped}
 use Rattle.dw_leb.specs.ReadNumber.{undigits, ordered, bytes_of, read_fixed, before_zero, read_text, groups_of, read_groups, text_outcome, groups_outcome}
 use Rattle.dw_leb.specs.Decide.{Decides, Says, AreBytes, found}
-use Rattle.dw_leb.specs.Stay.{Stays}
+use Rattle.dw_leb.specs.PartLaws.{Stays}
 
 module _ (base : ℕ) (some : 0 < base) where
   pub length-digits : (n x : ℕ) → length (digits base n x) ≡ n

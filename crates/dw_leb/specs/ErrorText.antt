@@ -4,8 +4,8 @@ use Rattle.std.specs.Fmt.{digits}
 use Rattle.dw_leb.specs.declared.errors.Fault.{Fault}
 use Rattle.dw_leb.specs.declared.errors.Reason.{Reason}
 use Rattle.dw_leb.specs.declared.errors.Reason.TheVariants as reasons
-use Rattle.dw_leb.specs.declared.errors.Section.{Section}
-use Rattle.dw_leb.specs.declared.errors.Section.TheVariants as sections
+use Rattle.dw_leb.specs.declared.errors.SectionId.{SectionId}
+use Rattle.dw_leb.specs.declared.errors.SectionId.TheVariants as sections
 
 -- the name of a reason
 abbrev pub reason_name : Reason → List ℕ
@@ -32,7 +32,7 @@ reason_name reasons.LengthTooBig = codes "LengthTooBig"
 reason_name reasons.NotYet = codes "NotYet"
 
 -- a section without the `.debug_` of its name
-abbrev pub section_name : Section → List ℕ
+abbrev pub section_name : SectionId → List ℕ
 section_name sections.Info = codes "info"
 section_name sections.Abbrev = codes "abbrev"
 

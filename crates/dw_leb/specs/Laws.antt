@@ -4,7 +4,7 @@ use Rattle.std.proofs.Common.{inl, inr}
 use Rattle.dw_leb.specs.Part.{Reason, Part, Taken}
 use Rattle.dw_leb.specs.Reader.{Reader, Outcome, Found, Broken}
 use Rattle.dw_leb.specs.Decide.{Decides, Says, AreBytes}
-use Rattle.dw_leb.specs.Stay.{one_break, no_break}
+use Rattle.dw_leb.specs.PartLaws.{one_break, no_break}
 
 -- no spelling begins another, and each value has one spelling
 abbrev pub NoneBegins : {X : Type 0} → Part X → Type 0

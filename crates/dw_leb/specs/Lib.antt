@@ -4,7 +4,7 @@ pub mod Repeat
 pub mod Reader
 pub mod ReadNumber
 pub mod Decide
-pub mod Stay
+pub mod PartLaws
 pub mod Digits
 pub mod DecideNumber
 pub mod DecideRepeat
@@ -12,10 +12,10 @@ pub mod Scan
 pub mod Field
 pub mod ErrorText
 pub mod Watch
-pub mod Known
+pub mod Transfers
 pub mod Devices
 pub mod Laws
 pub mod View
 pub mod ItemSteps
-pub mod Towards
-pub mod Told
+pub mod PartlyWritten
+pub mod Outcomes

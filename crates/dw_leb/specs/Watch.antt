@@ -31,16 +31,16 @@ write_fault (Ok n) bytes = None
 write_fault (Err e) bytes = Some (error_kind e)
 
 -- the reader's fault that an answer tells
-abbrev pub told_by_read : {X : Type 0} → Result X ReadError → Option ErrorKind
-told_by_read (Err (reads.Io kind)) = Some kind
-told_by_read (Err (reads.Fault f)) = None
-told_by_read (Err reads.NoMemory) = None
-told_by_read (Ok x) = None
+abbrev pub reader_fault : {X : Type 0} → Result X ReadError → Option ErrorKind
+reader_fault (Err (reads.Io kind)) = Some kind
+reader_fault (Err (reads.Fault f)) = None
+reader_fault (Err reads.NoMemory) = None
+reader_fault (Ok x) = None
 
 -- the writer's fault that an answer tells
-abbrev pub told_by_write : {X : Type 0} → Result X WriteError → Option ErrorKind
-told_by_write (Err (writes.Io kind)) = Some kind
-told_by_write (Ok x) = None
+abbrev pub writer_fault : {X : Type 0} → Result X WriteError → Option ErrorKind
+writer_fault (Err (writes.Io kind)) = Some kind
+writer_fault (Ok x) = None
 
 -- at most n known bytes are taken
 abbrev pub ConsumesUpTo : Option (List ℕ) → Option (List ℕ) → ℕ → Type 0

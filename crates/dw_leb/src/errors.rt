@@ -124,21 +124,21 @@ impl Bad {
 
 /// The section in which a fault stands.
 #[derive(Clone, Copy, Debug, PartialEq, Eq, Hash)]
-pub enum Section {
+pub enum SectionId {
     /// `.debug_info`
     Info,
     /// `.debug_abbrev`
     Abbrev,
 }
 
-impl Section {
+impl SectionId {
     // As it stands in the text of a fault.
     fn name(self) -> &'static str
         ensures { result.now ≡ section_name self }
     {
         match self {
-            Section::Info => "info",
-            Section::Abbrev => "abbrev",
+            SectionId::Info => "info",
+            SectionId::Abbrev => "abbrev",
         }
     }
 }
@@ -147,7 +147,7 @@ impl Section {
 #[derive(Clone, Copy, Debug, PartialEq, Eq, Hash)]
 pub struct Fault {
     /// The section of the field.
-    pub section: Section,
+    pub section: SectionId,
     /// Where the field's first byte stands. In `.debug_info` it counts from the unit's first byte
     /// where one unit is read, and from the section's first byte where a section is read. In
     /// `.debug_abbrev` it counts from the section's first byte.

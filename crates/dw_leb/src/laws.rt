@@ -2,7 +2,7 @@
 ghost use Rattle.std.specs.Prelude.{◌≡◌, ℕ, List};
 ghost use Rattle.dw_leb.specs.Number.{fixed, uleb, sleb, length_field, initial_length};
 ghost use Rattle.dw_leb.specs.Laws.{NoneBegins, OneAnswer};
-ghost use Rattle.dw_leb.specs.Stay.{Stays};
+ghost use Rattle.dw_leb.specs.PartLaws.{Stays};
 ghost use Rattle.dw_leb.specs.declared.order.Order.{Order};
 
 /// One spelling: no spelling of a number begins another one of the same sort, so each number with

@@ -24,7 +24,7 @@ mod transfer;
 mod unsigned;
 mod watch;
 
-pub use errors::{Bad, Fault, ReadError, Reason, Section, WriteError};
+pub use errors::{Bad, Fault, ReadError, Reason, SectionId, WriteError};
 pub use fixed::{read_fixed, write_fixed};
 pub use initial::{read_length, write_length};
 pub use order::{Format, Order};

@@ -1,7 +1,7 @@
 //! Whole writes to watched writers.
 ghost use Rattle.std.specs.Prelude.{◌≡◌, None, OnOk};
 ghost use Rattle.std.specs.Io.KnownBytes.{Appends};
-ghost use Rattle.dw_leb.specs.Watch.{inner_of, fault_of, told_by_write, AppendsFront, Wrote};
+ghost use Rattle.dw_leb.specs.Watch.{inner_of, fault_of, writer_fault, AppendsFront, Wrote};
 
 use crate::errors::WriteError;
 use crate::watch::Watched;
@@ -21,7 +21,7 @@ pub fn write_all<W: Write>(writer: &mut Watched<W>, bytes: &[u8]) -> Result<(), 
         (W.contents (inner_of writer.new))
         bytes.now }
     ensures written { Wrote (W.contents (inner_of writer.old)) (W.contents (inner_of writer.new)) bytes.now result }
-    ensures fault { fault_of writer.new ≡ told_by_write result }
+    ensures fault { fault_of writer.new ≡ writer_fault result }
 {
     let mut at = 0;
     while at < bytes.len() {

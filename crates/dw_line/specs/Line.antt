@@ -98,9 +98,9 @@ abbrev pub refusals : List Text → Kinds
 refusals words = fault_of program words
 
 -- the parser's own reason is told, and it isn't want of memory
-abbrev pub Refuses : Kinds → LineError → Type 0
-Refuses kinds (Parse e) = IsAmong (kind_of e) kinds × (kind_of e ≢ OutOfMemory)
-Refuses kinds Memory = Unit {0}
+abbrev pub IsLineError : Kinds → LineError → Type 0
+IsLineError kinds (Parse e) = IsAmong (kind_of e) kinds × (kind_of e ≢ OutOfMemory)
+IsLineError kinds Memory = Unit {0}
 
 -- a parser's error as one of a line
 abbrev pub Converts : Error → LineError → Type 0

@@ -6,7 +6,7 @@ ghost use Rattle.clap.specs.declared.builder.command.Command.TheViews.{out-Comma
 ghost use Rattle.clap.specs.declared.error.kind.ErrorKind.TheVariants.{ValueValidation};
 ghost use Rattle.std.specs.declared.io.ErrorKind.TheVariants.{OutOfMemory};
 ghost use Rattle.dw_line.specs.declared.outcome.LineError.TheVariants.{Memory};
-ghost use Rattle.dw_line.specs.Line.{IsMistake, IsName, Meets, Refuses, Says, SaysBy, big_flag, name_of, order_by, path_option, program, refusals, subcommand};
+ghost use Rattle.dw_line.specs.Line.{IsMistake, IsName, Meets, IsLineError, Says, SaysBy, big_flag, name_of, order_by, path_option, program, refusals, subcommand};
 
 use crate::outcome::{Line, LineError};
 use clap::error::ErrorKind;
@@ -25,7 +25,7 @@ use std::io;
 pub fn line<'a>(alloc: Global, words: &'a [&'a str]) -> Result<Line<'a>, LineError>
     ensures says { IfOk result (Says (map (λ word. word.now) words.entry.now)) }
     ensures taken { IfOk result (λ _. refusals (map (λ word. word.now) words.entry.now) ≡ []) }
-    ensures refused { IfErr result (Refuses (refusals (map (λ word. word.now) words.entry.now))) }
+    ensures refused { IfErr result (IsLineError (refusals (map (λ word. word.now) words.entry.now))) }
 {
     let matches = matches_of(alloc, words)?;
     Ok(read(&matches))
@@ -65,7 +65,7 @@ fn matches_of<'a>(alloc: Global, words: &'a [&'a str]) -> Result<ArgMatches<'a>,
     ensures exact { IfOk result (λ m.
         subcommand_rows_of m ≡ subcommand_of program (map (λ word. word.now) words.entry.now)) }
     ensures taken { IfOk result (λ _. refusals (map (λ word. word.now) words.entry.now) ≡ []) }
-    ensures refused { IfErr result (Refuses (refusals (map (λ word. word.now) words.entry.now))) }
+    ensures refused { IfErr result (IsLineError (refusals (map (λ word. word.now) words.entry.now))) }
 {
     let program = parser(alloc)?;
     Ok(program.try_get_matches_from(words)?)

@@ -4,7 +4,7 @@ ghost use Rattle.dw_leb.specs.Number.{FitsLength};
 
 use dw_header::laws::{one_outcome, one_spelling, outcomes_are_stable};
 use dw_header::{Header, Kind, read_header, write_header};
-use dw_leb::{Fault, Format, Order, Reason, Section, Watched, WriteError};
+use dw_leb::{Fault, Format, Order, Reason, SectionId, Watched, WriteError};
 use std::alloc::Global;
 use std::test::Fail;
 
@@ -94,7 +94,7 @@ fn refused(bytes: &[u8]) -> Option<(u64, Reason)> {
     match read_header(Order::Little, bytes) {
         Err(
             Fault {
-                section: Section::Info,
+                section: SectionId::Info,
                 offset,
                 reason,
             },

@@ -5,7 +5,7 @@ ghost use Rattle.dw_leb.specs.Watch.{fault_of};
 
 use crate::common::same;
 use dw_leb::devices::Stepped;
-use dw_leb::{Fault, ReadError, Reason, Section, Watched, WriteError, write_all};
+use dw_leb::{Fault, ReadError, Reason, SectionId, Watched, WriteError, write_all};
 use std::alloc::Global;
 use std::io::{ErrorKind, Read, Write};
 use std::process::Abort;
@@ -14,7 +14,7 @@ use std::test::Fail;
 /// The fault of an input that ends too early.
 fn truncated() -> ReadError {
     ReadError::Fault(Fault {
-        section: Section::Info,
+        section: SectionId::Info,
         offset: 0,
         reason: Reason::Truncated,
     })

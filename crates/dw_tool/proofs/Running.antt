@@ -15,7 +15,7 @@ use Rattle.dw_tool.specs.declared.status.Status.{Status}
 use Rattle.dw_tool.specs.declared.status.Status.TheVariants.{Good}
 use Rattle.dw_tool.specs.declared.status.ToolError.{ToolError}
 use Rattle.dw_tool.specs.declared.status.ToolError.TheVariants as tool
-use Rattle.dw_tool.specs.Run.{IsSection, KeptSome, ReadsWhole, Runs, Writes, output, section_bytes}
+use Rattle.dw_tool.specs.Run.{IsSection, TookBytes, ReadsWhole, Runs, Writes, output, section_bytes}
 
 no_rest : (xs ys : List ℕ) → length (xs ++ ys) ≡ length xs → ys ≡ []
 no_rest xs [] e = refl
@@ -70,7 +70,7 @@ some_bytes a order bytes u h =
     omega (arith, positive u.header.format, sized, length-append field body, ap length h.front.split, length-append (bytes_of u) h.front.rest)
 
 pub run_kept : (order : Order) (a : List ℕ) (left left' : Option (List ℕ)) (bytes slice : List ℕ) (section : Option WholeUnit) → slice ≡ bytes
-    → ReadsWhole left left' bytes → IsSection a order slice section → (e : ToolError) → (IsErrOf {T = Unit {0}} (Err e) tool.Memory → IsSome section) → KeptSome {X = Status} left left' (Err e)
+    → ReadsWhole left left' bytes → IsSection a order slice section → (e : ToolError) → (IsErrOf {T = Unit {0}} (Err e) tool.Memory → IsSome section) → TookBytes {X = Status} left left' (Err e)
 run_kept order a left left' bytes slice None same whole found tool.Memory some = absurd (true≢false (sym (some refl)))
 run_kept order a left left' bytes slice (Some u) same whole found tool.Memory some =
     (bytes, subst (λ (b : List ℕ). 0 < length b) same (some_bytes a order slice u found), whole.0)

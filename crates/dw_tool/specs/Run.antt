@@ -4,7 +4,7 @@ use Rattle.std.specs.Io.KnownBytes.{Appends, Consumes, IsAtEnd, Keeps}
 use Rattle.dw_leb.specs.declared.order.Order.{Order}
 use Rattle.dw_leb.specs.declared.errors.Fault.{Fault}
 use Rattle.dw_leb.specs.declared.errors.Reason.TheVariants.{NotYet}
-use Rattle.dw_leb.specs.declared.errors.Section.TheVariants.{Info}
+use Rattle.dw_leb.specs.declared.errors.SectionId.TheVariants.{Info}
 use Rattle.dw_leb.specs.Watch.{AppendsFront}
 use Rattle.dw_unit.specs.Unit.{WholeUnit, bytes_of, UnitAt, Fails}
 use Rattle.dw_tool.specs.declared.command.Command.{Command}
@@ -37,12 +37,12 @@ abbrev pub IsFirstFault : List ℕ → Order → List ℕ → Fault → Type 0
 IsFirstFault abbreviations order bytes f = Fails order abbreviations bytes f.section f.offset f.reason ⊎ GoesOn abbreviations order bytes f
 
 -- An error of reading a section whose bytes are there. Of an empty section there is none.
-abbrev pub Tells : List ℕ → Order → List ℕ → ToolError → Type 0
-Tells abbreviations order bytes (tool.Fault f) = (0 < length bytes) × IsFirstFault abbreviations order bytes f
-Tells abbreviations order bytes tool.Memory = 0 < length bytes
-Tells abbreviations order bytes (tool.Refused r) = ⊥
-Tells abbreviations order bytes (tool.Read kind) = ⊥
-Tells abbreviations order bytes (tool.Write kind) = ⊥
+abbrev pub IsRunError : List ℕ → Order → List ℕ → ToolError → Type 0
+IsRunError abbreviations order bytes (tool.Fault f) = (0 < length bytes) × IsFirstFault abbreviations order bytes f
+IsRunError abbreviations order bytes tool.Memory = 0 < length bytes
+IsRunError abbreviations order bytes (tool.Refused r) = ⊥
+IsRunError abbreviations order bytes (tool.Read kind) = ⊥
+IsRunError abbreviations order bytes (tool.Write kind) = ⊥
 
 -- ---- what is written
 
@@ -83,10 +83,10 @@ Runs command order abbreviations left left' held held' (Err (tool.Read kind)) = 
 Runs command order abbreviations left left' held held' (Err tool.Memory) = ((bytes : List ℕ) × Consumes left left' bytes) × Keeps held held'
 
 -- At Memory there was something to keep: of known bytes at least one was read.
-abbrev pub KeptSome : {X : Type 0} → Option (List ℕ) → Option (List ℕ) → Result X ToolError → Type 0
-KeptSome left left' (Ok x) = ⊤
-KeptSome left left' (Err (tool.Fault f)) = ⊤
-KeptSome left left' (Err (tool.Refused r)) = ⊤
-KeptSome left left' (Err (tool.Read kind)) = ⊤
-KeptSome left left' (Err (tool.Write kind)) = ⊤
-KeptSome left left' (Err tool.Memory) = (bytes : List ℕ) × (0 < length bytes) × Consumes left left' bytes
+abbrev pub TookBytes : {X : Type 0} → Option (List ℕ) → Option (List ℕ) → Result X ToolError → Type 0
+TookBytes left left' (Ok x) = ⊤
+TookBytes left left' (Err (tool.Fault f)) = ⊤
+TookBytes left left' (Err (tool.Refused r)) = ⊤
+TookBytes left left' (Err (tool.Read kind)) = ⊤
+TookBytes left left' (Err (tool.Write kind)) = ⊤
+TookBytes left left' (Err tool.Memory) = (bytes : List ℕ) × (0 < length bytes) × Consumes left left' bytes

@@ -23,19 +23,19 @@ abbrev pub refused_write : WriteError → ToolError
 refused_write (writes.Io kind) = tool.Write kind
 
 -- the reader's fault that a run tells
-abbrev pub told_by_reading : {X : Type 0} → Result X ToolError → Option ErrorKind
-told_by_reading (Ok x) = None
-told_by_reading (Err (tool.Read kind)) = Some kind
-told_by_reading (Err (tool.Fault f)) = None
-told_by_reading (Err (tool.Refused r)) = None
-told_by_reading (Err (tool.Write kind)) = None
-told_by_reading (Err tool.Memory) = None
+abbrev pub run_reader_fault : {X : Type 0} → Result X ToolError → Option ErrorKind
+run_reader_fault (Ok x) = None
+run_reader_fault (Err (tool.Read kind)) = Some kind
+run_reader_fault (Err (tool.Fault f)) = None
+run_reader_fault (Err (tool.Refused r)) = None
+run_reader_fault (Err (tool.Write kind)) = None
+run_reader_fault (Err tool.Memory) = None
 
 -- the writer's fault that a run tells
-abbrev pub told_by_writing : {X : Type 0} → Result X ToolError → Option ErrorKind
-told_by_writing (Ok x) = None
-told_by_writing (Err (tool.Write kind)) = Some kind
-told_by_writing (Err (tool.Fault f)) = None
-told_by_writing (Err (tool.Refused r)) = None
-told_by_writing (Err (tool.Read kind)) = None
-told_by_writing (Err tool.Memory) = None
+abbrev pub run_writer_fault : {X : Type 0} → Result X ToolError → Option ErrorKind
+run_writer_fault (Ok x) = None
+run_writer_fault (Err (tool.Write kind)) = Some kind
+run_writer_fault (Err (tool.Fault f)) = None
+run_writer_fault (Err (tool.Refused r)) = None
+run_writer_fault (Err (tool.Read kind)) = None
+run_writer_fault (Err tool.Memory) = None

@@ -1,6 +1,6 @@
 //! The input of a run, read whole.
 ghost use Rattle.std.specs.Prelude.{◌≡◌, None, vec_items};
-ghost use Rattle.dw_leb.specs.Watch.{inner_of, fault_of, told_by_read, KeptSome};
+ghost use Rattle.dw_leb.specs.Watch.{inner_of, fault_of, reader_fault, TookBytes};
 ghost use Rattle.dw_tool.specs.Input.{ReadsAll};
 
 use dw_leb::{ReadError, Watched};
@@ -17,8 +17,8 @@ pub(crate) fn read_all<R: Read>(alloc: Global, reader: &mut Watched<R>) -> Resul
         (R.remaining (inner_of reader.old))
         (R.remaining (inner_of reader.new))
         result }
-    ensures memory { KeptSome (R.remaining (inner_of reader.old)) (R.remaining (inner_of reader.new)) result }
-    ensures fault { fault_of reader.new ≡ told_by_read result }
+    ensures memory { TookBytes (R.remaining (inner_of reader.old)) (R.remaining (inner_of reader.new)) result }
+    ensures fault { fault_of reader.new ≡ reader_fault result }
 {
     let mut bytes = Vec::new(alloc);
     let mut chunk = [0u8; 4096];

@@ -2,9 +2,9 @@
 ghost use Rattle.std.specs.Prelude.{◌≡◌, None, Some, IfOk, IfErr, IsErrOf, IsSome};
 ghost use Rattle.dw_leb.specs.Watch.{inner_of, fault_of};
 ghost use Rattle.dw_unit.specs.Unit.{bytes_of};
-ghost use Rattle.dw_tool.specs.Run.{IsSection, KeptSome, Runs, Tells, Writes, output, section_bytes};
+ghost use Rattle.dw_tool.specs.Run.{IsSection, TookBytes, Runs, IsRunError, Writes, output, section_bytes};
 ghost use Rattle.dw_tool.specs.Show.{unit_text};
-ghost use Rattle.dw_tool.specs.Status.{told_by_reading, told_by_writing};
+ghost use Rattle.dw_tool.specs.Status.{run_reader_fault, run_writer_fault};
 ghost use Rattle.dw_tool.specs.declared.status.ToolError.TheVariants as tool;
 
 use crate::command::Command;
@@ -12,7 +12,7 @@ use crate::input::read_all;
 use crate::show::push_unit;
 use crate::status::{Status, ToolError};
 use dw_abbrev::Tables;
-use dw_leb::{Fault, Order, Reason, Section, Watched, write_all};
+use dw_leb::{Fault, Order, Reason, SectionId, Watched, write_all};
 use dw_unit::{Unit, read_unit, write_unit};
 use std::alloc::Global;
 use std::io::{Read, Write};
@@ -49,12 +49,12 @@ pub fn run<R: Read, W: Write>(
         (W.contents (inner_of writer.old))
         (W.contents (inner_of writer.new))
         result }
-    ensures memory { KeptSome
+    ensures memory { TookBytes
         (R.remaining (inner_of inputs.entry.info.now))
         (R.remaining (inner_of inputs.exit.1.0.now))
         result }
-    ensures read { fault_of inputs.exit.1.0.now ≡ told_by_reading result }
-    ensures write { fault_of writer.new ≡ told_by_writing result }
+    ensures read { fault_of inputs.exit.1.0.now ≡ run_reader_fault result }
+    ensures write { fault_of writer.new ≡ run_writer_fault result }
 {
     let Inputs {
         order,
@@ -78,7 +78,7 @@ pub fn read_section(
     info: &[u8],
 ) -> Result<Option<Unit>, ToolError>
     ensures found { IfOk result (IsSection abbreviations.now order info.now) }
-    ensures broken { IfErr result (Tells abbreviations.now order info.now) }
+    ensures broken { IfErr result (IsRunError abbreviations.now order info.now) }
 {
     if info.is_empty() {
         return Ok(None);
@@ -87,7 +87,7 @@ pub fn read_section(
     let (unit, size) = read_unit(alloc, order, &mut tables, info)?;
     if size < info.len() {
         return Err(ToolError::Fault(Fault {
-            section: Section::Info,
+            section: SectionId::Info,
             offset: size as u64,
             reason: Reason::NotYet,
         }));
@@ -105,7 +105,7 @@ fn write_section<W: Write>(
     requires { fault_of writer.old ≡ None }
     ensures written { Writes (W.contents (inner_of writer.old)) (W.contents (inner_of writer.new)) (output command (section_bytes section.now) section.now) result }
     ensures memory { IsErrOf result tool.Memory → IsSome section.now }
-    ensures fault { fault_of writer.new ≡ told_by_writing result }
+    ensures fault { fault_of writer.new ≡ run_writer_fault result }
 {
     match section {
         Some(unit) => write_one(alloc, command, unit, writer),
@@ -121,7 +121,7 @@ fn write_one<W: Write>(
 ) -> Result<(), ToolError>
     requires { fault_of writer.old ≡ None }
     ensures written { Writes (W.contents (inner_of writer.old)) (W.contents (inner_of writer.new)) (output command (bytes_of unit.now) (Some unit.now)) result }
-    ensures fault { fault_of writer.new ≡ told_by_writing result }
+    ensures fault { fault_of writer.new ≡ run_writer_fault result }
 {
     match command {
         Command::Show => show(alloc, unit, writer),
@@ -132,7 +132,7 @@ fn write_one<W: Write>(
 fn show<W: Write>(alloc: Global, unit: &Unit, writer: &mut Watched<W>) -> Result<(), ToolError>
     requires { fault_of writer.old ≡ None }
     ensures written { Writes (W.contents (inner_of writer.old)) (W.contents (inner_of writer.new)) (unit_text unit.now) result }
-    ensures fault { fault_of writer.new ≡ told_by_writing result }
+    ensures fault { fault_of writer.new ≡ run_writer_fault result }
 {
     let mut text = Vec::new(alloc);
     push_unit(&mut text, unit)?;

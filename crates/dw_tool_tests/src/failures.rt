@@ -1,5 +1,5 @@
 //! How the program ends: its statuses, and each line on standard error.
-use dw_leb::{Fault, Reason, Section};
+use dw_leb::{Fault, Reason, SectionId};
 use dw_line::line::{line, unreadable};
 use dw_line::outcome::LineError;
 use dw_tool::failure::{Failure, exit_status};
@@ -9,7 +9,7 @@ use std::io;
 use std::io::ErrorKind;
 use std::test::Fail;
 
-fn fault(section: Section, offset: u64, reason: Reason) -> Fault {
+fn fault(section: SectionId, offset: u64, reason: Reason) -> Fault {
     Fault {
         section,
         offset,
@@ -19,8 +19,8 @@ fn fault(section: Section, offset: u64, reason: Reason) -> Fault {
 
 #[test]
 fn lines_and_statuses(rt: HostRuntime) -> Result<(), Fail> {
-    let in_entries = fault(Section::Info, 0x11, Reason::Truncated);
-    let in_table = fault(Section::Abbrev, 0x1f2, Reason::DuplicateCode);
+    let in_entries = fault(SectionId::Info, 0x11, Reason::Truncated);
+    let in_table = fault(SectionId::Abbrev, 0x1f2, Reason::DuplicateCode);
     for (failure, line, status) in [
         (Failure::Fault(in_entries), "fault info 0x11 Truncated", 1),
         (
@@ -52,7 +52,7 @@ fn a_device_that_wants_memory_has_not_failed(rt: HostRuntime) {
 
 #[test]
 fn failures_of_runs(rt: HostRuntime) {
-    let cut = fault(Section::Info, 13, Reason::Truncated);
+    let cut = fault(SectionId::Info, 13, Reason::Truncated);
     for (error, failure) in [
         (ToolError::Fault(cut), Failure::Fault(cut)),
         (

@@ -1,6 +1,6 @@
 //! What runs write, where all is well, where the sections are refused, and where a device fails.
 use dw_leb::devices::Stepped;
-use dw_leb::{Fault, Order, Reason, Section, Watched};
+use dw_leb::{Fault, Order, Reason, SectionId, Watched};
 use dw_tool::command::Command;
 use dw_tool::run::{Inputs, run};
 use dw_tool::status::{Refused, Status, ToolError};
@@ -51,7 +51,7 @@ fn runs_over(
 
 fn refused(offset: u64, reason: Reason) -> Result<Status, ToolError> {
     Err(ToolError::Fault(Fault {
-        section: Section::Info,
+        section: SectionId::Info,
         offset,
         reason,
     }))
@@ -273,7 +273,7 @@ fn tells_devices_that_fail(rt: HostRuntime) {
 #[test]
 fn printed_errors(rt: HostRuntime) -> Result<(), Fail> {
     let fault = Fault {
-        section: Section::Abbrev,
+        section: SectionId::Abbrev,
         offset: 13,
         reason: Reason::Truncated,
     };

@@ -5,7 +5,7 @@ use Rattle.std.specs.Prelude.{◌==◌}
 use Rattle.dw_tree.specs.Tree.{Forest, none, more}
 use Rattle.dw_tree.specs.Row.{Token}
 use Rattle.dw_tree.specs.Place.{Frame, spot_after, rows_before}
-use Rattle.dw_tree.specs.Standing.{is_bare, is_bare_in}
+use Rattle.dw_tree.specs.Emptiness.{is_bare, is_bare_in}
 
 pub bare_when : (xs : List Token) → xs ≡ rows_before (spot_after xs).above (spot_after xs).left → (length xs == 0) ≡ is_bare (spot_after xs)
 bare_when [] e = refl

@@ -8,7 +8,7 @@ use Rattle.dw_tree.specs.declared.row.Row.{Row}
 use Rattle.dw_tree.specs.Tree.{Tree, leaf, branch, Forest, none, more}
 use Rattle.dw_tree.specs.Spelling.{entry_bytes, tree_bytes, forest_bytes}
 use Rattle.dw_tree.specs.Row.{Token, leaf_row, branch_row, null_row, rows_of, all_rows, row_bytes, rows_bytes}
-use Rattle.dw_tree.specs.Sound.{Stand, TokenFits, LevelFits, level_after, levels_after}
+use Rattle.dw_tree.specs.DraftInvariant.{Stand, TokenFits, LevelFits, level_after, levels_after}
 use Rattle.dw_tree.proofs.Fits.{tree_level}
 
 module _ (k : Ctx) (t : Table) where

@@ -5,14 +5,14 @@ use Rattle.std.specs.List.{AllByRecursion}
 use Rattle.dw_form.specs.declared.stored.Stored.{Stored}
 use Rattle.dw_abbrev.specs.Table.{Table}
 use Rattle.dw_tree.specs.declared.row.Row.{Row}
-use Rattle.dw_tree.specs.declared.row.Kind.{Kind}
-use Rattle.dw_tree.specs.declared.row.Kind.TheVariants.{Null}
-use Rattle.dw_tree.specs.declared.row.Reading.{Reading}
+use Rattle.dw_tree.specs.declared.row.RowKind.{RowKind}
+use Rattle.dw_tree.specs.declared.row.RowKind.TheVariants.{Null}
+use Rattle.dw_tree.specs.declared.row.Unfinished.{Unfinished}
 use Rattle.dw_tree.specs.Row.{Token, null_row}
 use Rattle.dw_tree.specs.Place.{spot_after, leave}
 use Rattle.dw_leb.specs.View.{uleb_of}
 use Rattle.dw_tree.specs.Flat.{token_of, kind_token, values_of, value_count, tokens, RowFits, IsEntry}
-use Rattle.dw_tree.specs.Sound.{IsSpelled, IsSound}
+use Rattle.dw_tree.specs.DraftInvariant.{IsSpelled, IsSound}
 use Rattle.dw_tree.proofs.Grows.{all_append}
 use Rattle.dw_tree.proofs.Spells.{after-push, spells_null, open_inside}
 use Rattle.dw_tree.proofs.Settles.{tokens-push}
@@ -35,7 +35,7 @@ module _ (t : Table) (rows rows' : List Row) (values : List Stored) (pool open_a
     (eo : open_at ≡ open_at' ++ at ∷ []) (er : rows' ≡ set rows at q ++ r ∷ []) (ek : r.kind ≡ Null)
     (eq : token_of t values pool q ≡ token_of t values pool (get_or rows at d)) (fit : (n : ℕ) → RowFits t n (get_or rows at d) → RowFits t n q) (s : IsSound t rows values pool open_at None) where
   null_token : token_of t values pool r ≡ null_row r.code.width
-  null_token = ap (λ (k : Kind). kind_token k (uleb_of r.code) (values_of values pool r.first (value_count t r.code.value))) ek
+  null_token = ap (λ (k : RowKind). kind_token k (uleb_of r.code) (values_of values pool r.first (value_count t r.code.value))) ek
 
   no_entry : IsEntry r.kind → ⊥
   no_entry h = subst IsEntry ek h
@@ -59,5 +59,5 @@ module _ (t : Table) (rows rows' : List Row) (values : List Stored) (pool open_a
     can_undo = tt;
   }
 
-pub closes_inside : (t : Table) (rows : List Row) (values : List Stored) (pool open_at open_at' : List ℕ) (o : Option Reading) (at : ℕ) → open_at ≡ open_at' ++ at ∷ [] → IsSound t rows values pool open_at o → at < length rows
+pub closes_inside : (t : Table) (rows : List Row) (values : List Stored) (pool open_at open_at' : List ℕ) (o : Option Unfinished) (at : ℕ) → open_at ≡ open_at' ++ at ∷ [] → IsSound t rows values pool open_at o → at < length rows
 closes_inside t rows values pool open_at open_at' o at eo s = open_inside rows (tokens t rows values pool) open_at' at (subst (IsSpelled rows (tokens t rows values pool)) eo s.is_spelled)

@@ -6,15 +6,15 @@ use Rattle.dw_form.specs.Form.{Attribute}
 use Rattle.dw_abbrev.specs.Table.{declared}
 use Rattle.dw_tree.specs.declared.tree.EntryTree.TheInside.{Inside}
 use Rattle.dw_tree.specs.declared.row.Row.{Row}
-use Rattle.dw_tree.specs.declared.row.Kind.{Kind}
-use Rattle.dw_tree.specs.declared.row.Kind.TheVariants.{Leaf, Branch, Null}
+use Rattle.dw_tree.specs.declared.row.RowKind.{RowKind}
+use Rattle.dw_tree.specs.declared.row.RowKind.TheVariants.{Leaf, Branch, Null}
 use Rattle.dw_tree.specs.Tree.{Tree}
 use Rattle.dw_tree.specs.Spelling.{tree_bytes}
 use Rattle.dw_tree.specs.Row.{Token, rows_of, rows_bytes, head_of}
 use Rattle.dw_tree.specs.Steps.{TreeAt}
 use Rattle.dw_tree.specs.TreeView.{tree_at, tokens_in, IsTree}
 use Rattle.dw_tree.specs.Flat.{value_count, values_of, IsEntry, IsNull}
-use Rattle.dw_tree.specs.Sound.{EntryFits, Stand}
+use Rattle.dw_tree.specs.DraftInvariant.{EntryFits, Stand}
 use Rattle.dw_tree.specs.Lent.{StandsAt, chain_at, chain_from, children_of, code_of, values_in, own_bytes, offset_of_row, level_of_row, entry_at_row, entries_from}
 use Rattle.std.proofs.Common.{take-append-drop, ◌-◌, ap₂, map}
 use Rattle.std.proofs.lemmas.List.{length-map}
@@ -24,7 +24,7 @@ use Rattle.dw_form.specs.declared.stored.Stored.{Stored}
 use Rattle.dw_abbrev.specs.declared.pair.Pair.{Pair as RustPair}
 use Rattle.dw_abbrev.specs.PairView.{pair_of}
 use Rattle.dw_abbrev.specs.Table.{Pair, Declaration, Table}
-use Rattle.dw_tree.specs.Tree.{values, pairs_of}
+use Rattle.dw_tree.specs.Tree.{values, declared_pairs}
 use Rattle.dw_tree.specs.Flat.{contents}
 use Rattle.dw_tree.specs.Lent.{AreLent, lent_attributes, attributes_of}
 use Rattle.dw_tree.proofs.Grows.{all_take, all_drop}
@@ -189,13 +189,13 @@ module _ (a : Inside) (i : IsTree a) (at : ℕ) (r : Row) (q : EntryRow (tree_at
   stored = take (length ps) (drop r.first a.values.items)
 
   count : length ps ≡ value_count a.table.value r.code.value
-  count = sym (length-map ps pair_of) ∙ (ap length pairs ∙ ap (λ (o : Option Declaration). length (pairs_of o)) (sym known))
+  count = sym (length-map ps pair_of) ∙ (ap length pairs ∙ ap (λ (o : Option Declaration). length (declared_pairs o)) (sym known))
 
   pub span_is : r.first + length ps ≤ length a.values.items
   span_is = omega (arith, count, q.span)
 
-  pairs_are : map pair_of ps ≡ pairs_of (declared a.table.value (code_of node).value)
-  pairs_are = pairs ∙ (ap pairs_of (sym known) ∙ ap (λ (c : Unsigned). pairs_of (declared a.table.value c.value)) q.code)
+  pairs_are : map pair_of ps ≡ declared_pairs (declared a.table.value (code_of node).value)
+  pairs_are = pairs ∙ (ap declared_pairs (sym known) ∙ ap (λ (c : Unsigned). declared_pairs (declared a.table.value c.value)) q.code)
 
   values_are_in : contents stored a.pool.items ≡ values_in node
   values_are_in =
@@ -212,7 +212,7 @@ module _ (a : Inside) (i : IsTree a) (at : ℕ) (r : Row) (q : EntryRow (tree_at
     room =
         let one = ap (λ (vs : List Attribute). length ((values a.context (map pair_of ps)).spell vs)) values_are_in in
         let two = ap (λ (xs : List Pair). length ((values a.context xs).spell (values_in node))) pairs_are in
-        omega (arith, one, two, at_value, q.own_end, q.near, length-uleb (code_of node), length-append (uleb.spell (code_of node)) ((values a.context (pairs_of (declared a.table.value (code_of node).value))).spell (values_in node)));
+        omega (arith, one, two, at_value, q.own_end, q.near, length-uleb (code_of node), length-append (uleb.spell (code_of node)) ((values a.context (declared_pairs (declared a.table.value (code_of node).value))).spell (values_in node)));
   }
 
   pub lent_are : lent_attributes a.context (r.offset + r.code.width) (map pair_of ps) (contents stored a.pool.items) ≡ attributes_of (entry_at_row (tree_at a) at)
@@ -227,7 +227,7 @@ not_missing t code r e s n = absurd_none (subst (λ (c : Unsigned). IsSome (decl
     absurd_none : {o : Option Declaration} → IsSome o → o ≡ None → ⊥
     absurd_none s n = cc
 
-pub some_entry : (k : Kind) → (k ≡ Null → ⊥) → IsEntry k
+pub some_entry : (k : RowKind) → (k ≡ Null → ⊥) → IsEntry k
 some_entry Leaf n = tt
 some_entry Branch n = tt
 some_entry Null n = n refl

@@ -9,14 +9,14 @@ use Rattle.dw_form.specs.Form.{Attribute}
 use Rattle.dw_abbrev.specs.Table.{Table, declared, zero_of}
 use Rattle.dw_tree.specs.declared.tree.EntryTree.TheInside.{Inside}
 use Rattle.dw_tree.specs.declared.row.Row.{Row}
-use Rattle.dw_tree.specs.declared.row.Kind.{Kind}
-use Rattle.dw_tree.specs.declared.row.Kind.TheVariants.{Leaf, Branch, Null}
-use Rattle.dw_tree.specs.Tree.{values, pairs_of}
+use Rattle.dw_tree.specs.declared.row.RowKind.{RowKind}
+use Rattle.dw_tree.specs.declared.row.RowKind.TheVariants.{Leaf, Branch, Null}
+use Rattle.dw_tree.specs.Tree.{values, declared_pairs}
 use Rattle.dw_tree.specs.Row.{Token, leaf_row, branch_row, null_row, row_bytes}
 use Rattle.dw_tree.specs.Steps.{TreeAt}
 use Rattle.dw_tree.specs.TreeView.{tree_at, tokens_in, IsTree}
 use Rattle.dw_tree.specs.Flat.{IsEntry, IsNull}
-use Rattle.dw_tree.specs.Sound.{Stand, TokenFits, level_after}
+use Rattle.dw_tree.specs.DraftInvariant.{Stand, TokenFits, level_after}
 use Rattle.dw_tree.specs.Lent.{EntryAt, find_at, entries_of, entries_from, entry_at_row}
 use Rattle.dw_tree.proofs.EntryRows.{Stands, chain_row, next_of, skips, none_left, row_offset}
 use Rattle.dw_tree.proofs.AllEntries.{all_entries}
@@ -31,7 +31,7 @@ same_default (x ∷ xs) (suc i) d e h = same_default xs i d e (omega (arith, h))
 
 module _ (k : Ctx) (t : Table) where
   entry_some : (code : Unsigned) (vs : List Attribute) → uleb.Fits code → 0 < length (row_bytes k t (leaf_row code vs))
-  entry_some code vs fits = omega (arith, uleb_some code fits, length-append (uleb.spell code) ((values k (pairs_of (declared t code.value))).spell vs))
+  entry_some code vs fits = omega (arith, uleb_some code fits, length-append (uleb.spell code) ((values k (declared_pairs (declared t code.value))).spell vs))
 
   row_some : (x : Token) → TokenFits k t x → 0 < length (row_bytes k t x)
   row_some (leaf_row code vs) fits = entry_some code vs fits.0.code_fits
@@ -84,7 +84,7 @@ module _ (a : Inside) (i : IsTree a) (v : TreeAt) (e : tree_at a ≡ v) where
     row_passes : (n : ℕ) (d : Row) → n < length rows → Passes n d → find_at o (entries_from v n) ≡ find_at o (entries_from v (suc n))
     row_passes n d l p = by (get_or rows n d).kind refl
       where
-        by : (k : Kind) → (get_or rows n d).kind ≡ k → find_at o (entries_from v n) ≡ find_at o (entries_from v (suc n))
+        by : (k : RowKind) → (get_or rows n d).kind ≡ k → find_at o (entries_from v n) ≡ find_at o (entries_from v (suc n))
         by Leaf is = entry_passes n d l (subst IsEntry (sym is) tt) p
         by Branch is = entry_passes n d l (subst IsEntry (sym is) tt) p
         by Null is =
@@ -119,7 +119,7 @@ module _ (a : Inside) (i : IsTree a) (v : TreeAt) (e : tree_at a ≡ v) where
       pub null_row_there : IsNull (get_or rows n d).kind → find_at o (entries_of v) ≡ None
       null_row_there is = all_pass d (λ j m en same. others j m en same)
         where
-          not_both : (k : Kind) → IsNull k → IsEntry k → ⊥
+          not_both : (k : RowKind) → IsNull k → IsEntry k → ⊥
           not_both Leaf x y = x
           not_both Branch x y = x
           not_both Null x y = y

@@ -7,9 +7,9 @@ use Rattle.dw_leb.specs.Repeat.{ItemsFit}
 use Rattle.dw_form.specs.declared.shape.Ctx.{Ctx}
 use Rattle.dw_abbrev.specs.Table.{Declaration, Table, declared, is_null, zero_of}
 use Rattle.dw_tree.specs.declared.row.Row.{Row}
-use Rattle.dw_tree.specs.Tree.{Tree, leaf, branch, Forest, none, more, Body, node_of, nodes_of, children_of, unless_declared, unknown, bad_root, bad_child, body, children, tree, nesting}
+use Rattle.dw_tree.specs.Tree.{Tree, leaf, branch, Forest, none, more, Body, node_of, nodes_of, declares_children, unless_declared, unknown, bad_root, bad_child, body, children, tree, nesting}
 use Rattle.dw_tree.specs.Row.{Token, null_row, rows_of, all_rows, row_bytes}
-use Rattle.dw_tree.specs.Sound.{EntryFits, TokenFits, LevelFits, level_after, levels_after, shallower, Stand}
+use Rattle.dw_tree.specs.DraftInvariant.{EntryFits, TokenFits, LevelFits, level_after, levels_after, shallower, Stand}
 
 -- ---- rows that have spellings, whatever their place
 
@@ -59,10 +59,10 @@ module _ (k : Ctx) (t : Table) where
   abbrev NodeFits : ℕ → Tree → Type 0
   NodeFits room x = uleb.Fits (node_of x).0 × (is_null (node_of x).0 ≡ false) × (unknown t (node_of x).0.value ≡ None) × (body k t (children k t room) (node_of x).0).Fits (node_of x).1
 
-  no_kids : (code : Unsigned) (kids : Part (Forest × Unsigned)) → children_of (declared t code.value) ≡ false → (optional (children_of (declared t code.value)) kids).Fits None
+  no_kids : (code : Unsigned) (kids : Part (Forest × Unsigned)) → declares_children (declared t code.value) ≡ false → (optional (declares_children (declared t code.value)) kids).Fits None
   no_kids code kids e = subst (λ (b : Bool). (optional b kids).Fits None) (sym e) tt
 
-  some_kids : (code : Unsigned) (kids : Part (Forest × Unsigned)) (x : Forest × Unsigned) → children_of (declared t code.value) ≡ true → kids.Fits x → (optional (children_of (declared t code.value)) kids).Fits (Some x)
+  some_kids : (code : Unsigned) (kids : Part (Forest × Unsigned)) (x : Forest × Unsigned) → declares_children (declared t code.value) ≡ true → kids.Fits x → (optional (declares_children (declared t code.value)) kids).Fits (Some x)
   some_kids code kids x e h = subst (λ (b : Bool). (optional b kids).Fits (Some x)) (sym e) h
 
   child_fits : (code : Unsigned) → uleb.Fits code → is_null code ≡ false → unknown t code.value ≡ None → (judged uleb (bad_child t true)).Fits code

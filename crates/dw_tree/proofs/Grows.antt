@@ -6,10 +6,10 @@ use Rattle.dw_leb.specs.Number.{Unsigned}
 use Rattle.dw_leb.specs.View.{uleb_of}
 use Rattle.dw_form.specs.declared.stored.Stored.{Stored}
 use Rattle.dw_form.specs.Form.{Attribute}
-use Rattle.dw_form.specs.Kept.{StoredFits, content_stays, stored_fits}
+use Rattle.dw_form.specs.StoredView.{StoredFits, content_stays, stored_fits}
 use Rattle.dw_abbrev.specs.Table.{Table}
-use Rattle.dw_tree.specs.declared.row.Kind.{Kind}
-use Rattle.dw_tree.specs.declared.row.Kind.TheVariants.{Leaf, Branch, Null}
+use Rattle.dw_tree.specs.declared.row.RowKind.{RowKind}
+use Rattle.dw_tree.specs.declared.row.RowKind.TheVariants.{Leaf, Branch, Null}
 use Rattle.dw_tree.specs.declared.row.Row.{Row}
 use Rattle.dw_tree.specs.Row.{Token, leaf_row, branch_row}
 use Rattle.dw_tree.specs.Flat.{contents, value_count, values_of, kind_token, tokens, RowFits, IsEntry}
@@ -49,7 +49,7 @@ values_more values more pool bytes first count h k =
     ap (λ (vs : List Stored). contents vs (pool ++ bytes)) (cut_more first count values more k)
     ∙ contents_more pool bytes (take count (drop first values)) (all_take _ count (drop first values) (all_drop _ first values h))
 
-kind_more : (k : Kind) (code : Unsigned) (vs ws : List Attribute) → (IsEntry k → vs ≡ ws) → kind_token k code vs ≡ kind_token k code ws
+kind_more : (k : RowKind) (code : Unsigned) (vs ws : List Attribute) → (IsEntry k → vs ≡ ws) → kind_token k code vs ≡ kind_token k code ws
 kind_more Leaf code vs ws h = ap (leaf_row code) (h tt)
 kind_more Branch code vs ws h = ap (branch_row code) (h tt)
 kind_more Null code vs ws h = refl

@@ -3,14 +3,14 @@ use Rattle.std.proofs.Common.{◌≡◌, ℕ, List, [], ◌∷◌, ◌++◌, len
 use Rattle.std.proofs.Math.Seq.{take-append_seam}
 use Rattle.dw_form.specs.declared.stored.Stored.{Stored}
 use Rattle.dw_form.specs.Form.{Attribute}
-use Rattle.dw_form.specs.Kept.{bytes_in, value_bytes, text_or_block}
+use Rattle.dw_form.specs.StoredView.{bytes_in, value_bytes, text_or_block}
 use Rattle.dw_abbrev.specs.Table.{Table}
 use Rattle.dw_tree.specs.declared.row.Row.{Row}
-use Rattle.dw_tree.specs.declared.row.Reading.{Reading}
+use Rattle.dw_tree.specs.declared.row.Unfinished.{Unfinished}
 use Rattle.dw_tree.specs.Row.{Token, null_row}
 use Rattle.dw_tree.specs.Flat.{contents, token_of, tokens}
-use Rattle.dw_tree.specs.Settled.{row_of, is_whole, settled_rows, settled_reading}
-use Rattle.dw_tree.specs.Held.{joined, row_values, held, Holds}
+use Rattle.dw_tree.specs.Completed.{row_of, is_whole, settled_rows, settled_unfinished}
+use Rattle.dw_tree.specs.PoolBytes.{joined, row_values, held, Holds}
 use Rattle.dw_tree.proofs.Settles.{Given, tokens-push, counted, whole_values}
 
 pub joined-push : (vs : List Attribute) (v : Attribute) → joined (vs ++ v ∷ []) ≡ joined vs ++ bytes_in v
@@ -21,12 +21,12 @@ pub held-push : (xs : List Token) (x : Token) → held (xs ++ x ∷ []) ≡ held
 held-push [] x = append-nil (joined (row_values x))
 held-push (y ∷ xs) x = ap (λ (b : List ℕ). joined (row_values y) ++ b) (held-push xs x) ∙ sym (append_assoc (joined (row_values y)) (held xs) (joined (row_values x)))
 
-pub begun_content : (width : Option ℕ) (bytes : List ℕ) → value_bytes (text_or_block width bytes) ≡ bytes
-begun_content None bytes = refl
-begun_content (Some width) bytes = refl
+pub partial_content : (width : Option ℕ) (bytes : List ℕ) → value_bytes (text_or_block width bytes) ≡ bytes
+partial_content None bytes = refl
+partial_content (Some width) bytes = refl
 
 -- an entry that may have all its values
-module _ (t : Table) (rows : List Row) (values : List Stored) (pool : List ℕ) (r : Reading) (depth : ℕ) (g : Given t rows values (length pool) r) where
+module _ (t : Table) (rows : List Row) (values : List Stored) (pool : List ℕ) (r : Unfinished) (depth : ℕ) (g : Given t rows values (length pool) r) where
   abbrev before : List Token
   before = tokens t rows values pool
 
@@ -49,7 +49,7 @@ module _ (t : Table) (rows : List Row) (values : List Stored) (pool : List ℕ) 
   }
   holds_by false e exact from = record { exact = exact; from = from }
 
-  pub holds_settled : (rows' : List Row) (o : Option Reading) (n : ℕ) → n ≡ length values → rows' ≡ settled_rows r n depth rows → o ≡ settled_reading r n → pool ≡ held before ++ joined so_far → r.pool ≡ length (held before) → Holds t rows' values pool o
+  pub holds_settled : (rows' : List Row) (o : Option Unfinished) (n : ℕ) → n ≡ length values → rows' ≡ settled_rows r n depth rows → o ≡ settled_unfinished r n → pool ≡ held before ++ joined so_far → r.pool ≡ length (held before) → Holds t rows' values pool o
   holds_settled rows' o n en er eq exact from = rw (er, eq, en) (holds_by (is_whole r (length values)) refl exact from)
 
 -- one more value, v
@@ -60,8 +60,8 @@ exact_grown xs xs' vs vs' v pool pool' ex ev ep exact =
     ∙ (ap (λ (b : List ℕ). held xs ++ b) (sym (joined-push vs v) ∙ ap joined (sym ev))
     ∙ ap (λ (ys : List Token). held ys ++ joined vs') (sym ex))))
 
--- the entry that is read is taken back
-pub holds_kept : (t : Table) (rows : List Row) (values : List Stored) (pool : List ℕ) (r : Reading) (values' : List Stored) (pool' : List ℕ) → tokens t rows values' pool' ≡ tokens t rows values pool → pool' ≡ take r.pool pool
+-- the unfinished entry is taken back
+pub holds_kept : (t : Table) (rows : List Row) (values : List Stored) (pool : List ℕ) (r : Unfinished) (values' : List Stored) (pool' : List ℕ) → tokens t rows values' pool' ≡ tokens t rows values pool → pool' ≡ take r.pool pool
     → Holds t rows values pool (Some r) → Holds t rows values' pool' None
 holds_kept t rows values pool r values' pool' same ep h = record {
   exact = ep

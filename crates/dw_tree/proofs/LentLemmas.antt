@@ -8,7 +8,7 @@ use Rattle.dw_form.specs.declared.shape.Shape.{Shape}
 use Rattle.dw_form.specs.declared.shape.Shape.TheVariants as shapes
 use Rattle.dw_form.specs.declared.stored.Stored.{Stored}
 use Rattle.dw_form.specs.Form.{Value, Implicit, Attribute, shape, shaped, shaped_if, by_indirection, attribute}
-use Rattle.dw_form.specs.Kept.{content}
+use Rattle.dw_form.specs.StoredView.{content}
 use Rattle.dw_form.specs.Pieces.{constant_in, HasSpelling, spelling}
 use Rattle.dw_abbrev.specs.PairView.{pair_of}
 use Rattle.dw_abbrev.specs.declared.pair.Pair.{Pair as RustPair}
@@ -16,10 +16,10 @@ use Rattle.dw_tree.specs.Flat.{contents}
 use Rattle.dw_tree.specs.Lent.{AreLent}
 use Rattle.dw_tree.specs.Tree.{values}
 use Rattle.std.proofs.Common.{[]}
-use Rattle.dw_form.specs.Kept.{NamesForm}
-use Rattle.dw_form.specs.Named.{spelled_names}
+use Rattle.dw_form.specs.StoredView.{NamesForm}
+use Rattle.dw_form.specs.NamedForms.{spelled_names}
 use Rattle.dw_abbrev.specs.Table.{Pair, Table}
-use Rattle.dw_tree.specs.Place.{Unread}
+use Rattle.dw_tree.specs.Place.{UnfinishedEntry}
 use Rattle.dw_tree.specs.Steps.{NextFits, FirstFits, next_pairs}
 
 -- ---- the constant of a declaration tells nothing that its value doesn't
@@ -82,7 +82,7 @@ module _ (k : Ctx) (at : ℕ) (pool : List ℕ) {all : List RustPair} (p : RustP
       record { context = here.context; inside = here.inside.1; spelled = here.spelled.1; room = omega (arith, room, both, same) }
 
 -- a value that fits as the next one names a form of the table
-pub next_names : (k : Ctx) (t : Table) (o : Option Unread) (v : Attribute) → NextFits k t o v → NamesForm v
+pub next_names : (k : Ctx) (t : Table) (o : Option UnfinishedEntry) (v : Attribute) → NextFits k t o v → NamesForm v
 next_names k t None v h = absurd h
 next_names k t (Some r) v h = by (next_pairs t r) h
   where

@@ -8,14 +8,14 @@ use Rattle.dw_form.specs.declared.stored.Stored.{Stored}
 use Rattle.dw_form.specs.Form.{Attribute}
 use Rattle.dw_abbrev.specs.Table.{Table}
 use Rattle.dw_tree.specs.declared.row.Row.{Row}
-use Rattle.dw_tree.specs.declared.row.Kind.{Kind}
-use Rattle.dw_tree.specs.declared.row.Kind.TheVariants.{Leaf, Branch, Null}
+use Rattle.dw_tree.specs.declared.row.RowKind.{RowKind}
+use Rattle.dw_tree.specs.declared.row.RowKind.TheVariants.{Leaf, Branch, Null}
 use Rattle.dw_tree.specs.Tree.{Tree, leaf, branch, Forest, none, more}
 use Rattle.dw_tree.specs.Spelling.{entry_bytes, tree_bytes}
 use Rattle.dw_tree.specs.Row.{Token, branch_row, null_row, rows_of, all_rows, row_bytes, rows_bytes, Rest, rest_of, rest-rows, rest-all, join-none, head_of}
 use Rattle.dw_tree.specs.Steps.{TreeAt}
 use Rattle.dw_tree.specs.Flat.{value_count, values_of, kind_token, token_of, tokens, IsEntry, IsNull}
-use Rattle.dw_tree.specs.Sound.{EntryFits, TokenFits, LevelFits, level_after, levels_after, Stand, EndsAt, HaveEnds}
+use Rattle.dw_tree.specs.DraftInvariant.{EntryFits, TokenFits, LevelFits, level_after, levels_after, Stand, EndsAt, HaveEnds}
 use Rattle.dw_tree.specs.Lent.{StandsAt, chain_at, chain, chain_from, children_of, below, code_of, values_in, own_bytes, offset_of_row, level_of_row, entry_at_row, entries_in, entries_from}
 use Rattle.dw_tree.proofs.Settles.{drop_length}
 use Rattle.dw_tree.proofs.Fits.{levels_append}
@@ -23,7 +23,7 @@ use Rattle.dw_tree.proofs.Bytes.{bytes_append, rows_are_tree, take_to, take_one,
 
 -- ---- the first row of an entry
 
-pub entry_head : (kind : Kind) (code : Unsigned) (vs : List Attribute) (ys : List Token) (node : Tree) (after : List Token) → kind_token kind code vs ∷ ys ≡ rows_of node ++ after → IsEntry kind × (code ≡ code_of node) × (vs ≡ values_in node)
+pub entry_head : (kind : RowKind) (code : Unsigned) (vs : List Attribute) (ys : List Token) (node : Tree) (after : List Token) → kind_token kind code vs ∷ ys ≡ rows_of node ++ after → IsEntry kind × (code ≡ code_of node) × (vs ≡ values_in node)
 entry_head Leaf code vs ys (leaf c ws) after e = (tt, cc, cc)
 entry_head Leaf code vs ys (branch c ws ts w) after e = absurd cc
 entry_head Branch code vs ys (leaf c ws) after e = absurd cc
@@ -32,7 +32,7 @@ entry_head Null code vs ys (leaf c ws) after e = absurd cc
 entry_head Null code vs ys (branch c ws ts w) after e = absurd cc
 
 -- a leaf has nothing below it, and below an entry with children stands what its rows have up to their null
-pub below_leaf : (kind : Kind) (code : Unsigned) (vs : List Attribute) (ys : List Token) (node : Tree) (after : List Token) → (kind ≡ Branch → ⊥) → kind_token kind code vs ∷ ys ≡ rows_of node ++ after → below node ≡ none
+pub below_leaf : (kind : RowKind) (code : Unsigned) (vs : List Attribute) (ys : List Token) (node : Tree) (after : List Token) → (kind ≡ Branch → ⊥) → kind_token kind code vs ∷ ys ≡ rows_of node ++ after → below node ≡ none
 below_leaf Leaf code vs ys (leaf c ws) after n e = refl
 below_leaf Leaf code vs ys (branch c ws ts w) after n e = absurd cc
 below_leaf Branch code vs ys node after n e = absurd (n refl)
@@ -46,12 +46,12 @@ below_branch (branch c ws ts w) after ys code vs e =
     ap (λ (zs : List Token). (rest_of zs).here) (tail ∙ append_assoc (all_rows ts) (null_row w ∷ []) after)
     ∙ (ap (λ (r : Rest). r.here) (rest-all ts (null_row w ∷ after)) ∙ join-none ts)
 
-fits_of : (k : Ctx) (t : Table) (kind : Kind) (code : Unsigned) (vs : List Attribute) → IsEntry kind → TokenFits k t (kind_token kind code vs) → EntryFits k t code vs
+fits_of : (k : Ctx) (t : Table) (kind : RowKind) (code : Unsigned) (vs : List Attribute) → IsEntry kind → TokenFits k t (kind_token kind code vs) → EntryFits k t code vs
 fits_of k t Leaf code vs e f = f.0
 fits_of k t Branch code vs e f = f.0
 fits_of k t Null code vs e f = absurd e
 
-level_of_entry : (kind : Kind) (code : Unsigned) (vs : List Attribute) (n : ℕ) → IsEntry kind → LevelFits (kind_token kind code vs) n → n ≤ Rattle.dw_tree.specs.Tree.nesting
+level_of_entry : (kind : RowKind) (code : Unsigned) (vs : List Attribute) (n : ℕ) → IsEntry kind → LevelFits (kind_token kind code vs) n → n ≤ Rattle.dw_tree.specs.Tree.nesting
 level_of_entry Leaf code vs n e f = f
 level_of_entry Branch code vs n e f = f
 level_of_entry Null code vs n e f = absurd e
@@ -162,7 +162,7 @@ module _ (u : TreeAt) (rows : List Row) (values : List Stored) (pool : List ℕ)
   pub null_chain : (at : ℕ) (d : Row) → at < length rows → (get_or rows at d).kind ≡ Null → chain_from u at ≡ []
   null_chain at d l e =
       let r : Row = get_or rows at d in
-      let h : drop at xs ≡ null_row r.code.width ∷ drop (suc at) xs = first_token at d l ∙ ap (λ (k : Kind). kind_token k (uleb_of r.code) (values_of values pool r.first (value_count u.table r.code.value)) ∷ drop (suc at) xs) e in
+      let h : drop at xs ≡ null_row r.code.width ∷ drop (suc at) xs = first_token at d l ∙ ap (λ (k : RowKind). kind_token k (uleb_of r.code) (values_of values pool r.first (value_count u.table r.code.value)) ∷ drop (suc at) xs) e in
       ap (λ (ys : List Token). chain u.context u.table (rest_of ys).here (offset_of_row u at) (level_of_row u at)) h
 
   pub end_chain : (n : ℕ) → n ≡ length xs → chain_from u n ≡ []
@@ -174,7 +174,7 @@ module _ (u : TreeAt) (rows : List Row) (values : List Stored) (pool : List ℕ)
   children_at at node d q s e =
       let r : Row = get_or rows at d in
       let h : drop at xs ≡ branch_row (code_of node) (values_in node) ∷ drop (suc at) xs =
-      q.head ∙ (ap (λ (k : Kind). kind_token k (uleb_of r.code) (values_in node) ∷ drop (suc at) xs) e ∙ ap (λ (c : Unsigned). branch_row c (values_in node) ∷ drop (suc at) xs) q.code) in
+      q.head ∙ (ap (λ (k : RowKind). kind_token k (uleb_of r.code) (values_in node) ∷ drop (suc at) xs) e ∙ ap (λ (c : Unsigned). branch_row c (values_in node) ∷ drop (suc at) xs) q.code) in
       ap (λ (ts : Forest). chain u.context u.table ts (offset_of_row u (suc at)) (level_of_row u (suc at))) (below_branch node s.after (drop (suc at) xs) (code_of node) (values_in node) (sym h ∙ s.stands))
       ∙ ap₂ (λ (o l : ℕ). chain u.context u.table (below node) o l) (offset_next at _ h) (level_next at _ h)
 
@@ -188,7 +188,7 @@ module _ (u : TreeAt) (rows : List Row) (values : List Stored) (pool : List ℕ)
       same : length (entry_bytes u.context u.table here (values_in node)) ≡ length (own_bytes u.context u.table node)
       same = ap (λ (c : Unsigned). length (entry_bytes u.context u.table c (values_in node))) q.code
 
-      by : (kd : Kind) → IsEntry kd → drop at xs ≡ kind_token kd here (values_in node) ∷ drop (suc at) xs → offset_of_row u (suc at) ≡ offset_of_row u at + length (own_bytes u.context u.table node)
+      by : (kd : RowKind) → IsEntry kd → drop at xs ≡ kind_token kd here (values_in node) ∷ drop (suc at) xs → offset_of_row u (suc at) ≡ offset_of_row u at + length (own_bytes u.context u.table node)
       by Leaf is e = omega (arith, offset_next at _ e, same)
       by Branch is e = omega (arith, offset_next at _ e, same)
       by Null is e = absurd is
@@ -201,7 +201,7 @@ module _ (u : TreeAt) (rows : List Row) (values : List Stored) (pool : List ℕ)
       here : Unsigned
       here = uleb_of (get_or rows at d).code
 
-      by : (kd : Kind) → IsEntry kd → drop at xs ≡ kind_token kd here (values_in node) ∷ drop (suc at) xs → entries_from u at ≡ entry_at_row u at ∷ entries_from u (suc at)
+      by : (kd : RowKind) → IsEntry kd → drop at xs ≡ kind_token kd here (values_in node) ∷ drop (suc at) xs → entries_from u at ≡ entry_at_row u at ∷ entries_from u (suc at)
       by Leaf is e =
           ap (λ (ys : List Token). entries_in u.context u.table ys (offset_of_row u at) (level_of_row u at)) e
           ∙ (ap₂ (λ (o l : ℕ). record { context = u.context; table = u.table; node = leaf here (values_in node); offset = offset_of_row u at; depth = level_of_row u at } ∷ entries_in u.context u.table (drop (suc at) xs) o l) (sym (offset_next at _ e)) (sym (level_next at _ e))
@@ -218,7 +218,7 @@ module _ (u : TreeAt) (rows : List Row) (values : List Stored) (pool : List ℕ)
       r : Row
       r = get_or rows at d
 
-      by : (kd : Kind) → IsNull kd → drop at xs ≡ kind_token kd (uleb_of (get_or rows at d).code) (values_of values pool (get_or rows at d).first (value_count u.table (get_or rows at d).code.value)) ∷ drop (suc at) xs → entries_from u at ≡ entries_from u (suc at)
+      by : (kd : RowKind) → IsNull kd → drop at xs ≡ kind_token kd (uleb_of (get_or rows at d).code) (values_of values pool (get_or rows at d).first (value_count u.table (get_or rows at d).code.value)) ∷ drop (suc at) xs → entries_from u at ≡ entries_from u (suc at)
       by Leaf is e = absurd is
       by Branch is e = absurd is
       by Null is e =

@@ -8,10 +8,10 @@ use Rattle.dw_form.specs.declared.shape.Ctx.{Ctx}
 use Rattle.dw_form.specs.Form.{Attribute}
 use Rattle.dw_abbrev.specs.Table.{Table, declared, is_null, zero_of}
 use Rattle.dw_tree.specs.declared.row.Row.{Row}
-use Rattle.dw_tree.specs.Tree.{Tree, leaf, branch, Forest, none, more, Body, node_of, nodes_of, values, pairs_of, children_of, bad_child, body, children, tree, nesting}
+use Rattle.dw_tree.specs.Tree.{Tree, leaf, branch, Forest, none, more, Body, node_of, nodes_of, values, declared_pairs, declares_children, bad_child, body, children, tree, nesting}
 use Rattle.dw_tree.specs.Spelling.{entry_bytes}
 use Rattle.dw_tree.specs.Row.{Token, null_row, rows_of, all_rows, row_bytes, rows_bytes}
-use Rattle.dw_tree.specs.Sound.{TokenFits, Stand, level_after}
+use Rattle.dw_tree.specs.DraftInvariant.{TokenFits, Stand, level_after}
 use Rattle.dw_tree.proofs.Fits.{AllFit, stand_fit, fit_front, fit_back, tree_level, first_level, one_and_more}
 use Rattle.dw_tree.proofs.Bytes.{bytes_append}
 
@@ -33,12 +33,12 @@ module _ (k : Ctx) (t : Table) where
   node_bytes room x = uleb.spell (node_of x).0 ++ (body k t (children k t room) (node_of x).0).spell (node_of x).1
 
   -- behind its code and values an entry has its children's bytes
-  branch_bytes : (code : Unsigned) (vs : List Attribute) (ts : Forest) (w : ℕ) (kids : Part (Forest × Unsigned)) → children_of (declared t code.value) ≡ true → kids.spell (ts, zero_of w) ≡ rows_bytes k t (all_rows ts) ++ uleb.spell (zero_of w)
+  branch_bytes : (code : Unsigned) (vs : List Attribute) (ts : Forest) (w : ℕ) (kids : Part (Forest × Unsigned)) → declares_children (declared t code.value) ≡ true → kids.spell (ts, zero_of w) ≡ rows_bytes k t (all_rows ts) ++ uleb.spell (zero_of w)
       → uleb.spell code ++ (body k t kids code).spell (vs, Some (ts, zero_of w)) ≡ rows_bytes k t (rows_of (branch code vs ts w))
   branch_bytes code vs ts w kids e s =
-      let own = (values k (pairs_of (declared t code.value))).spell vs in
+      let own = (values k (declared_pairs (declared t code.value))).spell vs in
       let null = uleb.spell (zero_of w) in
-      ap (λ (bs : List ℕ). uleb.spell code ++ (own ++ bs)) (some_kids (children_of (declared t code.value)) kids (ts, zero_of w) e ∙ s)
+      ap (λ (bs : List ℕ). uleb.spell code ++ (own ++ bs)) (some_kids (declares_children (declared t code.value)) kids (ts, zero_of w) e ∙ s)
       ∙ (sym (append_assoc (uleb.spell code) own (rows_bytes k t (all_rows ts) ++ null))
       ∙ ap (λ (bs : List ℕ). entry_bytes k t code vs ++ bs) (sym (bytes_append k t (all_rows ts) (null_row w ∷ []) ∙ ap (λ (bs : List ℕ). rows_bytes k t (all_rows ts) ++ bs) (append-nil null))))
 
@@ -52,8 +52,8 @@ module _ (k : Ctx) (t : Table) where
 
     node_spelled : (x : Tree) (d room : ℕ) → suc d + room ≡ nesting → AllFit k t (suc d) (rows_of x) → node_bytes room x ≡ rows_bytes k t (rows_of x)
     node_spelled (leaf code vs) d room e h =
-        let own = (values k (pairs_of (declared t code.value))).spell vs in
-        ap (λ (bs : List ℕ). uleb.spell code ++ (own ++ bs)) (no_kids (children_of (declared t code.value)) (children k t room) h.0.0.1)
+        let own = (values k (declared_pairs (declared t code.value))).spell vs in
+        ap (λ (bs : List ℕ). uleb.spell code ++ (own ++ bs)) (no_kids (declares_children (declared t code.value)) (children k t room) h.0.0.1)
         ∙ sym (append_assoc (uleb.spell code) own [])
     node_spelled (branch code vs ts w) d zero e h = branch_bytes code vs ts w (children k t zero) h.0.0.1 (no_room ts d w e (fit_front k t (suc (suc d)) (all_rows ts) (null_row w ∷ []) h.1))
     node_spelled (branch code vs ts w) d (suc room) e h = branch_bytes code vs ts w (children k t (suc room)) h.0.0.1 (items_spelled ts [] (suc d) room w (omega (arith, e)) (fit_front k t (suc (suc d)) (all_rows ts) (null_row w ∷ []) h.1))

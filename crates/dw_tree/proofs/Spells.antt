@@ -10,7 +10,7 @@ use Rattle.dw_form.specs.Form.{Attribute}
 use Rattle.dw_tree.specs.Row.{Token, leaf_row, branch_row, null_row, all_rows, rows_of}
 use Rattle.dw_tree.specs.Place.{Frame, Spot, nowhere, leave, step, spot_after, rows_before, open_rows, rows_before-push}
 use Rattle.dw_tree.specs.Flat.{IsEntry}
-use Rattle.dw_tree.specs.Sound.{IsSpelled, IsIn, EndsAt, HaveEnds}
+use Rattle.dw_tree.specs.DraftInvariant.{IsSpelled, IsIn, EndsAt, HaveEnds}
 
 pub after-push : (ts : List Token) (t : Token) → spot_after (ts ++ t ∷ []) ≡ step (spot_after ts) t
 after-push ts t = fold-append step nowhere ts (t ∷ [])

@@ -6,8 +6,8 @@ use Rattle.dw_abbrev.specs.Table.{Pair, Table}
 use Rattle.dw_leb.specs.Number.{Unsigned}
 use Rattle.dw_form.specs.declared.stored.Stored.{Stored}
 use Rattle.dw_tree.specs.declared.row.Row.{Row}
-use Rattle.dw_tree.specs.declared.row.Kind.{Kind}
-use Rattle.dw_tree.specs.declared.row.Kind.TheVariants.{Leaf, Branch, Null}
+use Rattle.dw_tree.specs.declared.row.RowKind.{RowKind}
+use Rattle.dw_tree.specs.declared.row.RowKind.TheVariants.{Leaf, Branch, Null}
 use Rattle.dw_tree.specs.Row.{row_bytes, rows_bytes}
 use Rattle.dw_tree.specs.Spelling.{entry_bytes}
 use Rattle.dw_tree.specs.Flat.{kind_token, token_of, tokens}
@@ -30,7 +30,7 @@ no_items (x ∷ xs) h = absurd (omega (arith, h))
 -- ---- rows
 
 -- an entry's row is its code and its values
-pub entry_row_bytes : (k : Ctx) (t : Table) (kind : Kind) (code : Unsigned) (vs : List Attribute) → (kind ≡ Null → ⊥) → row_bytes k t (kind_token kind code vs) ≡ entry_bytes k t code vs
+pub entry_row_bytes : (k : Ctx) (t : Table) (kind : RowKind) (code : Unsigned) (vs : List Attribute) → (kind ≡ Null → ⊥) → row_bytes k t (kind_token kind code vs) ≡ entry_bytes k t code vs
 entry_row_bytes k t Leaf code vs n = refl
 entry_row_bytes k t Branch code vs n = refl
 entry_row_bytes k t Null code vs n = absurd (n refl)

@@ -6,7 +6,7 @@ use Rattle.dw_tree.specs.Tree.{tree, nesting}
 use Rattle.dw_tree.specs.Row.{rows_bytes}
 use Rattle.dw_tree.specs.Steps.{TreeAt}
 use Rattle.dw_tree.specs.TreeView.{tree_at, tokens_in, IsTree}
-use Rattle.dw_tree.specs.Sound.{Stand, TokenFits}
+use Rattle.dw_tree.specs.DraftInvariant.{Stand, TokenFits}
 use Rattle.dw_tree.proofs.Fits.{tree_fits}
 use Rattle.dw_tree.proofs.Spelled.{tree_spelled, all_tokens_fit}
 

@@ -11,7 +11,7 @@ use Rattle.dw_leb.specs.Repeat.{repeated, ItemsFit}
 use Rattle.dw_leb.specs.Reader.{Outcome, Found, Broken, Reader, ◌and_then◌, behind, paired, mapped, checked, returned}
 use Rattle.dw_leb.specs.ReadNumber.{read_uleb}
 use Rattle.dw_leb.specs.Decide.{Decides, Says, AreBytes, AreBytes-behind, found, broken, IsView, then_decides, judged_decides, seen_decides, nothing_decides, refused_decides, optional_decides}
-use Rattle.dw_leb.specs.Stay.{Stays, After_stays, then_stays, judged_stays, nothing_stays, refused_stays, optional_stays}
+use Rattle.dw_leb.specs.PartLaws.{Stays, After_stays, then_stays, judged_stays, nothing_stays, refused_stays, optional_stays}
 use Rattle.dw_leb.specs.DecideRepeat.{behind_at, repeated_decides, repeated_stays, items_end}
 use Rattle.dw_leb.specs.DecideNumber.{uleb_decides, uleb_stays, uleb_some}
 use Rattle.dw_form.specs.declared.shape.Ctx.{Ctx}
@@ -19,7 +19,7 @@ use Rattle.dw_form.specs.Form.{Attribute, attribute}
 use Rattle.dw_form.specs.DecideForm.{attribute_decides, attribute_stays}
 use Rattle.dw_abbrev.specs.Table.{Pair, Table, is_null, zero_of, declared}
 use Rattle.dw_abbrev.specs.DecideTable.{null_is}
-use Rattle.dw_tree.specs.Tree.{Tree, leaf, branch, Forest, none, more, Body, node_of, nodes_of, as_node, as_nodes, first_value, no_value, values, pairs_of, children_of, bad_root, bad_child, body, children, tree, nulls, AreNulls, not_null, MoreBreaks, PaddingBreaks}
+use Rattle.dw_tree.specs.Tree.{Tree, leaf, branch, Forest, none, more, Body, node_of, nodes_of, as_node, as_nodes, first_value, no_value, values, declared_pairs, declares_children, bad_root, bad_child, body, children, tree, nulls, AreNulls, not_null, MoreBreaks, PaddingBreaks}
 use Rattle.dw_tree.specs.ReadTree.{node_from, nodes_from, read_values, read_body, read_children, read_tree, read_padding}
 
 -- ---- lists of numbers and of values
@@ -55,7 +55,7 @@ nodes_back none = refl
 nodes_back (more t ts) = rw (node_back t, nodes_back ts) refl
 
 node_there : (k : Ctx) (t : Table) (kids : Part (Forest × Unsigned)) → EndsNull kids → (x : Unsigned × Body) → (body k t kids x.0).Fits x.1 → node_of (node_from x) ≡ x
-node_there k t kids ends x fits = by x.0 x.1.0 x.1.1 (children_of (declared t x.0.value)) fits.1
+node_there k t kids ends x fits = by x.0 x.1.0 x.1.1 (declares_children (declared t x.0.value)) fits.1
   where
     by : (code : Unsigned) (vs : List Attribute) (o : Option (Forest × Unsigned)) (b : Bool) → (optional b kids).Fits o → node_of (node_from (code, (vs, o))) ≡ (code, (vs, o))
     by code vs None b fits = refl
@@ -79,7 +79,7 @@ child_wide : (t : Table) (room : Bool) (before : List (Unsigned × Body)) (h : U
 child_wide t room before h fits = uleb_some h fits.0
 
 body_decides : (k : Ctx) (t : Table) (kids : Part (Forest × Unsigned)) (R : Reader (Forest × Unsigned)) → Decides kids R → (code : Unsigned) → Decides (body k t kids code) (read_body k t R code)
-body_decides k t kids R it code = then_decides _ _ _ _ (values_decides k (pairs_of (declared t code.value))) (λ _. optional_decides (children_of (declared t code.value)) kids R it)
+body_decides k t kids R it code = then_decides _ _ _ _ (values_decides k (declared_pairs (declared t code.value))) (λ _. optional_decides (declares_children (declared t code.value)) kids R it)
 
 pub children_end : (k : Ctx) (t : Table) (room : ℕ) → EndsNull (children k t room)
 unfolding children
@@ -103,7 +103,7 @@ tree_decides k t room = seen_decides (judged uleb (bad_root t) then body k t (ch
     (then_decides _ _ _ _ (judged_decides uleb read_uleb (bad_root t) uleb_decides) (body_decides k t (children k t room) (read_children k t room) (children_decides k t room)))
 
 body_stays : (k : Ctx) (t : Table) (kids : Part (Forest × Unsigned)) → Stays kids.Break → (code : Unsigned) → Stays (body k t kids code).Break
-body_stays k t kids it code = then_stays (values k (pairs_of (declared t code.value))) (λ _. optional (children_of (declared t code.value)) kids) (values_stays k (pairs_of (declared t code.value))) (λ _. optional_stays (children_of (declared t code.value)) kids it)
+body_stays k t kids it code = then_stays (values k (declared_pairs (declared t code.value))) (λ _. optional (declares_children (declared t code.value)) kids) (values_stays k (declared_pairs (declared t code.value))) (λ _. optional_stays (declares_children (declared t code.value)) kids it)
 
 children_stays : (k : Ctx) (t : Table) (room : ℕ) → Stays (children k t room).Break
 unfolding children

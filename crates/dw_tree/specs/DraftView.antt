@@ -3,57 +3,57 @@ use Rattle.std.specs.Prelude.{◌≡◌, ℕ, ◌<◌, ◌≤◌, ◌^◌, List,
 use Rattle.dw_leb.specs.View.{uleb_of}
 use Rattle.dw_form.specs.Form.{IsContext}
 use Rattle.dw_tree.specs.declared.draft.TreeDraft.TheInside.{Inside}
-use Rattle.dw_tree.specs.declared.row.Begun.{Begun as Started}
+use Rattle.dw_tree.specs.declared.row.PartialValue.{PartialValue as StoredPartial}
 use Rattle.dw_tree.specs.Tree.{nesting}
-use Rattle.dw_tree.specs.Place.{Begun, Place}
-use Rattle.dw_tree.specs.Steps.{Growing, begins, end_of}
+use Rattle.dw_tree.specs.Place.{PartialValue, Place}
+use Rattle.dw_tree.specs.Steps.{Growing, given_partial, end_of}
 use Rattle.dw_tree.specs.Flat.{place_of, tokens}
-use Rattle.dw_tree.specs.Held.{Holds}
-use Rattle.dw_tree.specs.Sound.{IsSound, HasRoom, Stand, IsBegun}
+use Rattle.dw_tree.specs.PoolBytes.{Holds}
+use Rattle.dw_tree.specs.DraftInvariant.{IsSound, HasRoom, Stand, IsUnfinishedEntry}
 
--- the bytes in the pool of the values that were given: those before the bytes of one that has begun
-abbrev pub front : Option Started → List ℕ → List ℕ
+-- the bytes in the pool of the values that were given: those before the bytes of a partial one
+abbrev pub front : Option StoredPartial → List ℕ → List ℕ
 front None pool = pool
 front (Some b) pool = take b.pool pool
 
--- what has begun: its bytes are the pool's last
-abbrev pub begun_of : List ℕ → Started → Begun
-begun_of pool b = record { via = option_map uleb_of b.via; width = b.width; bytes = drop b.pool pool }
+-- a partial value: its bytes are the pool's last
+abbrev pub partial_of : List ℕ → StoredPartial → PartialValue
+partial_of pool b = record { via = option_map uleb_of b.via; width = b.width; bytes = drop b.pool pool }
 
-abbrev pub place_with : Option Started → List ℕ → Place → Place
+abbrev pub place_with : Option StoredPartial → List ℕ → Place → Place
 place_with None pool p = p
-place_with (Some b) pool p = record { spot = p.spot; reading = option_map (begins (Some (begun_of pool b))) p.reading }
+place_with (Some b) pool p = record { spot = p.spot; unfinished = option_map (given_partial (Some (partial_of pool b))) p.unfinished }
 
 -- over the pool's bytes of the values that were given
 abbrev pub given : Inside → List ℕ → Growing
-given a pool = record { context = a.context; table = a.table.value; start = a.start; place = place_of a.table.value a.rows.items a.values.items pool a.reading }
+given a pool = record { context = a.context; table = a.table.value; start = a.start; place = place_of a.table.value a.rows.items a.values.items pool a.unfinished }
 
 abbrev pub growing : Inside → Growing
 growing a = record {
   context = a.context;
   table = a.table.value;
   start = a.start;
-  place = place_with a.begun a.pool.items (place_of a.table.value a.rows.items a.values.items (front a.begun a.pool.items) a.reading);
+  place = place_with a.partial a.pool.items (place_of a.table.value a.rows.items a.values.items (front a.partial a.pool.items) a.unfinished);
 }
 
 -- what is so of the values that were given, whose bytes are these
 pub record IsGiven (a : Inside) (pool : List ℕ) : Type 0 where
   pub context_fits : IsContext a.context
-  pub sound : IsSound a.table.value a.rows.items a.values.items pool a.nested.items a.reading
-  pub holds : Holds a.table.value a.rows.items a.values.items pool a.reading
-  pub room : HasRoom a.reading (vec_len a.rows) (vec_capacity a.rows) (vec_len a.nested) (vec_capacity a.nested)
+  pub sound : IsSound a.table.value a.rows.items a.values.items pool a.nested.items a.unfinished
+  pub holds : Holds a.table.value a.rows.items a.values.items pool a.unfinished
+  pub room : HasRoom a.unfinished (vec_len a.rows) (vec_capacity a.rows) (vec_len a.nested) (vec_capacity a.nested)
   pub stand : Stand a.context a.table.value a.start 1 a.rows.items (tokens a.table.value a.rows.items a.values.items pool)
-  pub begun : IfSome a.reading (IsBegun a.context a.table.value a.start (tokens a.table.value a.rows.items a.values.items pool) a.values.items pool)
+  pub partial : IfSome a.unfinished (IsUnfinishedEntry a.context a.table.value a.start (tokens a.table.value a.rows.items a.values.items pool) a.values.items pool)
   pub deep : length a.nested.items ≤ nesting
   pub here_is : a.here ≡ end_of (given a pool)
   pub near : a.here < 2 ^ 63
 
--- what has begun belongs to the entry that is read, and there is room for it
-pub record HasBegun (a : Inside) (b : Started) : Type 0 where
+-- a partial value belongs to the unfinished entry, and there is room for it
+pub record HasPartial (a : Inside) (b : StoredPartial) : Type 0 where
   pub within : b.pool ≤ length a.pool.items
-  pub reading : IsSome a.reading
+  pub unfinished : IsSome a.unfinished
   pub room : vec_len a.values < vec_capacity a.values
 
 pub record IsDraft (a : Inside) : Type 0 where
-  pub given : IsGiven a (front a.begun a.pool.items)
-  pub begun : IfSome a.begun (HasBegun a)
+  pub given : IsGiven a (front a.partial a.pool.items)
+  pub partial : IfSome a.partial (HasPartial a)

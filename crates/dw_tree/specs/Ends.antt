@@ -7,10 +7,10 @@ use Rattle.dw_leb.specs.DecideNumber.{length-uleb}
 use Rattle.dw_form.specs.declared.shape.Ctx.{Ctx}
 use Rattle.dw_form.specs.Form.{Attribute, attribute}
 use Rattle.dw_abbrev.specs.Table.{Pair, Declaration, Table, declared, zero_of}
-use Rattle.dw_tree.specs.Tree.{Forest, leaf, branch, values, pairs_of}
+use Rattle.dw_tree.specs.Tree.{Forest, leaf, branch, values, declared_pairs}
 use Rattle.dw_tree.specs.Row.{Token, leaf_row, branch_row, null_row, all_rows, rows_bytes, row_bytes}
-use Rattle.dw_tree.specs.Place.{Frame, Spot, leave_from, rows_before, rows_before-push, Unread, Place}
-use Rattle.dw_tree.specs.Steps.{Growing, settled, settle_by, settle, begun_at, with_value, value_at, closed_at, end_of, unread_bytes, first_values, FirstsFit, FirstFits, first_bytes, NextFits, next_bytes}
+use Rattle.dw_tree.specs.Place.{Frame, Spot, leave_from, rows_before, rows_before-push, UnfinishedEntry, Place}
+use Rattle.dw_tree.specs.Steps.{Growing, settled, settle_by, settle, begun_at, with_value, value_at, closed_at, end_of, unfinished_bytes, first_values, FirstsFit, FirstFits, first_bytes, NextFits, next_bytes}
 
 module _ (k : Ctx) (t : Table) where
   pub bytes_push : (xs : List Token) (x : Token) → length (rows_bytes k t (xs ++ x ∷ [])) ≡ length (rows_bytes k t xs) + length (row_bytes k t x)
@@ -31,16 +31,16 @@ module _ (k : Ctx) (t : Table) where
 
   -- the bytes of a place
   abbrev pub size_of : Place → ℕ
-  size_of p = length (rows_bytes k t (rows_before p.spot.above p.spot.left)) + length (unread_bytes k t p.reading)
+  size_of p = length (rows_bytes k t (rows_before p.spot.above p.spot.left)) + length (unfinished_bytes k t p.unfinished)
 
   abbrev pub before : Spot → ℕ
   before s = length (rows_bytes k t (rows_before s.above s.left))
 
   abbrev own : Unsigned → List Attribute → List ℕ
-  own code vs = uleb.spell code ++ first_values k (pairs_of (declared t code.value)) vs
+  own code vs = uleb.spell code ++ first_values k (declared_pairs (declared t code.value)) vs
 
-  whole : (code : Unsigned) (vs : List Attribute) (d : Declaration) → declared t code.value ≡ Some d → length vs ≡ length d.pairs → take (length vs) (pairs_of (declared t code.value)) ≡ pairs_of (declared t code.value)
-  whole code vs d e n = take_all (length vs) (pairs_of (declared t code.value)) (omega (arith, n, ap (λ (o : Option Declaration). length (pairs_of o)) e))
+  whole : (code : Unsigned) (vs : List Attribute) (d : Declaration) → declared t code.value ≡ Some d → length vs ≡ length d.pairs → take (length vs) (declared_pairs (declared t code.value)) ≡ declared_pairs (declared t code.value)
+  whole code vs d e n = take_all (length vs) (declared_pairs (declared t code.value)) (omega (arith, n, ap (λ (o : Option Declaration). length (declared_pairs o)) e))
 
   settled_size : (s : Spot) (code : Unsigned) (vs : List Attribute) (d : Declaration) → declared t code.value ≡ Some d → (b ch : Bool) → (length vs == length d.pairs) ≡ b → size_of (settled b ch s code vs) ≡ before s + length (own code vs)
   settled_size s code vs d e true true h =
@@ -68,30 +68,30 @@ module _ (k : Ctx) (t : Table) where
       omega (arith, pushed, one, length-uleb (zero_of w))
 
 -- an entry of a declared code begins
-pub begun_end : (g : Growing) (code : Unsigned) → IsSome (declared g.table code.value) → g.place.reading ≡ None → end_of (begun_at code g) ≡ end_of g + code.width
+pub begun_end : (g : Growing) (code : Unsigned) → IsSome (declared g.table code.value) → g.place.unfinished ≡ None → end_of (begun_at code g) ≡ end_of g + code.width
 begun_end g code h free =
     let k = g.context in
     let t = g.table in
     let size = settle_size k t g.place.spot code [] h in
-    let none = ap (λ (o : Option Unread). length (unread_bytes k t o)) free in
-    omega (arith, size, none, length-append (uleb.spell code) (first_values k (pairs_of (declared t code.value)) []), length-uleb code)
+    let none = ap (λ (o : Option UnfinishedEntry). length (unfinished_bytes k t o)) free in
+    omega (arith, size, none, length-append (uleb.spell code) (first_values k (declared_pairs (declared t code.value)) []), length-uleb code)
 
--- the entry that is read is given one more value
-pub value_end : (g : Growing) (r : Unread) (v : Attribute) → g.place.reading ≡ Some r → IsSome (declared g.table r.code.value) → FirstsFit g.context (pairs_of (declared g.table r.code.value)) r.values → NextFits g.context g.table (Some r) v
+-- the unfinished entry is given one more value
+pub value_end : (g : Growing) (r : UnfinishedEntry) (v : Attribute) → g.place.unfinished ≡ Some r → IsSome (declared g.table r.code.value) → FirstsFit g.context (declared_pairs (declared g.table r.code.value)) r.values → NextFits g.context g.table (Some r) v
     → end_of (with_value v g) ≡ end_of g + length (next_bytes g.context g.table (Some r) v)
 value_end g r v e h f n =
     let k = g.context in
     let t = g.table in
-    let ps = pairs_of (declared t r.code.value) in
-    let with = ap (λ (o : Option Unread). end_of (value_at v g o)) e in
+    let ps = declared_pairs (declared t r.code.value) in
+    let with = ap (λ (o : Option UnfinishedEntry). end_of (value_at v g o)) e in
     let size = settle_size k t g.place.spot r.code (r.values ++ v ∷ []) h in
     let more = prefix_bytes k t ps r.values v f n in
-    let old = ap (λ (o : Option Unread). length (unread_bytes k t o)) e in
+    let old = ap (λ (o : Option UnfinishedEntry). length (unfinished_bytes k t o)) e in
     omega (arith, with, size, more, old, length-append (uleb.spell r.code) (first_values k ps (r.values ++ v ∷ [])), length-append (uleb.spell r.code) (first_values k ps r.values))
 
 -- the innermost open entry is closed
-pub closed_end : (g : Growing) (w : ℕ) → g.place.spot.above ≢ [] → g.place.reading ≡ None → end_of (closed_at w g) ≡ end_of g + w
+pub closed_end : (g : Growing) (w : ℕ) → g.place.spot.above ≢ [] → g.place.unfinished ≡ None → end_of (closed_at w g) ≡ end_of g + w
 closed_end g w n free =
     let size = close_size g.context g.table w g.place.spot.above g.place.spot.left n in
-    let none = ap (λ (o : Option Unread). length (unread_bytes g.context g.table o)) free in
+    let none = ap (λ (o : Option UnfinishedEntry). length (unfinished_bytes g.context g.table o)) free in
     omega (arith, size, none)

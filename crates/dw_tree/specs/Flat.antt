@@ -7,16 +7,16 @@ use Rattle.dw_form.specs.declared.shape.Ctx.{Ctx}
 use Rattle.dw_form.specs.Form.{Attribute, attribute}
 use Rattle.dw_abbrev.specs.declared.pair.Pair.{Pair as RustPair}
 use Rattle.dw_abbrev.specs.PairView.{pair_of}
-use Rattle.dw_form.specs.Kept.{content}
+use Rattle.dw_form.specs.StoredView.{content}
 use Rattle.dw_form.specs.declared.stored.Stored.{Stored}
 use Rattle.dw_abbrev.specs.Table.{Table, declared}
-use Rattle.dw_tree.specs.declared.row.Kind.{Kind}
-use Rattle.dw_tree.specs.declared.row.Kind.TheVariants.{Leaf, Branch, Null}
+use Rattle.dw_tree.specs.declared.row.RowKind.{RowKind}
+use Rattle.dw_tree.specs.declared.row.RowKind.TheVariants.{Leaf, Branch, Null}
 use Rattle.dw_tree.specs.declared.row.Row.{Row}
-use Rattle.dw_tree.specs.declared.row.Reading.{Reading}
-use Rattle.dw_tree.specs.Tree.{pairs_of}
+use Rattle.dw_tree.specs.declared.row.Unfinished.{Unfinished}
+use Rattle.dw_tree.specs.Tree.{declared_pairs}
 use Rattle.dw_tree.specs.Row.{Token, leaf_row, branch_row, null_row}
-use Rattle.dw_tree.specs.Place.{spot_after, Unread, Place}
+use Rattle.dw_tree.specs.Place.{spot_after, UnfinishedEntry, Place}
 
 -- the values that are stored over a pool
 abbrev pub contents : List Stored → List ℕ → List Attribute
@@ -28,13 +28,13 @@ value_part k p = attribute k (pair_of p).form.value (pair_of p).constant
 
 -- how many values an entry of this code has
 abbrev pub value_count : Table → ℕ → ℕ
-value_count t code = length (pairs_of (declared t code))
+value_count t code = length (declared_pairs (declared t code))
 
 -- so many values from this one on
 abbrev pub values_of : List Stored → List ℕ → ℕ → ℕ → List Attribute
 values_of values pool first count = contents (take count (drop first values)) pool
 
-abbrev pub kind_token : Kind → Unsigned → List Attribute → Token
+abbrev pub kind_token : RowKind → Unsigned → List Attribute → Token
 kind_token Leaf code vs = leaf_row code vs
 kind_token Branch code vs = branch_row code vs
 kind_token Null code vs = null_row code.width
@@ -46,21 +46,21 @@ abbrev pub tokens : Table → List Row → List Stored → List ℕ → List Tok
 tokens t rows values pool = map (token_of t values pool) rows
 
 -- the entry that is being read
-abbrev pub unread_of : List Stored → List ℕ → Reading → Unread
-unread_of values pool r = record { code = uleb_of r.code; values = contents (drop r.first values) pool; begun = None }
+abbrev pub unfinished_of : List Stored → List ℕ → Unfinished → UnfinishedEntry
+unfinished_of values pool r = record { code = uleb_of r.code; values = contents (drop r.first values) pool; partial = None }
 
-abbrev pub place_of : Table → List Row → List Stored → List ℕ → Option Reading → Place
-place_of t rows values pool reading = record {
+abbrev pub place_of : Table → List Row → List Stored → List ℕ → Option Unfinished → Place
+place_of t rows values pool unfinished = record {
   spot = spot_after (tokens t rows values pool);
-  reading = option_map (unread_of values pool) reading;
+  unfinished = option_map (unfinished_of values pool) unfinished;
 }
 
-abbrev pub IsEntry : Kind → Type 0
+abbrev pub IsEntry : RowKind → Type 0
 IsEntry Leaf = Unit {0}
 IsEntry Branch = Unit {0}
 IsEntry Null = ⊥
 
-abbrev pub IsNull : Kind → Type 0
+abbrev pub IsNull : RowKind → Type 0
 IsNull Leaf = ⊥
 IsNull Branch = ⊥
 IsNull Null = Unit {0}

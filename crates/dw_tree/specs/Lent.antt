@@ -7,18 +7,18 @@ use Rattle.dw_leb.specs.Number.{Unsigned}
 use Rattle.dw_form.specs.declared.shape.Ctx.{Ctx}
 use Rattle.dw_form.specs.declared.stored.Stored.{Stored}
 use Rattle.dw_form.specs.Form.{Attribute, IsContext}
-use Rattle.dw_form.specs.Kept.{StoredFits}
+use Rattle.dw_form.specs.StoredView.{StoredFits}
 use Rattle.dw_form.specs.Lent.{attribute_of}
 use Rattle.dw_form.specs.Pieces.{form_in, spelling}
 use Rattle.dw_abbrev.specs.Table.{Pair, Declaration, Table, declared}
 use Rattle.dw_tree.specs.declared.attrs.AttrRef.{AttrRef}
-use Rattle.dw_tree.specs.Tree.{Tree, leaf, branch, Forest, none, more, values, pairs_of}
+use Rattle.dw_tree.specs.Tree.{Tree, leaf, branch, Forest, none, more, values, declared_pairs}
 use Rattle.dw_tree.specs.Spelling.{entry_bytes, tree_bytes}
 use Rattle.dw_tree.specs.Row.{Token, leaf_row, branch_row, null_row, row_bytes, rows_bytes, rows_of, rest_of, head_of}
 use Rattle.dw_tree.specs.Offset.{node_at, offset_at, end_at}
 use Rattle.dw_tree.specs.Steps.{TreeAt}
 use Rattle.dw_tree.specs.Flat.{contents}
-use Rattle.dw_tree.specs.Sound.{level_after, levels_after}
+use Rattle.dw_tree.specs.DraftInvariant.{level_after, levels_after}
 use Rattle.dw_tree.specs.Codes.{context_code, table_code, tree_code}
 
 -- ---- attributes
@@ -91,7 +91,7 @@ tag_of (Some d) = d.tag.value
 
 -- its values stand behind its code
 abbrev pub attributes_of : EntryAt → List LentAttribute
-attributes_of e = lent_attributes e.context (e.offset + (code_of e.node).width) (pairs_of (declared e.table (code_of e.node).value)) (values_in e.node)
+attributes_of e = lent_attributes e.context (e.offset + (code_of e.node).width) (declared_pairs (declared e.table (code_of e.node).value)) (values_in e.node)
 
 -- the entries of a chain, the first of which stands at this offset: each next one stands behind the tree before it
 abbrev pub chain : Ctx → Table → Forest → ℕ → ℕ → List EntryAt

@@ -11,13 +11,13 @@ pub mod Place
 pub mod Steps
 pub mod Next
 pub mod Flat
-pub mod Settled
-pub mod Sound
+pub mod Completed
+pub mod DraftInvariant
 pub mod DraftView
 pub mod TreeView
 pub mod Lent
 pub mod Structure
 pub mod Paths
 pub mod Ends
-pub mod Standing
-pub mod Held
+pub mod Emptiness
+pub mod PoolBytes

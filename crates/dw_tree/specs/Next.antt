@@ -3,8 +3,8 @@ use Rattle.std.proofs.Common.{◌≡◌, ℕ, zero, suc, List, [], ◌∷◌, le
 use Rattle.dw_form.specs.declared.shape.Ctx.{Ctx}
 use Rattle.dw_form.specs.Form.{Attribute, attribute}
 use Rattle.dw_abbrev.specs.Table.{Pair, Table, declared}
-use Rattle.dw_tree.specs.Tree.{pairs_of}
-use Rattle.dw_tree.specs.Place.{Unread}
+use Rattle.dw_tree.specs.Tree.{declared_pairs}
+use Rattle.dw_tree.specs.Place.{UnfinishedEntry}
 use Rattle.dw_tree.specs.Steps.{NextFits, next_bytes, next_pair, FirstFits, first_bytes}
 
 module _ (k : Ctx) (v : Attribute) where
@@ -26,15 +26,15 @@ module _ (k : Ctx) (v : Attribute) where
   first_some (q ∷ ps) zero e h = absurd cc
   first_some (q ∷ ps) (suc n) e h = first_some ps n e h
 
-  pub next_is : (t : Table) (o : Option Unread) (p : Pair) → next_pair t o ≡ Some p → NextFits k t o v
+  pub next_is : (t : Table) (o : Option UnfinishedEntry) (p : Pair) → next_pair t o ≡ Some p → NextFits k t o v
       → (attribute k p.form.value p.constant).Fits v × (next_bytes k t o v ≡ (attribute k p.form.value p.constant).spell v)
   next_is t None p e h = absurd h
-  next_is t (Some r) p e h = first_is (pairs_of (declared t r.code.value)) (length r.values) p e h
+  next_is t (Some r) p e h = first_is (declared_pairs (declared t r.code.value)) (length r.values) p e h
 
-  pub fits_next : (t : Table) (o : Option Unread) (p : Pair) → next_pair t o ≡ Some p → (attribute k p.form.value p.constant).Fits v → NextFits k t o v
+  pub fits_next : (t : Table) (o : Option UnfinishedEntry) (p : Pair) → next_pair t o ≡ Some p → (attribute k p.form.value p.constant).Fits v → NextFits k t o v
   fits_next t None p e h = absurd cc
-  fits_next t (Some r) p e h = first_fits (pairs_of (declared t r.code.value)) (length r.values) p e h
+  fits_next t (Some r) p e h = first_fits (declared_pairs (declared t r.code.value)) (length r.values) p e h
 
-  pub next_some : (t : Table) (o : Option Unread) → next_pair t o ≡ None → NextFits k t o v → ⊥
+  pub next_some : (t : Table) (o : Option UnfinishedEntry) → next_pair t o ≡ None → NextFits k t o v → ⊥
   next_some t None e h = h
-  next_some t (Some r) e h = first_some (pairs_of (declared t r.code.value)) (length r.values) e h
+  next_some t (Some r) e h = first_some (declared_pairs (declared t r.code.value)) (length r.values) e h

@@ -10,7 +10,7 @@ use Rattle.dw_form.specs.Form.{Attribute}
 use Rattle.dw_leb.specs.Part.{refused}
 use Rattle.dw_abbrev.specs.Table.{Table, declared, is_null, zero_of}
 use Rattle.dw_leb.specs.Repeat.{ItemsFit}
-use Rattle.dw_tree.specs.Tree.{Tree, leaf, branch, Forest, none, more, Body, node_of, nodes_of, values, pairs_of, children_of, bad_child, body, children, tree}
+use Rattle.dw_tree.specs.Tree.{Tree, leaf, branch, Forest, none, more, Body, node_of, nodes_of, values, declared_pairs, declares_children, bad_child, body, children, tree}
 use Rattle.dw_tree.specs.Spelling.{entry_bytes, tree_bytes, forest_bytes}
 use Rattle.dw_tree.specs.Offset.{offset_at, offset_in, CodesFit, AllCodesFit}
 use Rattle.dw_leb.specs.DecideNumber.{uleb_some}
@@ -23,7 +23,7 @@ heads a b xs ys e = let h : a ≡ b = cc in let t : xs ≡ ys = cc in rw (h, t) 
 
 module _ (k : Ctx) (t : Table) where
   entry_some : (code : Unsigned) (vs : List Attribute) → uleb.Fits code → 0 < length (entry_bytes k t code vs)
-  entry_some code vs fits = omega (arith, uleb_some code fits, length-append (uleb.spell code) ((values k (pairs_of (declared t code.value))).spell vs))
+  entry_some code vs fits = omega (arith, uleb_some code fits, length-append (uleb.spell code) ((values k (declared_pairs (declared t code.value))).spell vs))
 
   mutual
     unfolding offset_at tree_bytes CodesFit
@@ -68,7 +68,7 @@ module _ (k : Ctx) (t : Table) where
   node_codes : (room : ℕ) → KidsFit room → (x : Tree) → uleb.Fits (node_of x).0 → (body k t (children k t room) (node_of x).0).Fits (node_of x).1 → CodesFit x
   unfolding CodesFit
   node_codes room ih (leaf code vs) c fits = c
-  node_codes room ih (branch code vs ts w) c fits = (c, by (children_of (declared t code.value)) fits.1)
+  node_codes room ih (branch code vs ts w) c fits = (c, by (declares_children (declared t code.value)) fits.1)
     where
       by : (b : Bool) → (optional b (children k t room)).Fits (Some (ts, zero_of w)) → AllCodesFit ts
       by true h = ih (ts, zero_of w) h

@@ -64,20 +64,20 @@ rows_before-push (f ∷ fs) ts x =
     ∙ sym (append_assoc (rows_before fs f.left) (branch_row f.code f.values ∷ all_rows ts) (rows_of x))
 
 -- a text, or a block whose length field has a width, that comes in pieces: the form that an indirect value names, and its bytes so far
-pub record Begun : Type 0 where
+pub record PartialValue : Type 0 where
   pub via : Option Unsigned
   pub width : Option ℕ
   pub bytes : List ℕ
 
--- an entry whose values are being given: those given so far, and one that has begun
-pub record Unread : Type 0 where
+-- an entry whose values are being given: those given so far, and a partial one
+pub record UnfinishedEntry : Type 0 where
   pub code : Unsigned
   pub values : List Attribute
-  pub begun : Option Begun
+  pub partial : Option PartialValue
 
 pub record Place : Type 0 where
   pub spot : Spot
-  pub reading : Option Unread
+  pub unfinished : Option UnfinishedEntry
 
 abbrev frame_code : Coded Frame
 frame_code = code_by (Unsigned × (List Attribute × Forest)) (coded× unsigned_code (coded× values_code forest_code)) (λ f. (f.code, (f.values, f.left))) (λ p. record { code = p.0; values = p.1.0; left = p.1.1 }) (λ _. refl)
@@ -85,13 +85,13 @@ frame_code = code_by (Unsigned × (List Attribute × Forest)) (coded× unsigned_
 abbrev spot_code : Coded Spot
 spot_code = code_by (List Frame × Forest) (coded× (coded_list frame_code) forest_code) (λ s. (s.above, s.left)) (λ p. record { above = p.0; left = p.1 }) (λ _. refl)
 
-abbrev begun_code : Coded Begun
-begun_code = code_by (Option Unsigned × (Option ℕ × List ℕ)) (coded× (coded_option unsigned_code) (coded× (coded_option coded_ℕ) (coded_list coded_ℕ))) (λ b. (b.via, (b.width, b.bytes)))
+abbrev partial_code : Coded PartialValue
+partial_code = code_by (Option Unsigned × (Option ℕ × List ℕ)) (coded× (coded_option unsigned_code) (coded× (coded_option coded_ℕ) (coded_list coded_ℕ))) (λ b. (b.via, (b.width, b.bytes)))
     (λ p. record { via = p.0; width = p.1.0; bytes = p.1.1 }) (λ _. refl)
 
-abbrev unread_code : Coded Unread
-unread_code = code_by (Unsigned × (List Attribute × Option Begun)) (coded× unsigned_code (coded× values_code (coded_option begun_code))) (λ r. (r.code, (r.values, r.begun)))
-    (λ p. record { code = p.0; values = p.1.0; begun = p.1.1 }) (λ _. refl)
+abbrev unfinished_code : Coded UnfinishedEntry
+unfinished_code = code_by (Unsigned × (List Attribute × Option PartialValue)) (coded× unsigned_code (coded× values_code (coded_option partial_code))) (λ r. (r.code, (r.values, r.partial)))
+    (λ p. record { code = p.0; values = p.1.0; partial = p.1.1 }) (λ _. refl)
 
 abbrev pub place_code : Coded Place
-place_code = code_by (Spot × Option Unread) (coded× spot_code (coded_option unread_code)) (λ s. (s.spot, s.reading)) (λ p. record { spot = p.0; reading = p.1 }) (λ _. refl)
+place_code = code_by (Spot × Option UnfinishedEntry) (coded× spot_code (coded_option unfinished_code)) (λ s. (s.spot, s.unfinished)) (λ p. record { spot = p.0; unfinished = p.1 }) (λ _. refl)

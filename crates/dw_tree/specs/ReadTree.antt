@@ -8,7 +8,7 @@ use Rattle.dw_form.specs.declared.shape.Ctx.{Ctx}
 use Rattle.dw_form.specs.Form.{Attribute}
 use Rattle.dw_form.specs.ReadForm.{read_attribute}
 use Rattle.dw_abbrev.specs.Table.{Pair, Table, declared, is_null}
-use Rattle.dw_tree.specs.Tree.{Tree, leaf, branch, Forest, none, more, Body, pairs_of, children_of, bad_root, bad_child, not_null}
+use Rattle.dw_tree.specs.Tree.{Tree, leaf, branch, Forest, none, more, Body, declared_pairs, declares_children, bad_root, bad_child, not_null}
 
 abbrev pub node_from : Unsigned × Body → Tree
 node_from (code, (values, None)) = leaf code values
@@ -23,7 +23,7 @@ read_values k [] = returned []
 read_values k (p ∷ ps) = made (λ x. x.0 ∷ x.1) ((read_attribute k p.form.value p.constant) and_then λ _. read_values k ps)
 
 abbrev pub read_body : Ctx → Table → Reader (Forest × Unsigned) → Unsigned → Reader Body
-read_body k t kids code = read_values k (pairs_of (declared t code.value)) and_then λ _. read_optional (children_of (declared t code.value)) kids
+read_body k t kids code = read_values k (declared_pairs (declared t code.value)) and_then λ _. read_optional (declares_children (declared t code.value)) kids
 
 unfoldable pub read_children : Ctx → Table → ℕ → Reader (Forest × Unsigned)
 read_children k t zero = made (λ x. (nodes_from x.0, x.1)) (read_repeated (λ _. checked read_uleb (bad_child t false)) is_null (λ _. failing TooDeep))

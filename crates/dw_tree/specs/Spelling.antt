@@ -4,11 +4,11 @@ use Rattle.dw_leb.specs.Number.{Unsigned, uleb}
 use Rattle.dw_form.specs.declared.shape.Ctx.{Ctx}
 use Rattle.dw_form.specs.Form.{Attribute}
 use Rattle.dw_abbrev.specs.Table.{Table, declared, zero_of}
-use Rattle.dw_tree.specs.Tree.{Tree, leaf, branch, Forest, none, more, values, pairs_of}
+use Rattle.dw_tree.specs.Tree.{Tree, leaf, branch, Forest, none, more, values, declared_pairs}
 
 -- a code and its values
 abbrev pub entry_bytes : Ctx → Table → Unsigned → List Attribute → List ℕ
-entry_bytes k t code vs = uleb.spell code ++ (values k (pairs_of (declared t code.value))).spell vs
+entry_bytes k t code vs = uleb.spell code ++ (values k (declared_pairs (declared t code.value))).spell vs
 
 -- the bytes of trees, by their structure alone
 unfoldable mutual

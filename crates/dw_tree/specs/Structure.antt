@@ -6,7 +6,7 @@ use Rattle.dw_leb.specs.Number.{Unsigned, uleb}
 use Rattle.dw_leb.specs.Repeat.{ItemsFit, items_bytes}
 use Rattle.dw_form.specs.declared.shape.Ctx.{Ctx}
 use Rattle.dw_abbrev.specs.Table.{Table, declared, is_null, zero_of}
-use Rattle.dw_tree.specs.Tree.{Tree, leaf, branch, Forest, none, more, Body, node_of, nodes_of, values, pairs_of, children_of, bad_child, body, children, tree}
+use Rattle.dw_tree.specs.Tree.{Tree, leaf, branch, Forest, none, more, Body, node_of, nodes_of, values, declared_pairs, declares_children, bad_child, body, children, tree}
 use Rattle.dw_tree.specs.Spelling.{tree_bytes, forest_bytes}
 
 module _ (k : Ctx) (t : Table) where
@@ -19,15 +19,15 @@ module _ (k : Ctx) (t : Table) where
   node_spelled : (room : ℕ) → KidsSpelled room → (x : Tree) → (body k t (children k t room) (node_of x).0).Fits (node_of x).1 → node_bytes room x ≡ tree_bytes k t x
   unfolding tree_bytes
   node_spelled room ih (leaf code vs) fits =
-      let own = (values k (pairs_of (declared t code.value))).spell vs in
-      ap (λ (bs : List ℕ). uleb.spell code ++ (own ++ bs)) (by (children_of (declared t code.value))) ∙ ap (λ (bs : List ℕ). uleb.spell code ++ bs) (append-nil own)
+      let own = (values k (declared_pairs (declared t code.value))).spell vs in
+      ap (λ (bs : List ℕ). uleb.spell code ++ (own ++ bs)) (by (declares_children (declared t code.value))) ∙ ap (λ (bs : List ℕ). uleb.spell code ++ bs) (append-nil own)
     where
       by : (b : Bool) → (optional b (children k t room)).spell None ≡ []
       by true = refl
       by false = refl
   node_spelled room ih (branch code vs ts w) fits =
-      let own = (values k (pairs_of (declared t code.value))).spell vs in
-      ap (λ (bs : List ℕ). uleb.spell code ++ (own ++ bs)) (by (children_of (declared t code.value)) fits.1) ∙ sym (append_assoc (uleb.spell code) own (forest_bytes k t ts ++ uleb.spell (zero_of w)))
+      let own = (values k (declared_pairs (declared t code.value))).spell vs in
+      ap (λ (bs : List ℕ). uleb.spell code ++ (own ++ bs)) (by (declares_children (declared t code.value)) fits.1) ∙ sym (append_assoc (uleb.spell code) own (forest_bytes k t ts ++ uleb.spell (zero_of w)))
     where
       by : (b : Bool) → (optional b (children k t room)).Fits (Some (ts, zero_of w)) → (optional b (children k t room)).spell (Some (ts, zero_of w)) ≡ forest_bytes k t ts ++ uleb.spell (zero_of w)
       by true h = ih ts (zero_of w) h

@@ -50,13 +50,13 @@ abbrev pub values : Ctx → List Pair → Part (List Attribute)
 values k [] = seen no_value nothing
 values k (p ∷ ps) = seen first_value (attribute k p.form.value p.constant then λ _. values k ps)
 
-abbrev pub pairs_of : Option Declaration → List Pair
-pairs_of None = []
-pairs_of (Some d) = d.pairs
+abbrev pub declared_pairs : Option Declaration → List Pair
+declared_pairs None = []
+declared_pairs (Some d) = d.pairs
 
-abbrev pub children_of : Option Declaration → Bool
-children_of None = false
-children_of (Some d) = d.children
+abbrev pub declares_children : Option Declaration → Bool
+declares_children None = false
+declares_children (Some d) = d.children
 
 abbrev pub unless_declared : Option Declaration → Option Reason
 unless_declared None = Some UnknownCode
@@ -74,7 +74,7 @@ bad_child t room code = if is_null code then None else (if room then unknown t c
 
 -- behind its code an entry is its values and, exactly where its declaration has them, its children
 abbrev pub body : Ctx → Table → Part (Forest × Unsigned) → Unsigned → Part Body
-body k t children code = values k (pairs_of (declared t code.value)) then λ _. optional (children_of (declared t code.value)) children
+body k t children code = values k (declared_pairs (declared t code.value)) then λ _. optional (declares_children (declared t code.value)) children
 
 -- Entries until a null, with room for so many levels. Without room the null alone is taken.
 unfoldable pub children : Ctx → Table → ℕ → Part (Forest × Unsigned)

@@ -2,13 +2,13 @@
 use Rattle.std.specs.Prelude.{◌≡◌, ◌<◌, ◌+◌, ◌^◌, List, [], length}
 use Rattle.std.specs.List.{AllByRecursion}
 use Rattle.dw_form.specs.Form.{IsContext}
-use Rattle.dw_form.specs.Kept.{StoredFits}
+use Rattle.dw_form.specs.StoredView.{StoredFits}
 use Rattle.dw_tree.specs.declared.tree.EntryTree.TheInside.{Inside}
 use Rattle.dw_tree.specs.Row.{Token, rows_of, rest_of, head_of, rows_bytes}
 use Rattle.dw_tree.specs.Steps.{TreeAt}
 use Rattle.dw_tree.specs.Flat.{tokens, RowFits}
-use Rattle.dw_tree.specs.Held.{held}
-use Rattle.dw_tree.specs.Sound.{HaveEnds, Stand}
+use Rattle.dw_tree.specs.PoolBytes.{held}
+use Rattle.dw_tree.specs.DraftInvariant.{HaveEnds, Stand}
 
 abbrev pub tokens_in : Inside → List Token
 tokens_in a = tokens a.table.value a.rows.items a.values.items a.pool.items

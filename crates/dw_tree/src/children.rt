@@ -2,7 +2,7 @@
 ghost use Rattle.std.specs.Iterator.{YieldsFirst, item_count};
 
 use crate::entry::EntryRef;
-use crate::row::Kind;
+use crate::row::RowKind;
 use crate::tree::EntryTree;
 use std::marker::Model;
 
@@ -42,7 +42,7 @@ impl<'a> Iterator for Children<'a> {
             return None;
         }
         let row = tree.rows[self.at];
-        if let Kind::Null = row.kind {
+        if let RowKind::Null = row.kind {
             return None;
         }
         let entry = EntryRef { tree, at: self.at };

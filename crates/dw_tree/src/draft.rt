@@ -8,12 +8,12 @@ ghost use Rattle.dw_abbrev.specs.PairView.{pair_of};
 ghost use Rattle.dw_abbrev.specs.Table.{declared, zero_of};
 ghost use Rattle.dw_tree.specs.Tree.{nesting, tree as part};
 ghost use Rattle.dw_tree.specs.Place.{nowhere};
-ghost use Rattle.dw_tree.specs.Held.{held_in};
-ghost use Rattle.dw_tree.specs.Standing.{is_bare};
-ghost use Rattle.dw_tree.specs.Settled.{settled_rows, settled_open, settled_reading};
-ghost use Rattle.dw_tree.specs.Steps.{begun_at, with_value, begun_in, begun_value, started, extended, ended, closed_at, undone, end_of, NextFits, next_bytes, next_pair, finished};
+ghost use Rattle.dw_tree.specs.PoolBytes.{held_in};
+ghost use Rattle.dw_tree.specs.Emptiness.{is_bare};
+ghost use Rattle.dw_tree.specs.Completed.{settled_rows, settled_open, settled_unfinished};
+ghost use Rattle.dw_tree.specs.Steps.{begun_at, with_value, partial_in, partial_attribute, started, extended, ended, closed_at, undone, end_of, NextFits, next_bytes, next_pair, finished};
 
-use crate::row::{Begun, Kind, Reading, Row};
+use crate::row::{PartialValue, RowKind, Unfinished, Row};
 use crate::tree::EntryTree;
 use dw_abbrev::{Pair, Table};
 use dw_form::{AttrValue, Ctx, Stored, Value};
@@ -39,8 +39,8 @@ pub struct TreeDraft {
     pool: Vec<u8>,
     /// The rows of the open entries, the outermost first.
     nested: Vec<usize>,
-    reading: Option<Reading>,
-    begun: Option<Begun>,
+    unfinished: Option<Unfinished>,
+    partial: Option<PartialValue>,
 }
 
 impl Model for TreeDraft {
@@ -63,7 +63,7 @@ impl TreeDraft {
     pub fn new(alloc: Global, context: Ctx, table: Rc<Table>, start: u64) -> TreeDraft
         requires context { IsContext context }
         requires near { start < 2 ^ 63 }
-        ensures { result ≡ record { context = context; table = table.value; start = start; place = record { spot = nowhere; reading = None } } }
+        ensures { result ≡ record { context = context; table = table.value; start = start; place = record { spot = nowhere; unfinished = None } } }
     {
         TreeDraft {
             context,
@@ -74,8 +74,8 @@ impl TreeDraft {
             values: Vec::new(alloc),
             pool: Vec::new(alloc),
             nested: Vec::new(alloc),
-            reading: None,
-            begun: None,
+            unfinished: None,
+            partial: None,
         }
     }
 
@@ -83,7 +83,7 @@ impl TreeDraft {
     pub fn begin(&mut self, code: Uleb) -> Result<(), AllocError>
         requires some { 0 < code.value }
         requires known { IsSome (declared self.old.table code.value) }
-        requires free { self.old.place.reading ≡ None }
+        requires free { self.old.place.unfinished ≡ None }
         requires level { length self.old.place.spot.above < nesting }
         requires near { end_of self.old + code.width < 2 ^ 63 }
         ensures ok { OnOk result (self.new ≡ begun_at (uleb_of code) self.old) }
@@ -92,7 +92,7 @@ impl TreeDraft {
         self.rows.reserve(1)?;
         self.nested.reserve(1)?;
         if let Some(decl) = self.table.get(code.value) {
-            let reading = Reading {
+            let unfinished = Unfinished {
                 code,
                 offset: self.here,
                 first: self.values.len(),
@@ -101,27 +101,27 @@ impl TreeDraft {
                 pool: self.pool.len(),
             };
             self.here += code.width as u64;
-            self.reading = settle(&mut self.rows, &mut self.nested, self.values.len(), reading);
+            self.unfinished = settle(&mut self.rows, &mut self.nested, self.values.len(), unfinished);
         }
         Ok(())
     }
 
-    /// The entry that is read is given its next value, which has `size` bytes. With its last value it
+    /// The unfinished entry is given its next value, which has `size` bytes. With its last value it
     /// is complete: closed where its declaration has no children, else open.
     pub fn value(&mut self, value: &AttrValue<'_>, size: u64) -> Result<(), AllocError>
-        requires between { begun_in self.old.place.reading ≡ None }
-        requires fits { NextFits self.old.context self.old.table self.old.place.reading (attribute_of value.now) }
-        requires size { size ≡ length (next_bytes self.old.context self.old.table self.old.place.reading (attribute_of value.now)) }
+        requires between { partial_in self.old.place.unfinished ≡ None }
+        requires fits { NextFits self.old.context self.old.table self.old.place.unfinished (attribute_of value.now) }
+        requires size { size ≡ length (next_bytes self.old.context self.old.table self.old.place.unfinished (attribute_of value.now)) }
         requires near { end_of self.old + size < 2 ^ 63 }
         ensures ok { OnOk result (self.new ≡ with_value (attribute_of value.now) self.old) }
         ensures err { OnErr result (self.new ≡ self.old) }
     {
         self.values.reserve(1)?;
-        if let Some(reading) = self.reading {
+        if let Some(unfinished) = self.unfinished {
             let stored = Stored::keep(value, &mut self.pool)?;
             self.values.push_reserved(stored);
             self.here += size;
-            self.reading = settle(&mut self.rows, &mut self.nested, self.values.len(), reading);
+            self.unfinished = settle(&mut self.rows, &mut self.nested, self.values.len(), unfinished);
         }
         Ok(())
     }
@@ -129,53 +129,53 @@ impl TreeDraft {
     /// A text, or a block whose length field has `width` bytes, begins as the next value of the
     /// entry that is read. Its bytes come with `bytes`.
     pub fn start(&mut self, via: Option<Uleb>, width: Option<u8>) -> Result<(), AllocError>
-        requires reading { IsSome self.old.place.reading }
-        requires between { begun_in self.old.place.reading ≡ None }
+        requires unfinished { IsSome self.old.place.unfinished }
+        requires between { partial_in self.old.place.unfinished ≡ None }
         ensures ok { OnOk result (self.new ≡ started (option_map uleb_of via) width self.old) }
         ensures err { OnErr result (self.new ≡ self.old) }
     {
         self.values.reserve(1)?;
         let pool = self.pool.len();
-        self.begun = Some(Begun { via, width, pool });
+        self.partial = Some(PartialValue { via, width, pool });
         Ok(())
     }
 
-    /// The text or block that has begun is given its next bytes.
+    /// The partial text or block is given its next bytes.
     pub fn bytes(&mut self, piece: &[u8]) -> Result<(), AllocError>
-        requires begun { IsSome (begun_in self.old.place.reading) }
+        requires partial { IsSome (partial_in self.old.place.unfinished) }
         ensures ok { OnOk result (self.new ≡ extended piece.now self.old) }
         ensures err { OnErr result (self.new ≡ self.old) }
     {
         self.pool.extend_from_slice(piece)
     }
 
-    /// The text or block that has begun has all its bytes. As the next value of the entry that is
-    /// read it has `size` bytes, those of its form, its length and its end included.
+    /// The partial text or block has all its bytes. As the next value of the unfinished entry
+    ///  it has `size` bytes, those of its form, its length and its end included.
     pub fn end_value(&mut self, size: u64)
-        requires fits { IfSome (begun_in self.old.place.reading) (λ b. NextFits self.old.context self.old.table self.old.place.reading (begun_value b)) }
-        requires size { IfSome (begun_in self.old.place.reading) (λ b. size ≡ length (next_bytes self.old.context self.old.table self.old.place.reading (begun_value b))) }
+        requires fits { IfSome (partial_in self.old.place.unfinished) (λ b. NextFits self.old.context self.old.table self.old.place.unfinished (partial_attribute b)) }
+        requires size { IfSome (partial_in self.old.place.unfinished) (λ b. size ≡ length (next_bytes self.old.context self.old.table self.old.place.unfinished (partial_attribute b))) }
         requires near { end_of self.old + size < 2 ^ 63 }
         ensures { self.new ≡ ended self.old }
     {
-        if let (Some(reading), Some(begun)) = (self.reading, self.begun) {
-            let stored = Stored::of_end(begun.via, begun.width, begun.pool, &self.pool);
+        if let (Some(unfinished), Some(partial)) = (self.unfinished, self.partial) {
+            let stored = Stored::of_end(partial.via, partial.width, partial.pool, &self.pool);
             self.values.push_reserved(stored);
             self.here += size;
-            self.begun = None;
-            self.reading = settle(&mut self.rows, &mut self.nested, self.values.len(), reading);
+            self.partial = None;
+            self.unfinished = settle(&mut self.rows, &mut self.nested, self.values.len(), unfinished);
         }
     }
 
-    /// The entry that is read is taken back, with the values that it was given.
+    /// The unfinished entry is taken back, with the values that it was given.
     pub fn undo(&mut self)
         ensures { self.new ≡ undone self.old }
     {
-        if let Some(reading) = self.reading {
-            self.values.truncate(reading.first);
-            self.pool.truncate(reading.pool);
-            self.here = reading.offset;
-            self.reading = None;
-            self.begun = None;
+        if let Some(unfinished) = self.unfinished {
+            self.values.truncate(unfinished.first);
+            self.pool.truncate(unfinished.pool);
+            self.here = unfinished.offset;
+            self.unfinished = None;
+            self.partial = None;
         }
     }
 
@@ -183,7 +183,7 @@ impl TreeDraft {
     pub fn close(&mut self, null: Uleb) -> Result<(), AllocError>
         requires zero { null.value ≡ 0 }
         requires inside { self.old.place.spot.above ≢ [] }
-        requires free { self.old.place.reading ≡ None }
+        requires free { self.old.place.unfinished ≡ None }
         requires near { end_of self.old + null.width < 2 ^ 63 }
         ensures ok { OnOk result (self.new ≡ closed_at null.width self.old) }
         ensures err { OnErr result (self.new ≡ self.old) }
@@ -200,34 +200,34 @@ impl TreeDraft {
                 first: self.values.len(),
                 code: null,
                 depth,
-                kind: Kind::Null,
+                kind: RowKind::Null,
             });
             self.here += null.width as u64;
         }
         Ok(())
     }
 
-    /// Where the next byte stands, counted from the unit's first byte, the bytes of a value that has
-    /// begun not counted.
+    /// Where the next byte stands, counted from the unit's first byte, the bytes of a partial
+    /// value not counted.
     pub fn end(&self) -> u64
         ensures { result ≡ end_of self.now }
     {
         self.here
     }
 
-    /// The text or block that has begun, with its bytes so far.
-    pub fn begun(&self) -> Option<AttrValue<'_>>
-        ensures { option_map attribute_of result ≡ option_map begun_value (begun_in self.now.place.reading) }
+    /// The partial text or block, with its bytes so far.
+    pub fn partial_value(&self) -> Option<AttrValue<'_>>
+        ensures { option_map attribute_of result ≡ option_map partial_attribute (partial_in self.now.place.unfinished) }
     {
-        match self.begun {
-            Some(begun) => {
-                let bytes = &self.pool[begun.pool..];
-                let value = match begun.width {
+        match self.partial {
+            Some(partial) => {
+                let bytes = &self.pool[partial.pool..];
+                let value = match partial.width {
                     Some(width) => Value::Block { width, bytes },
                     None => Value::Text(bytes),
                 };
                 Some(AttrValue {
-                    via: begun.via,
+                    via: partial.via,
                     value,
                 })
             }
@@ -235,7 +235,7 @@ impl TreeDraft {
         }
     }
 
-    /// The bytes of its texts and blocks, those of one that has begun included, in the order in which
+    /// The bytes of its texts and blocks, those of a partial one included, in the order in which
     /// they were given. It keeps no others.
     pub fn content(&self) -> &[u8]
         ensures { result.now ≡ held_in self.now.place }
@@ -250,15 +250,15 @@ impl TreeDraft {
         &self.table
     }
 
-    /// The pair whose value the entry that is read is given next (section 7.5.3). None exactly where
+    /// The pair whose value the unfinished entry is given next (section 7.5.3). None exactly where
     /// no entry is read.
     pub fn next_pair(&self) -> Option<Pair>
-        ensures pair { option_map pair_of result ≡ next_pair self.now.table self.now.place.reading }
-        ensures reading { is_some result ≡ is_some self.now.place.reading }
+        ensures pair { option_map pair_of result ≡ next_pair self.now.table self.now.place.unfinished }
+        ensures unfinished { is_some result ≡ is_some self.now.place.unfinished }
     {
-        let reading = self.reading?;
-        let decl = self.table.get(reading.code.value)?;
-        let given = self.values.len() - reading.first;
+        let unfinished = self.unfinished?;
+        let decl = self.table.get(unfinished.code.value)?;
+        let given = self.values.len() - unfinished.first;
         Some(decl.pairs()[given])
     }
 
@@ -269,7 +269,7 @@ impl TreeDraft {
         self.nested.len()
     }
 
-    /// Whether no entry was begun, besides one whose values aren't complete.
+    /// Whether there is no entry, besides an unfinished one.
     pub fn is_empty(&self) -> bool
         ensures { result ≡ is_bare self.now.place.spot }
     {
@@ -292,8 +292,8 @@ impl TreeDraft {
             values,
             pool,
             nested: _,
-            reading: _,
-            begun: _,
+            unfinished: _,
+            partial: _,
         } = self;
         EntryTree {
             context,
@@ -312,34 +312,34 @@ fn settle(
     rows: &mut Vec<Row>,
     nested: &mut Vec<usize>,
     values: usize,
-    reading: Reading,
-) -> Option<Reading>
+    unfinished: Unfinished,
+) -> Option<Unfinished>
     requires row { vec_len rows.old < vec_capacity rows.old }
     requires place { vec_len nested.old < vec_capacity nested.old }
-    requires first { reading.first ≤ values }
+    requires first { unfinished.first ≤ values }
     requires level { vec_len nested.old < 2 ^ 15 }
-    ensures rows { rows.new.items ≡ settled_rows reading values (vec_len nested.old + 1) rows.old.items }
-    ensures nested { nested.new.items ≡ settled_open reading values (vec_len rows.old) nested.old.items }
-    ensures reading { result ≡ settled_reading reading values }
+    ensures rows { rows.new.items ≡ settled_rows unfinished values (vec_len nested.old + 1) rows.old.items }
+    ensures nested { nested.new.items ≡ settled_open unfinished values (vec_len rows.old) nested.old.items }
+    ensures unfinished { result ≡ settled_unfinished unfinished values }
     ensures room { IsSome result → (vec_len rows.new < vec_capacity rows.new) }
     ensures open_room { IsSome result → (vec_len nested.new < vec_capacity nested.new) }
 {
-    if values - reading.first != reading.count {
-        return Some(reading);
+    if values - unfinished.first != unfinished.count {
+        return Some(unfinished);
     }
     let at = rows.len();
     let depth = nested.len() as u16 + 1;
-    let (kind, end) = if reading.children {
+    let (kind, end) = if unfinished.children {
         nested.push_reserved(at);
-        (Kind::Branch, 0)
+        (RowKind::Branch, 0)
     } else {
-        (Kind::Leaf, at + 1)
+        (RowKind::Leaf, at + 1)
     };
     rows.push_reserved(Row {
-        offset: reading.offset,
+        offset: unfinished.offset,
         end,
-        first: reading.first,
-        code: reading.code,
+        first: unfinished.first,
+        code: unfinished.code,
         depth,
         kind,
     });

@@ -6,7 +6,7 @@ ghost use Rattle.dw_tree.specs.Lent.{attr_of, attributes_of, first_named, code_o
 
 use crate::attrs::{AttrRef, Attrs};
 use crate::children::Children;
-use crate::row::Kind;
+use crate::row::RowKind;
 use crate::tree::EntryTree;
 use dw_form::Stored;
 use dw_leb::Uleb;
@@ -117,7 +117,7 @@ impl<'a> EntryRef<'a> {
     {
         let tree = self.tree;
         let at = match tree.rows[self.at].kind {
-            Kind::Branch => self.at + 1,
+            RowKind::Branch => self.at + 1,
             _ => tree.rows.len(),
         };
         Children { tree, at }

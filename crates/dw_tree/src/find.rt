@@ -5,7 +5,7 @@ ghost use Rattle.dw_tree.specs.Flat.{OffsetsGrow, NoneBegins};
 ghost use Rattle.dw_tree.specs.Lent.{entries_of, find_at};
 
 use crate::entry::EntryRef;
-use crate::row::{Kind, Row};
+use crate::row::{RowKind, Row};
 use crate::tree::EntryTree;
 
 impl EntryTree {
@@ -15,7 +15,7 @@ impl EntryTree {
         ensures { result ≡ find_at offset (entries_of self.now) }
     {
         let at = row_at(&self.rows, offset)?;
-        if let Kind::Null = self.rows[at].kind {
+        if let RowKind::Null = self.rows[at].kind {
             return None;
         }
         Some(EntryRef { tree: self, at })

@@ -6,7 +6,7 @@ ghost use Rattle.dw_tree.specs.Flat.{IsEntry, IsNull};
 ghost use Rattle.dw_tree.specs.Lent.{entries_of};
 
 use crate::entry::EntryRef;
-use crate::row::{Kind, Row};
+use crate::row::{RowKind, Row};
 use crate::tree::EntryTree;
 use std::marker::Model;
 
@@ -53,7 +53,7 @@ fn next_entry(rows: &[Row], from: usize) -> usize
     let mut at = from;
     while at < rows.len() {
         match rows[at].kind {
-            Kind::Null => at += 1,
+            RowKind::Null => at += 1,
             _ => break,
         }
     }

@@ -1,10 +1,10 @@
-//! The rows of a tree, and the entry that is being read.
+//! The rows of a tree, the unfinished entry, and a partial value of it.
 
 use dw_leb::Uleb;
 
 /// What a row is.
 #[derive(Clone, Copy, Debug, PartialEq, Eq)]
-pub(crate) enum Kind {
+pub(crate) enum RowKind {
     /// An entry without children.
     Leaf,
     /// An entry whose children follow, up to their null.
@@ -26,12 +26,12 @@ pub(crate) struct Row {
     pub(crate) code: Uleb,
     /// The level: 1 of the root.
     pub(crate) depth: u16,
-    pub(crate) kind: Kind,
+    pub(crate) kind: RowKind,
 }
 
 /// A text or block that comes in pieces. Its bytes so far are the last of the pool.
 #[derive(Clone, Copy, Debug)]
-pub(crate) struct Begun {
+pub(crate) struct PartialValue {
     /// The form that an indirect value names.
     pub(crate) via: Option<Uleb>,
     /// The width of a block's length field; None of a text.
@@ -42,7 +42,7 @@ pub(crate) struct Begun {
 
 /// An entry whose values aren't complete. Its row is no row yet.
 #[derive(Clone, Copy, Debug)]
-pub(crate) struct Reading {
+pub(crate) struct Unfinished {
     pub(crate) code: Uleb,
     /// Where its code begins.
     pub(crate) offset: u64,

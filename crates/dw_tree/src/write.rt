@@ -1,19 +1,19 @@
 //! Writing a tree.
 ghost use Rattle.std.specs.Prelude.{◌≡◌, ◌-◌, length, map, None};
 ghost use Rattle.std.specs.List.{AllByRecursion};
-ghost use Rattle.dw_leb.specs.Watch.{inner_of, fault_of, told_by_write, Wrote};
+ghost use Rattle.dw_leb.specs.Watch.{inner_of, fault_of, writer_fault, Wrote};
 ghost use Rattle.dw_leb.specs.Number.{uleb};
 ghost use Rattle.dw_abbrev.specs.PairView.{pair_of};
 ghost use Rattle.dw_abbrev.specs.Table.{zero_of};
 ghost use Rattle.dw_form.specs.Form.{IsContext};
-ghost use Rattle.dw_form.specs.Kept.{StoredFits, content};
+ghost use Rattle.dw_form.specs.StoredView.{StoredFits, content};
 ghost use Rattle.dw_tree.specs.Tree.{values as value_parts, tree as part, nesting};
 ghost use Rattle.dw_tree.specs.Row.{row_bytes};
 ghost use Rattle.dw_tree.specs.Flat.{contents, value_part, token_of, RowFits};
-ghost use Rattle.dw_tree.specs.Sound.{TokenFits};
+ghost use Rattle.dw_tree.specs.DraftInvariant.{TokenFits};
 
 use crate::entry::span;
-use crate::row::{Kind, Row};
+use crate::row::{RowKind, Row};
 use crate::tree::EntryTree;
 use dw_abbrev::{Pair, Table};
 use dw_form::{Ctx, Stored, write_value};
@@ -29,7 +29,7 @@ impl EntryTree {
         requires { fault_of writer.old ≡ None }
         ensures written { Wrote (W.contents (inner_of writer.old)) (W.contents (inner_of writer.new)) ((part self.now.context self.now.table (nesting - 1)).spell self.now.root) result }
         ensures fits { (part self.now.context self.now.table (nesting - 1)).Fits self.now.root }
-        ensures fault { fault_of writer.new ≡ told_by_write result }
+        ensures fault { fault_of writer.new ≡ writer_fault result }
     {
         let mut left = self.rows.as_slice();
         while let Some((row, others)) = left.split_first() {
@@ -62,9 +62,9 @@ fn write_row<W: Write>(
     requires fits { TokenFits ctx table.now (token_of table.now values.now pool.now row) }
     requires clear { fault_of writer.old ≡ None }
     ensures written { Wrote (W.contents (inner_of writer.old)) (W.contents (inner_of writer.new)) (row_bytes ctx table.now (token_of table.now values.now pool.now row)) result }
-    ensures fault { fault_of writer.new ≡ told_by_write result }
+    ensures fault { fault_of writer.new ≡ writer_fault result }
 {
-    if let Kind::Null = row.kind {
+    if let RowKind::Null = row.kind {
         return write_null(row.code.width, writer);
     }
     write_all(writer, row.code.bytes().as_slice())?;
@@ -83,7 +83,7 @@ pub fn write_null<W: Write>(width: u8, writer: &mut Watched<W>) -> Result<(), Wr
     requires null { uleb.Fits (zero_of width) }
     requires clear { fault_of writer.old ≡ None }
     ensures written { Wrote (W.contents (inner_of writer.old)) (W.contents (inner_of writer.new)) (uleb.spell (zero_of width)) result }
-    ensures fault { fault_of writer.new ≡ told_by_write result }
+    ensures fault { fault_of writer.new ≡ writer_fault result }
 {
     match Uleb::with_width(0, width) {
         Some(null) => write_all(writer, null.bytes().as_slice()),
@@ -104,7 +104,7 @@ fn write_values<W: Write>(
     requires fits { (value_parts ctx (map pair_of pairs.now)).Fits (contents stored.now pool.now) }
     requires clear { fault_of writer.old ≡ None }
     ensures written { Wrote (W.contents (inner_of writer.old)) (W.contents (inner_of writer.new)) ((value_parts ctx (map pair_of pairs.now)).spell (contents stored.now pool.now)) result }
-    ensures fault { fault_of writer.new ≡ told_by_write result }
+    ensures fault { fault_of writer.new ≡ writer_fault result }
 {
     let mut pairs_left = pairs;
     let mut left = stored;
@@ -134,7 +134,7 @@ fn write_one<W: Write>(
     requires fits { (value_part ctx pair.now).Fits (content pool.now stored.now) }
     requires clear { fault_of writer.old ≡ None }
     ensures written { Wrote (W.contents (inner_of writer.old)) (W.contents (inner_of writer.new)) ((value_part ctx pair.now).spell (content pool.now stored.now)) result }
-    ensures fault { fault_of writer.new ≡ told_by_write result }
+    ensures fault { fault_of writer.new ≡ writer_fault result }
 {
     write_value(ctx, pair.form.value, &stored.lend(pool), writer)
 }

@@ -9,7 +9,7 @@ use Rattle.dw_form.specs.declared.shape.Ctx.{Ctx}
 use Rattle.dw_form.specs.Form.{Attribute}
 use Rattle.dw_form.specs.ReadForm.{read_attribute}
 use Rattle.dw_abbrev.specs.Table.{Pair, Declaration, Table, declared, is_null}
-use Rattle.dw_tree.specs.Tree.{Forest, none, more, Body, pairs_of, children_of}
+use Rattle.dw_tree.specs.Tree.{Forest, none, more, Body, declared_pairs, declares_children}
 use Rattle.dw_tree.specs.ReadTree.{node_from, nodes_from, read_values, read_body, read_children}
 use Rattle.dw_tree.specs.Row.{push}
 use Rattle.dw_tree.specs.Place.{Frame, Spot}
@@ -38,19 +38,19 @@ values_long k (p ∷ ps) bytes lim vs n e = first_by n (read_attribute k p.form.
 -- under the pairs of the code's declaration these values are read, one for each
 pub record ValuesRead (k : Ctx) (t : Table) (code : Unsigned) (d : Declaration) (bytes : List ℕ) (lim : ℕ) (vs : List Attribute) (n : ℕ) : Type 0 where
   pub known : declared t code.value ≡ Some d
-  pub read : read_values k (pairs_of (declared t code.value)) bytes lim ≡ Found vs n
+  pub read : read_values k (declared_pairs (declared t code.value)) bytes lim ≡ Found vs n
   pub long : length vs ≡ length d.pairs
 
 -- the pairs of a declaration, as they are lent of it
 pub under : (k : Ctx) (t : Table) (code : Unsigned) (d : Declaration) (ps : List Pair) (bytes : List ℕ) (lim : ℕ) (o : Outcome (List Attribute)) → Some d ≡ declared t code.value → ps ≡ d.pairs
-    → read_values k ps bytes lim ≡ o → read_values k (pairs_of (declared t code.value)) bytes lim ≡ o
-under k t code d ps bytes lim o is pairs e = ap (λ (qs : List Pair). read_values k qs bytes lim) (sym (pairs ∙ ap pairs_of is)) ∙ e
+    → read_values k ps bytes lim ≡ o → read_values k (declared_pairs (declared t code.value)) bytes lim ≡ o
+under k t code d ps bytes lim o is pairs e = ap (λ (qs : List Pair). read_values k qs bytes lim) (sym (pairs ∙ ap declared_pairs is)) ∙ e
 
 pub values_read : (k : Ctx) (t : Table) (code : Unsigned) (d : Declaration) (ps : List Pair) (bytes : List ℕ) (lim : ℕ) (vs : List Attribute) (n : ℕ) → Some d ≡ declared t code.value → ps ≡ d.pairs
     → read_values k ps bytes lim ≡ Found vs n → ValuesRead k t code d bytes lim vs n
 values_read k t code d ps bytes lim vs n is pairs e =
     let read = under k t code d ps bytes lim (Found vs n) is pairs e in
-    record { known = sym is; read = read; long = values_long k (pairs_of (declared t code.value)) bytes lim vs n read ∙ ap (λ (o : Option Declaration). length (pairs_of o)) (sym is) }
+    record { known = sym is; read = read; long = values_long k (declared_pairs (declared t code.value)) bytes lim vs n read ∙ ap (λ (o : Option Declaration). length (declared_pairs o)) (sym is) }
 
 -- ---- nodes in a row
 
@@ -115,7 +115,7 @@ module _ (k : Ctx) (t : Table) (room : ℕ) (b : List ℕ) (at lim here : ℕ) (
       kids = read_children k t (room - 1)
 
       abbrev values_here : Outcome (List Attribute)
-      values_here = read_values k (pairs_of (declared t code.value)) (drop place b) (lim - place)
+      values_here = read_values k (declared_pairs (declared t code.value)) (drop place b) (lim - place)
 
       body_here : body_reader k t room code (drop code.width (drop size bytes)) (lim - at - size - code.width) ≡ read_body k t kids code (drop place b) (lim - place)
       body_here =
@@ -126,16 +126,16 @@ module _ (k : Ctx) (t : Table) (room : ℕ) (b : List ℕ) (at lim here : ℕ) (
       pub values_break : (own : ℕ) (reason : Reason) → values_here ≡ Broken own reason → chain ≡ Broken (size + (code.width + own)) reason
       values_break own reason e =
           by_items _ (body_breaks (code_reader t room) is_null (body_reader k t room) bytes (lim - at) items size s code code.width own reason head_is some
-          (body_here ∙ ap (λ (o : Outcome (List Attribute)). behind o (λ _. read_optional (children_of (declared t code.value)) kids) (drop place b) (lim - place)) e))
+          (body_here ∙ ap (λ (o : Outcome (List Attribute)). behind o (λ _. read_optional (declares_children (declared t code.value)) kids) (drop place b) (lim - place)) e))
 
       module _ (vs : List Attribute) (n : ℕ) (read : values_here ≡ Found vs n) where
         abbrev next : ℕ
         next = place + n
 
-        after_values : read_body k t kids code (drop place b) (lim - place) ≡ paired vs n (read_optional (children_of (declared t code.value)) kids (drop next b) (lim - next))
+        after_values : read_body k t kids code (drop place b) (lim - place) ≡ paired vs n (read_optional (declares_children (declared t code.value)) kids (drop next b) (lim - next))
         after_values =
-            ap (λ (o : Outcome (List Attribute)). behind o (λ _. read_optional (children_of (declared t code.value)) kids) (drop place b) (lim - place)) read
-            ∙ ap₂ (λ (bs : List ℕ) (m : ℕ). paired vs n (read_optional (children_of (declared t code.value)) kids bs m)) (drop-drop n place b) (omega arith)
+            ap (λ (o : Outcome (List Attribute)). behind o (λ _. read_optional (declares_children (declared t code.value)) kids) (drop place b) (lim - place)) read
+            ∙ ap₂ (λ (bs : List ℕ) (m : ℕ). paired vs n (read_optional (declares_children (declared t code.value)) kids bs m)) (drop-drop n place b) (omega arith)
 
         one_more : (x : Body) (own end : ℕ) → body_reader k t room code (drop code.width (drop size bytes)) (lim - at - size - code.width) ≡ Found x own → 1 ≤ code.width → end ≡ place + own → end ≤ length b
             → ReadSoFar (code_reader t room) is_null (body_reader k t room) bytes (lim - at) (items ++ (code, x) ∷ []) (end - at)
@@ -146,20 +146,20 @@ module _ (k : Ctx) (t : Table) (room : ℕ) (b : List ℕ) (at lim here : ℕ) (
             (one_read (code_reader t room) is_null (body_reader k t room) bytes (lim - at) items size s code x code.width own head_is some e (omega (arith, w)) (omega (arith, is, within, long, forward)))
 
         -- an entry without children
-        pub leaf_read : children_of (declared t code.value) ≡ false → 1 ≤ code.width → next ≤ length b
+        pub leaf_read : declares_children (declared t code.value) ≡ false → 1 ≤ code.width → next ≤ length b
             → ReadSoFar (code_reader t room) is_null (body_reader k t room) bytes (lim - at) (items ++ (code, (vs, None)) ∷ []) (next - at)
         leaf_read e w within =
             one_more (vs, None) n next
             (body_here ∙ (after_values ∙ (ap (λ (c : Bool). paired vs n (read_optional c kids (drop next b) (lim - next))) e ∙ ap (λ (m : ℕ). Found (vs, None) m) (omega arith)))) w refl within
 
         -- children that break
-        pub kids_break : children_of (declared t code.value) ≡ true → (own : ℕ) (reason : Reason) → kids (drop next b) (lim - next) ≡ Broken own reason → chain ≡ Broken (size + (code.width + (n + own))) reason
+        pub kids_break : declares_children (declared t code.value) ≡ true → (own : ℕ) (reason : Reason) → kids (drop next b) (lim - next) ≡ Broken own reason → chain ≡ Broken (size + (code.width + (n + own))) reason
         kids_break e own reason h =
             by_items _ (body_breaks (code_reader t room) is_null (body_reader k t room) bytes (lim - at) items size s code code.width (n + own) reason head_is some
             (body_here ∙ (after_values ∙ (ap (λ (c : Bool). paired vs n (read_optional c kids (drop next b) (lim - next))) e ∙ ap (λ (o : Outcome (Forest × Unsigned)). paired vs n (mapped (λ a. Some a) o)) h))))
 
         -- an entry with its children
-        pub branch_read : children_of (declared t code.value) ≡ true → (ts : Forest) (null : Unsigned) (m end : ℕ) → kids (drop next b) (lim - next) ≡ Found (ts, null) m → 1 ≤ code.width → end ≡ next + m → end ≤ length b
+        pub branch_read : declares_children (declared t code.value) ≡ true → (ts : Forest) (null : Unsigned) (m end : ℕ) → kids (drop next b) (lim - next) ≡ Found (ts, null) m → 1 ≤ code.width → end ≡ next + m → end ≤ length b
             → ReadSoFar (code_reader t room) is_null (body_reader k t room) bytes (lim - at) (items ++ (code, (vs, Some (ts, null))) ∷ []) (end - at)
         branch_read e ts null m end h w is within =
             one_more (vs, Some (ts, null)) (n + m) end
@@ -168,7 +168,7 @@ module _ (k : Ctx) (t : Table) (room : ℕ) (b : List ℕ) (at lim here : ℕ) (
 
 -- ---- what a draft becomes
 
-module _ (old draft : Growing) (above : List Frame) (items : List (Unsigned × Body)) (draft_is : draft ≡ placed old (record { spot = record { above = above; left = nodes_from items }; reading = None }))
+module _ (old draft : Growing) (above : List Frame) (items : List (Unsigned × Body)) (draft_is : draft ≡ placed old (record { spot = record { above = above; left = nodes_from items }; unfinished = None }))
     (code : Unsigned) (vs : List Attribute) (d : Declaration) (known : declared old.table code.value ≡ Some d) (whole : length vs ≡ length d.pairs) (new : Growing) (new_is : new ≡ placed draft (settle draft.table draft.place.spot code vs)) where
   abbrev spot : Spot
   spot = record { above = above; left = nodes_from items }
@@ -176,21 +176,21 @@ module _ (old draft : Growing) (above : List Frame) (items : List (Unsigned × B
   settled_is : new ≡ placed old (settle old.table spot code vs)
   settled_is = new_is ∙ ap (λ (g : Growing). placed g (settle g.table g.place.spot code vs)) draft_is
 
-  pub leaf_put : d.children ≡ false → new ≡ placed old (record { spot = record { above = above; left = nodes_from (items ++ (code, (vs, None)) ∷ []) }; reading = None })
+  pub leaf_put : d.children ≡ false → new ≡ placed old (record { spot = record { above = above; left = nodes_from (items ++ (code, (vs, None)) ∷ []) }; unfinished = None })
   leaf_put e =
       settled_is
       ∙ (ap (placed old) (settle_whole old.table spot code vs d known whole ∙ ap (λ (c : Bool). Rattle.dw_tree.specs.Steps.settled true c spot code vs) e)
-      ∙ ap (λ (ts : Forest). placed old (record { spot = record { above = above; left = ts }; reading = None })) (nodes_push items (code, (vs, None))))
+      ∙ ap (λ (ts : Forest). placed old (record { spot = record { above = above; left = ts }; unfinished = None })) (nodes_push items (code, (vs, None))))
 
   abbrev inner : List Frame
   inner = record { code = code; values = vs; left = nodes_from items } ∷ above
 
-  pub entered : d.children ≡ true → new ≡ placed old (record { spot = record { above = inner; left = none }; reading = None })
+  pub entered : d.children ≡ true → new ≡ placed old (record { spot = record { above = inner; left = none }; unfinished = None })
   entered e = settled_is ∙ ap (placed old) (settle_whole old.table spot code vs d known whole ∙ ap (λ (c : Bool). Rattle.dw_tree.specs.Steps.settled true c spot code vs) e)
 
   -- with its children put, and closed
-  pub branch_put : d.children ≡ true → (ts : Forest) (null : Unsigned) (filled : Growing) → filled ≡ placed new (record { spot = record { above = new.place.spot.above; left = ts }; reading = None })
-      → closed_at null.width filled ≡ placed old (record { spot = record { above = above; left = nodes_from (items ++ (code, (vs, Some (ts, null))) ∷ []) }; reading = None })
+  pub branch_put : d.children ≡ true → (ts : Forest) (null : Unsigned) (filled : Growing) → filled ≡ placed new (record { spot = record { above = new.place.spot.above; left = ts }; unfinished = None })
+      → closed_at null.width filled ≡ placed old (record { spot = record { above = above; left = nodes_from (items ++ (code, (vs, Some (ts, null))) ∷ []) }; unfinished = None })
   branch_put e ts null filled filled_is =
-      ap (closed_at null.width) (filled_is ∙ ap (λ (g : Growing). placed g (record { spot = record { above = g.place.spot.above; left = ts }; reading = None })) (entered e))
-      ∙ ap (λ (us : Forest). placed old (record { spot = record { above = above; left = us }; reading = None })) (nodes_push items (code, (vs, Some (ts, null))))
+      ap (closed_at null.width) (filled_is ∙ ap (λ (g : Growing). placed g (record { spot = record { above = g.place.spot.above; left = ts }; unfinished = None })) (entered e))
+      ∙ ap (λ (us : Forest). placed old (record { spot = record { above = above; left = us }; unfinished = None })) (nodes_push items (code, (vs, Some (ts, null))))

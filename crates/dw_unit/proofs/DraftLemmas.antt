@@ -14,18 +14,18 @@ use Rattle.dw_form.specs.Pieces.{HasSpelling, spelling, has_spelling}
 use Rattle.dw_abbrev.specs.Build.{is_width}
 use Rattle.dw_abbrev.specs.Table.{Pair, Declaration, Table, declared, zero_of}
 use Rattle.dw_form.specs.declared.shape.Ctx.{Ctx}
-use Rattle.dw_tree.specs.Tree.{Tree, Forest, none, more, leaf, branch, pairs_of, nulls, AreNulls, nesting, tree as part}
+use Rattle.dw_tree.specs.Tree.{Tree, Forest, none, more, leaf, branch, declared_pairs, nulls, AreNulls, nesting, tree as part}
 use Rattle.dw_tree.specs.Row.{push}
-use Rattle.dw_tree.specs.Place.{Frame, Spot, leave_from, Begun, Unread, Place}
-use Rattle.dw_tree.specs.Steps.{Growing, TreeAt, settled, settle_by, settle, begun_at, value_at, with_value, begun_in, begun_value, ended_by, ended as ended_at, closed_at, undone as undone_at, end_of, finished as finished_at, whole_tree, FirstsFit, NextFits, next_pair}
+use Rattle.dw_tree.specs.Place.{Frame, Spot, leave_from, PartialValue, UnfinishedEntry, Place}
+use Rattle.dw_tree.specs.Steps.{Growing, TreeAt, settled, settle_by, settle, begun_at, value_at, with_value, partial_in, partial_attribute, ended_by, ended as ended_at, closed_at, undone as undone_at, end_of, finished as finished_at, whole_tree, FirstsFit, NextFits, next_pair}
 use Rattle.dw_tree.specs.Next.{next_is}
 use Rattle.dw_tree.specs.Ends.{begun_end, value_end, closed_end}
 use Rattle.dw_header.specs.Header.{fields, fields_of, context_of}
-use Rattle.dw_header.specs.HeaderLemmas.{fields_fit}
+use Rattle.dw_header.specs.FittingHeaders.{fields_fit}
 use Rattle.dw_unit.specs.Unit.{WholeUnit, body_bytes}
 use Rattle.dw_unit.specs.UnitView.{IsUnit}
-use Rattle.dw_header.specs.Headed.{header_size}
-use Rattle.dw_unit.specs.Draft.{Drafted, tree_in, drafted_size, with_place, begun, given, closed, padded, undone, size_limit, passes_limit, IsOnlyRoot, value_bytes, begun_of, BegunFits, AtMostOne, NoneBefore, HasOneRoot, IsUnread, IsDrafted}
+use Rattle.dw_header.specs.HeaderPlace.{header_size}
+use Rattle.dw_unit.specs.Draft.{Drafted, tree_in, drafted_size, with_place, begun, given, closed, padded, undone, size_limit, passes_limit, IsOnlyRoot, value_bytes, partial_of, PartialFits, AtMostOne, NoneBefore, HasOneRoot, IsUnfinished, IsDrafted}
 use Rattle.dw_unit.proofs.EntryLemmas.{prefix_more}
 
 -- ---- calls that may fail
@@ -130,9 +130,9 @@ add_one [] (more y ts) x only h = absurd (bare (only refl))
 add_one (f ∷ fs) ts x only h = h
 
 -- an entry that is given these values so far, where one can stand
-module _ (k : Ctx) (t : Table) (s : Spot) (code : Unsigned) (vs : List Attribute) (known : IsSome (declared t code.value)) (only : IsOnlyRoot s) (prefix : FirstsFit k (pairs_of (declared t code.value)) vs) (one : HasOneRoot s.above s.left) where
+module _ (k : Ctx) (t : Table) (s : Spot) (code : Unsigned) (vs : List Attribute) (known : IsSome (declared t code.value)) (only : IsOnlyRoot s) (prefix : FirstsFit k (declared_pairs (declared t code.value)) vs) (one : HasOneRoot s.above s.left) where
   abbrev Kept : Place → Type 0
-  Kept p = HasOneRoot p.spot.above p.spot.left × IfSome p.reading (IsUnread k t p.spot)
+  Kept p = HasOneRoot p.spot.above p.spot.left × IfSome p.unfinished (IsUnfinished k t p.spot)
 
   settled_kept : (done children : Bool) → Kept (settled done children s code vs)
   settled_kept true true = (enter_one s.above s.left only one, tt)
@@ -148,43 +148,43 @@ module _ (k : Ctx) (t : Table) (s : Spot) (code : Unsigned) (vs : List Attribute
 
 -- a value changes nothing of a tree but its place
 pub value_place : (d : Drafted) (v : Attribute) → with_value v (tree_in d) ≡ tree_in (given v d)
-value_place d v = by d.place.reading
+value_place d v = by d.place.unfinished
   where
-    by : (o : Option Unread) → value_at v (tree_in d) o ≡ tree_in (with_place (value_at v (tree_in d) o).place d)
+    by : (o : Option UnfinishedEntry) → value_at v (tree_in d) o ≡ tree_in (with_place (value_at v (tree_in d) o).place d)
     by None = refl
     by (Some r) = refl
 
 -- the next value as it is measured by its pair: it has a spelling, of as many bytes
-pub next_sized : (d : Drafted) (k : Ctx) (v : Attribute) (p : Pair) → k ≡ context_of d.header → next_pair d.table d.place.reading ≡ Some p → NextFits (context_of d.header) d.table d.place.reading v
+pub next_sized : (d : Drafted) (k : Ctx) (v : Attribute) (p : Pair) → k ≡ context_of d.header → next_pair d.table d.place.unfinished ≡ Some p → NextFits (context_of d.header) d.table d.place.unfinished v
     → HasSpelling k p.form.value v × (length (spelling k p.form.value v) ≡ length (value_bytes d v))
 next_sized d k v p same pair fits =
-    let w = next_is (context_of d.header) v d.table d.place.reading p pair fits in
+    let w = next_is (context_of d.header) v d.table d.place.unfinished p pair fits in
     let whole = has_spelling (context_of d.header) p.form.value p.constant v w.0 in
     subst (λ (x : Ctx). HasSpelling x p.form.value v × (length (spelling x p.form.value v) ≡ length (value_bytes d v))) (sym same) (whole.0, ap length (whole.1 ∙ sym w.1))
 
--- a text or block that has begun is given as a value
+-- a partial text or block is given as a value
 pub begun_some : {X Y : Type 0} (f : X → Y) (o : Option X) (y : Y) → Some y ≡ option_map f o → (x : X) × (o ≡ Some x) × (y ≡ f x)
 begun_some f None y e = absurd cc
 begun_some f (Some x) y e = (x, refl, cc)
 
-pub ended_value : (g : Growing) (v : Attribute) → option_map begun_value (begun_in g.place.reading) ≡ Some v → ended_at g ≡ with_value v g
-ended_value g v e = by (begun_in g.place.reading) e
+pub ended_value : (g : Growing) (v : Attribute) → option_map partial_attribute (partial_in g.place.unfinished) ≡ Some v → ended_at g ≡ with_value v g
+ended_value g v e = by (partial_in g.place.unfinished) e
   where
-    by : (o : Option Begun) → option_map begun_value o ≡ Some v → ended_by o g ≡ with_value v g
+    by : (o : Option PartialValue) → option_map partial_attribute o ≡ Some v → ended_by o g ≡ with_value v g
     by None h = absurd cc
-    by (Some b) h = let same : begun_value b ≡ v = cc in ap (λ (a : Attribute). with_value a g) same
+    by (Some b) h = let same : partial_attribute b ≡ v = cc in ap (λ (a : Attribute). with_value a g) same
 
 -- ---- what is kept
 
 module _ (d : Drafted) (tree : Growing) (padded_by : ℕ) (i : IsDrafted d tree padded_by) where
   -- the tree goes on at another place
-  module _ (p : Place) (new : Growing) (e : new ≡ tree_in (with_place p d)) (one : HasOneRoot p.spot.above p.spot.left) (unread : IfSome p.reading (IsUnread (context_of d.header) d.table p.spot)) (short : drafted_size (with_place p d) < size_limit d.header.format) where
+  module _ (p : Place) (new : Growing) (e : new ≡ tree_in (with_place p d)) (one : HasOneRoot p.spot.above p.spot.left) (unfinished : IfSome p.unfinished (IsUnfinished (context_of d.header) d.table p.spot)) (short : drafted_size (with_place p d) < size_limit d.header.format) where
     pub place_kept : IsDrafted (record { header = d.header; table = new.table; place = new.place; padding = d.padding }) new padded_by
     place_kept = subst (λ (g : Growing). IsDrafted (record { header = d.header; table = g.table; place = g.place; padding = d.padding }) new padded_by) (sym e) (record {
       header_fits = i.header_fits;
       tree_is = e;
       one_root = one;
-      unread = unread;
+      unfinished = unfinished;
       nulls_fit = i.nulls_fit;
       counted = i.counted;
       short = short;
@@ -192,12 +192,12 @@ module _ (d : Drafted) (tree : Growing) (padded_by : ℕ) (i : IsDrafted d tree 
 
   -- or nothing changed
   pub same_kept : (new : Growing) → new ≡ tree → IsDrafted (record { header = d.header; table = new.table; place = new.place; padding = d.padding }) new padded_by
-  same_kept new e = place_kept d.place new (e ∙ i.tree_is) i.one_root i.unread i.short
+  same_kept new e = place_kept d.place new (e ∙ i.tree_is) i.one_root i.unfinished i.short
 
   pub new_is : (f : Growing → Growing) (new : Growing) → new ≡ f tree → new ≡ f (tree_in d)
   new_is f new e = e ∙ ap f i.tree_is
 
-  module _ (code : Unsigned) (known : IsSome (declared d.table code.value)) (free : d.place.reading ≡ None) where
+  module _ (code : Unsigned) (known : IsSome (declared d.table code.value)) (free : d.place.unfinished ≡ None) where
     pub begun_size : drafted_size (begun code d) ≡ drafted_size d + code.width
     begun_size = let e = begun_end (tree_in d) code known free in omega (arith, e)
 
@@ -207,25 +207,25 @@ module _ (d : Drafted) (tree : Growing) (padded_by : ℕ) (i : IsDrafted d tree 
         let w = within d code.width short in
         place_kept (begun code d).place new (new_is (begun_at code) new e) kept.0 kept.1 (omega (arith, w, begun_size))
 
-  module _ (v : Attribute) (fits : NextFits (context_of d.header) d.table d.place.reading v) where
-    abbrev reading_at : Option Unread → Drafted
-    reading_at o = record { header = d.header; table = d.table; place = record { spot = d.place.spot; reading = o }; padding = d.padding }
+  module _ (v : Attribute) (fits : NextFits (context_of d.header) d.table d.place.unfinished v) where
+    abbrev unfinished_at : Option UnfinishedEntry → Drafted
+    unfinished_at o = record { header = d.header; table = d.table; place = record { spot = d.place.spot; unfinished = o }; padding = d.padding }
 
-    abbrev after : Option Unread → Place
-    after o = (given v (reading_at o)).place
+    abbrev after : Option UnfinishedEntry → Place
+    after o = (given v (unfinished_at o)).place
 
-    abbrev Given : Option Unread → Type 0
-    Given o = (drafted_size (given v (reading_at o)) ≡ drafted_size (reading_at o) + length (value_bytes (reading_at o) v)) × (HasOneRoot (after o).spot.above (after o).spot.left × IfSome (after o).reading (IsUnread (context_of d.header) d.table (after o).spot))
+    abbrev Given : Option UnfinishedEntry → Type 0
+    Given o = (drafted_size (given v (unfinished_at o)) ≡ drafted_size (unfinished_at o) + length (value_bytes (unfinished_at o) v)) × (HasOneRoot (after o).spot.above (after o).spot.left × IfSome (after o).unfinished (IsUnfinished (context_of d.header) d.table (after o).spot))
 
-    given_by : (o : Option Unread) → IfSome o (IsUnread (context_of d.header) d.table d.place.spot) → NextFits (context_of d.header) d.table o v → Given o
+    given_by : (o : Option UnfinishedEntry) → IfSome o (IsUnfinished (context_of d.header) d.table d.place.spot) → NextFits (context_of d.header) d.table o v → Given o
     given_by None u f = absurd f
     given_by (Some r) u f =
-        let e = value_end (tree_in (reading_at (Some r))) r v refl u.known u.prefix f in
-        let prefix = prefix_more (context_of d.header) (pairs_of (declared d.table r.code.value)) r.values v u.prefix f in
+        let e = value_end (tree_in (unfinished_at (Some r))) r v refl u.known u.prefix f in
+        let prefix = prefix_more (context_of d.header) (declared_pairs (declared d.table r.code.value)) r.values v u.prefix f in
         (omega (arith, e), settle_kept (context_of d.header) d.table d.place.spot r.code (r.values ++ v ∷ []) u.known u.only prefix i.one_root)
 
-    given_is : Given d.place.reading
-    given_is = given_by d.place.reading i.unread fits
+    given_is : Given d.place.unfinished
+    given_is = given_by d.place.unfinished i.unfinished fits
 
     pub given_size : drafted_size (given v d) ≡ drafted_size d + length (value_bytes d v)
     given_size = given_is.0
@@ -235,20 +235,20 @@ module _ (d : Drafted) (tree : Growing) (padded_by : ℕ) (i : IsDrafted d tree 
         let w = within d (length (value_bytes d v)) short in
         place_kept (given v d).place new (new_is (with_value v) new e ∙ value_place d v) given_is.1.0 given_is.1.1 (omega (arith, w, given_size))
 
-  pub ended_size : (new : Growing) → new ≡ ended_at tree → BegunFits d → IfSome (begun_of d) (λ v. drafted_size (record { header = d.header; table = new.table; place = new.place; padding = d.padding }) ≡ drafted_size d + length (value_bytes d v))
-  ended_size new e fits = by (begun_of d) refl fits
+  pub ended_size : (new : Growing) → new ≡ ended_at tree → PartialFits d → IfSome (partial_of d) (λ v. drafted_size (record { header = d.header; table = new.table; place = new.place; padding = d.padding }) ≡ drafted_size d + length (value_bytes d v))
+  ended_size new e fits = by (partial_of d) refl fits
     where
-      by : (o : Option Attribute) → begun_of d ≡ o → IfSome o (λ v. NextFits (context_of d.header) d.table d.place.reading v)
+      by : (o : Option Attribute) → partial_of d ≡ o → IfSome o (λ v. NextFits (context_of d.header) d.table d.place.unfinished v)
           → IfSome o (λ v. drafted_size (record { header = d.header; table = new.table; place = new.place; padding = d.padding }) ≡ drafted_size d + length (value_bytes d v))
       by None h f = tt
       by (Some v) h f =
           let given_new : new ≡ tree_in (given v d) = new_is ended_at new e ∙ (ended_value (tree_in d) v h ∙ value_place d v) in
           ap (λ (g : Growing). drafted_size (record { header = d.header; table = g.table; place = g.place; padding = d.padding })) given_new ∙ given_size v f
 
-  pub closed_size : (w : ℕ) → d.place.spot.above ≢ [] → d.place.reading ≡ None → drafted_size (closed w d) ≡ drafted_size d + w
+  pub closed_size : (w : ℕ) → d.place.spot.above ≢ [] → d.place.unfinished ≡ None → drafted_size (closed w d) ≡ drafted_size d + w
   closed_size w inside free = let e = closed_end (tree_in d) w inside free in omega (arith, e)
 
-  pub close_kept : (w : ℕ) (new : Growing) → new ≡ closed_at w tree → d.place.spot.above ≢ [] → d.place.reading ≡ None → passes_limit d w ≡ false
+  pub close_kept : (w : ℕ) (new : Growing) → new ≡ closed_at w tree → d.place.spot.above ≢ [] → d.place.unfinished ≡ None → passes_limit d w ≡ false
       → IsDrafted (record { header = d.header; table = new.table; place = new.place; padding = d.padding }) new padded_by
   close_kept w new e inside free short =
       let size = closed_size w inside free in
@@ -271,7 +271,7 @@ module _ (d : Drafted) (tree : Growing) (padded_by : ℕ) (i : IsDrafted d tree 
         header_fits = i.header_fits;
         tree_is = i.tree_is;
         one_root = i.one_root;
-        unread = i.unread;
+        unfinished = i.unfinished;
         nulls_fit = nulls_fit d.padding w i.nulls_fit (null_fits w e);
         counted = omega (arith, n, i.counted);
         short = omega (arith, n, lt);
@@ -290,7 +290,7 @@ length_fits order Dwarf64 n h =
     rw near (((omega arith, refl), omega (arith, h)), refl)
 
 finished_is : (g : Growing) (t : TreeAt) → finished_at g ≡ Some t → t ≡ record { context = g.context; table = g.table; start = g.start; root = t.root }
-finished_is g t e = by (whole_tree g.place.spot.above g.place.spot.left g.place.reading) e
+finished_is g t e = by (whole_tree g.place.spot.above g.place.spot.left g.place.unfinished) e
   where
     build : Tree → TreeAt
     build x = record { context = g.context; table = g.table; start = g.start; root = x }

@@ -24,7 +24,7 @@ use Rattle.dw_abbrev.specs.Table.{Declaration, Table, declared}
 use Rattle.dw_tree.specs.Flat.{value_part}
 use Rattle.dw_tree.specs.Place.{Spot}
 use Rattle.dw_tree.specs.Steps.{settled, settle_by, settle, FirstsFit, FirstFits}
-use Rattle.dw_tree.specs.Tree.{pairs_of}
+use Rattle.dw_tree.specs.Tree.{declared_pairs}
 use Rattle.dw_unit.specs.Entries.{put_front}
 
 -- ---- items put in front
@@ -88,7 +88,7 @@ module _ (k : Ctx) (whole : Outcome (List Attribute)) (ps : List RustPair) (i : 
 
 module _ (t : Table) (s : Spot) (code : Unsigned) (vs : List Attribute) (d : Declaration) (known : declared t code.value ≡ Some d) where
   -- some are still to come
-  pub settle_open : length vs < length d.pairs → settle t s code vs ≡ record { spot = s; reading = Some (record { code = code; values = vs; begun = None }) }
+  pub settle_open : length vs < length d.pairs → settle t s code vs ≡ record { spot = s; unfinished = Some (record { code = code; values = vs; partial = None }) }
   settle_open lt =
       ap (λ (o : Option Declaration). settle_by o s code vs) known
       ∙ ap (λ (b : Bool). settled b d.children s code vs) (ne_eqb (length vs) (length d.pairs) (λ e. omega (arith, lt, e)))
@@ -99,8 +99,8 @@ module _ (t : Table) (s : Spot) (code : Unsigned) (vs : List Attribute) (d : Dec
       ap (λ (o : Option Declaration). settle_by o s code vs) known
       ∙ ap (λ (b : Bool). settled b d.children s code vs) (eq-eqb (length vs) (length d.pairs) same)
 
-  pub pairs_are : pairs_of (declared t code.value) ≡ d.pairs
-  pairs_are = ap pairs_of known
+  pub pairs_are : declared_pairs (declared t code.value) ≡ d.pairs
+  pairs_are = ap declared_pairs known
 
 -- the first values, and one more
 pub prefix_more : (k : Ctx) (ps : List Pair) (vs : List Attribute) (v : Attribute) → FirstsFit k ps vs → FirstFits k (drop (length vs) ps) v → FirstsFit k ps (vs ++ v ∷ [])

@@ -4,7 +4,7 @@ use Rattle.std.proofs.Common.{refl}
 use Rattle.dw_leb.specs.declared.errors.Reason.TheVariants.{Truncated, PastUnit, ReservedLength, LengthTooBig, BadVersion, BadUnitType, BadAddressSize, AbbrevOffset}
 use Rattle.dw_leb.specs.declared.order.Order.TheVariants.{Little, Big}
 use Rattle.dw_leb.specs.declared.order.Format.TheVariants.{Dwarf32, Dwarf64}
-use Rattle.dw_leb.specs.declared.errors.Section.TheVariants.{Info, Abbrev}
+use Rattle.dw_leb.specs.declared.errors.SectionId.TheVariants.{Info, Abbrev}
 use Rattle.dw_form.specs.Form.{shape}
 use Rattle.dw_form.specs.ReadForm.{read_attribute}
 use Rattle.dw_abbrev.specs.ReadTable.{read_table, read_table_at}

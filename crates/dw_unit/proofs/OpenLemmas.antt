@@ -7,9 +7,9 @@ use Rattle.dw_leb.specs.DecideNumber.{length-uleb}
 use Rattle.dw_form.specs.declared.shape.Ctx.{Ctx}
 use Rattle.dw_form.specs.Form.{Attribute}
 use Rattle.dw_abbrev.specs.Table.{Pair, Declaration, Table, declared}
-use Rattle.dw_tree.specs.Tree.{Forest, none, more, values, pairs_of, children_of, nesting}
-use Rattle.dw_tree.specs.Place.{Frame, Spot, Unread, Place}
-use Rattle.dw_tree.specs.Standing.{is_bare_in}
+use Rattle.dw_tree.specs.Tree.{Forest, none, more, values, declared_pairs, declares_children, nesting}
+use Rattle.dw_tree.specs.Place.{Frame, Spot, UnfinishedEntry, Place}
+use Rattle.dw_tree.specs.Emptiness.{is_bare_in}
 use Rattle.dw_tree.specs.Steps.{settled, settle}
 use Rattle.dw_unit.specs.declared.refusal.Refusal.{Refusal}
 use Rattle.dw_unit.specs.declared.refusal.Refusal.TheVariants.{TooDeep, SecondRoot}
@@ -69,22 +69,22 @@ known_is t code d some e = rw (ne_eqb code.value 0 some, e) refl
 pub refused_by : (b : Building) (code : Unsigned) (vs : List Attribute) (fits : Bool) (r : Option Refusal) → is_known b.table code ≡ true → IsTrue fits ↔ ValuesFit b code vs → r ≡ values_refusal b code vs fits → EntryRefused b code vs r
 refused_by b code vs fits r known iff e = rw known (fits, iff, e)
 
-pub size_is : (b : Building) (code : Unsigned) (vs : List Attribute) (k : Ctx) (qs : List Pair) → k ≡ context_of b.header → qs ≡ pairs_of (declared b.table code.value) → entry_size b code vs ≡ code.width + length ((values k qs).spell vs)
+pub size_is : (b : Building) (code : Unsigned) (vs : List Attribute) (k : Ctx) (qs : List Pair) → k ≡ context_of b.header → qs ≡ declared_pairs (declared b.table code.value) → entry_size b code vs ≡ code.width + length ((values k qs).spell vs)
 size_is b code vs k qs ek eq =
     let same = ap₂ (λ (c : Ctx) (ps : List Pair). length ((values c ps).spell vs)) ek eq in
-    omega (arith, length-append (uleb.spell code) ((values (context_of b.header) (pairs_of (declared b.table code.value))).spell vs), length-uleb code, same)
+    omega (arith, length-append (uleb.spell code) ((values (context_of b.header) (declared_pairs (declared b.table code.value))).spell vs), length-uleb code, same)
 
 -- ---- what is kept
 
-pub settle_entry : (t : Table) (s : Spot) (code : Unsigned) (vs : List Attribute) → IsSome (declared t code.value) → length vs ≡ length (pairs_of (declared t code.value))
-    → settle t s code vs ≡ record { spot = with_entry (children_of (declared t code.value)) code vs s; reading = None }
+pub settle_entry : (t : Table) (s : Spot) (code : Unsigned) (vs : List Attribute) → IsSome (declared t code.value) → length vs ≡ length (declared_pairs (declared t code.value))
+    → settle t s code vs ≡ record { spot = with_entry (declares_children (declared t code.value)) code vs s; unfinished = None }
 settle_entry t s code vs known many =
     let d = the (declared t code.value) known in
-    settle_whole t s code vs d.0 d.1 (many ∙ ap (λ (o : Option Declaration). length (pairs_of o)) d.1)
+    settle_whole t s code vs d.0 d.1 (many ∙ ap (λ (o : Option Declaration). length (declared_pairs o)) d.1)
     ∙ (by d.0.children
-    ∙ ap (λ (o : Option Declaration). record { spot = with_entry (children_of o) code vs s; reading = None }) (sym d.1))
+    ∙ ap (λ (o : Option Declaration). record { spot = with_entry (declares_children o) code vs s; unfinished = None }) (sym d.1))
   where
-    by : (ch : Bool) → settled true ch s code vs ≡ record { spot = with_entry ch code vs s; reading = None }
+    by : (ch : Bool) → settled true ch s code vs ≡ record { spot = with_entry ch code vs s; unfinished = None }
     by true = refl
     by false = refl
 
@@ -92,9 +92,9 @@ pub known_some : (t : Table) (code : Unsigned) → is_known t code ≡ true → 
 known_some t code e = (Rattle.std.proofs.lemmas.Bool.and_parts (not (code.value == 0)) (Rattle.std.specs.Prelude.is_some (declared t code.value)) e).1
 
 -- a builder's draft is the one that it stands for
-pub same_draft : (d : Drafted) → d.place.reading ≡ None → draft_of (building_of d) ≡ d
-same_draft d e = ap (λ (o : Option Unread). with_place (record { spot = d.place.spot; reading = o }) d) (sym e)
+pub same_draft : (d : Drafted) → d.place.unfinished ≡ None → draft_of (building_of d) ≡ d
+same_draft d e = ap (λ (o : Option UnfinishedEntry). with_place (record { spot = d.place.spot; unfinished = o }) d) (sym e)
 
-pub opened_is : (d : Drafted) (code : Unsigned) (vs : List Attribute) → IsSome (declared d.table code.value) → (values (context_of d.header) (pairs_of (declared d.table code.value))).Fits vs
+pub opened_is : (d : Drafted) (code : Unsigned) (vs : List Attribute) → IsSome (declared d.table code.value) → (values (context_of d.header) (declared_pairs (declared d.table code.value))).Fits vs
     → with_place (settle d.table d.place.spot code vs) d ≡ draft_of (opened code vs (building_of d))
-opened_is d code vs known fits = ap (λ (p : Place). with_place p d) (settle_entry d.table d.place.spot code vs known (as_many (context_of d.header) (pairs_of (declared d.table code.value)) vs fits))
+opened_is d code vs known fits = ap (λ (p : Place). with_place p d) (settle_entry d.table d.place.spot code vs known (as_many (context_of d.header) (declared_pairs (declared d.table code.value)) vs fits))

@@ -9,10 +9,10 @@ use Rattle.dw_form.specs.Lent.{attribute_of}
 use Rattle.dw_abbrev.specs.PairView.{pair_of}
 use Rattle.dw_abbrev.specs.declared.pair.Pair.{Pair as RustPair}
 use Rattle.dw_abbrev.specs.Table.{Pair, Declaration, declared}
-use Rattle.dw_tree.specs.Tree.{values, pairs_of}
+use Rattle.dw_tree.specs.Tree.{values, declared_pairs}
 use Rattle.dw_tree.specs.Flat.{value_part}
-use Rattle.dw_tree.specs.Place.{Place, Unread}
-use Rattle.dw_tree.specs.Steps.{begun_in, settle, NextFits, FirstFits, first_bytes}
+use Rattle.dw_tree.specs.Place.{Place, UnfinishedEntry}
+use Rattle.dw_tree.specs.Steps.{partial_in, settle, NextFits, FirstFits, first_bytes}
 use Rattle.dw_header.specs.Header.{context_of}
 use Rattle.dw_unit.specs.Draft.{Drafted, with_place, given, undone, value_bytes}
 use Rattle.dw_unit.proofs.EntryLemmas.{settle_open}
@@ -52,29 +52,29 @@ as_many k (p ∷ ps) (v ∷ vs) h = let n = as_many k ps vs h.1 in omega (arith,
 -- ---- one more value
 
 module _ (old draft : Drafted) (code : Unsigned) (before : List Attribute) (v : Attribute) (known : IsSome (declared old.table code.value)) (draft_is : draft ≡ with_place (settle old.table old.place.spot code before) old)
-    (short : length before < length (pairs_of (declared old.table code.value))) (first : FirstFits (context_of old.header) (drop (length before) (pairs_of (declared old.table code.value))) v) where
+    (short : length before < length (declared_pairs (declared old.table code.value))) (first : FirstFits (context_of old.header) (drop (length before) (declared_pairs (declared old.table code.value))) v) where
   abbrev open_draft : Drafted
-  open_draft = with_place (record { spot = old.place.spot; reading = Some (record { code = code; values = before; begun = None }) }) old
+  open_draft = with_place (record { spot = old.place.spot; unfinished = Some (record { code = code; values = before; partial = None }) }) old
 
   open_is : draft ≡ open_draft
   open_is =
       let d = the (declared old.table code.value) known in
-      draft_is ∙ ap (λ (p : Place). with_place p old) (settle_open old.table old.place.spot code before d.0 d.1 (omega (arith, short, ap (λ (o : Option Declaration). length (pairs_of o)) d.1)))
+      draft_is ∙ ap (λ (p : Place). with_place p old) (settle_open old.table old.place.spot code before d.0 d.1 (omega (arith, short, ap (λ (o : Option Declaration). length (declared_pairs o)) d.1)))
 
-  pub none_begun : begun_in draft.place.reading ≡ None
-  none_begun = ap (λ (d : Drafted). begun_in d.place.reading) open_is
+  pub none_partial : partial_in draft.place.unfinished ≡ None
+  none_partial = ap (λ (d : Drafted). partial_in d.place.unfinished) open_is
 
-  pub next_fits : NextFits (context_of draft.header) draft.table draft.place.reading v
-  next_fits = subst (λ (d : Drafted). NextFits (context_of d.header) d.table d.place.reading v) (sym open_is) first
+  pub next_fits : NextFits (context_of draft.header) draft.table draft.place.unfinished v
+  next_fits = subst (λ (d : Drafted). NextFits (context_of d.header) d.table d.place.unfinished v) (sym open_is) first
 
-  pub next_size : length (value_bytes draft v) ≡ length (first_bytes (context_of old.header) (drop (length before) (pairs_of (declared old.table code.value))) v)
+  pub next_size : length (value_bytes draft v) ≡ length (first_bytes (context_of old.header) (drop (length before) (declared_pairs (declared old.table code.value))) v)
   next_size = ap (λ (d : Drafted). length (value_bytes d v)) open_is
 
   pub with_is : given v draft ≡ with_place (settle old.table old.place.spot code (before ++ v ∷ [])) old
   with_is = ap (given v) open_is
 
-  pub undone_is : old.place.reading ≡ None → undone draft ≡ old
-  undone_is free = ap undone open_is ∙ ap (λ (o : Option Unread). with_place (record { spot = old.place.spot; reading = o }) old) (sym free)
+  pub undone_is : old.place.unfinished ≡ None → undone draft ≡ old
+  undone_is free = ap undone open_is ∙ ap (λ (o : Option UnfinishedEntry). with_place (record { spot = old.place.spot; unfinished = o }) old) (sym free)
 
 -- ---- values and their pairs, one by one
 

@@ -8,7 +8,7 @@ use Rattle.dw_leb.specs.DecideNumber.{uleb_some}
 use Rattle.dw_form.specs.declared.shape.Ctx.{Ctx}
 use Rattle.dw_form.specs.Form.{Attribute}
 use Rattle.dw_abbrev.specs.Table.{Table, declared, zero_of}
-use Rattle.dw_tree.specs.Tree.{Tree, leaf, branch, Forest, none, more, values, pairs_of}
+use Rattle.dw_tree.specs.Tree.{Tree, leaf, branch, Forest, none, more, values, declared_pairs}
 use Rattle.dw_tree.specs.Spelling.{entry_bytes, tree_bytes, forest_bytes}
 use Rattle.dw_tree.specs.Offset.{CodesFit, AllCodesFit}
 use Rattle.dw_tree.specs.Lent.{EntryAt, find_at, preorder, all_preorder}
@@ -28,7 +28,7 @@ joined lo middle hi (e ∷ es) ys r s = (r.0, joined (suc e.offset) middle hi es
 
 module _ (k : Ctx) (t : Table) where
   entry_some : (code : Unsigned) (vs : List Attribute) → uleb.Fits code → 0 < length (entry_bytes k t code vs)
-  entry_some code vs fits = omega (arith, uleb_some code fits, length-append (uleb.spell code) ((values k (pairs_of (declared t code.value))).spell vs))
+  entry_some code vs fits = omega (arith, uleb_some code fits, length-append (uleb.spell code) ((values k (declared_pairs (declared t code.value))).spell vs))
 
   mutual
     unfolding tree_bytes CodesFit

@@ -4,7 +4,7 @@ use Rattle.std.proofs.Common.{refl}
 use Rattle.dw_leb.specs.declared.errors.Reason.TheVariants.{Truncated, PastUnit, NoRoot, UnknownCode, UnknownForm, BadIndirect, SecondRoot, AbbrevOffset, BadChildren, HalfPair, DuplicateCode}
 use Rattle.dw_leb.specs.declared.order.Order.TheVariants.{Little}
 use Rattle.dw_leb.specs.declared.order.Format.TheVariants.{Dwarf32}
-use Rattle.dw_leb.specs.declared.errors.Section.TheVariants.{Info, Abbrev}
+use Rattle.dw_leb.specs.declared.errors.SectionId.TheVariants.{Info, Abbrev}
 use Rattle.dw_form.specs.Form.{shape, Num, Uleb, Text, Implicit}
 use Rattle.dw_form.specs.ReadForm.{read_attribute}
 use Rattle.dw_abbrev.specs.Table.{Table}

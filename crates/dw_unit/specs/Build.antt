@@ -7,11 +7,11 @@ use Rattle.dw_leb.specs.Number.{Unsigned}
 use Rattle.dw_form.specs.Form.{Attribute}
 use Rattle.dw_abbrev.specs.Build.{is_width}
 use Rattle.dw_abbrev.specs.Table.{Table, declared, is_null}
-use Rattle.dw_tree.specs.Tree.{leaf, values, pairs_of, children_of, nesting}
+use Rattle.dw_tree.specs.Tree.{leaf, values, declared_pairs, declares_children, nesting}
 use Rattle.dw_tree.specs.Spelling.{entry_bytes}
 use Rattle.dw_tree.specs.Codes.{table_code}
 use Rattle.dw_tree.specs.Place.{Spot, add, enter, leave, Place, place_code}
-use Rattle.dw_tree.specs.Standing.{is_bare}
+use Rattle.dw_tree.specs.Emptiness.{is_bare}
 use Rattle.dw_unit.specs.declared.refusal.Refusal.{Refusal}
 use Rattle.dw_unit.specs.declared.refusal.Refusal.TheVariants.{UnknownCode, WrongValues, NotOpen, Open, TooDeep, TooLong, SecondRoot, NoRoot, BadWidth, NoMemory}
 use Rattle.dw_header.specs.Header.{Header, context_of}
@@ -27,7 +27,7 @@ pub record Building : Type 0 where
   pub padding : List ℕ
 
 abbrev spot_code : Coded Spot
-spot_code = code_by Place place_code (λ s. record { spot = s; reading = None }) (λ p. p.spot) (λ _. refl)
+spot_code = code_by Place place_code (λ s. record { spot = s; unfinished = None }) (λ p. p.spot) (λ _. refl)
 
 abbrev pub building_code : Coded Building
 building_code = code_by (Header × (Table × (Spot × List ℕ))) (coded× header_code (coded× table_code (coded× spot_code (coded_list coded_ℕ))))
@@ -35,7 +35,7 @@ building_code = code_by (Header × (Table × (Spot × List ℕ))) (coded× heade
 
 -- as a draft whose entries all have their values
 abbrev pub draft_of : Building → Drafted
-draft_of b = record { header = b.header; table = b.table; place = record { spot = b.spot; reading = None }; padding = b.padding }
+draft_of b = record { header = b.header; table = b.table; place = record { spot = b.spot; unfinished = None }; padding = b.padding }
 
 abbrev pub building_of : Drafted → Building
 building_of d = record { header = d.header; table = d.table; spot = d.place.spot; padding = d.padding }
@@ -48,7 +48,7 @@ with_entry true code vs s = enter code vs s
 with_entry false code vs s = add (leaf code vs) s
 
 abbrev pub opened : Unsigned → List Attribute → Building → Building
-opened code vs b = record { header = b.header; table = b.table; spot = with_entry (children_of (declared b.table code.value)) code vs b.spot; padding = b.padding }
+opened code vs b = record { header = b.header; table = b.table; spot = with_entry (declares_children (declared b.table code.value)) code vs b.spot; padding = b.padding }
 
 abbrev pub closed : ℕ → Building → Building
 closed width b = record { header = b.header; table = b.table; spot = leave width b.spot; padding = b.padding }
@@ -100,7 +100,7 @@ is_known t code = not (is_null code) && is_some (declared t code.value)
 
 -- the values have a spelling under the declaration of the code, one for each of its pairs
 abbrev pub ValuesFit : Building → Unsigned → List Attribute → Type 0
-ValuesFit b code vs = (values (context_of b.header) (pairs_of (declared b.table code.value))).Fits vs
+ValuesFit b code vs = (values (context_of b.header) (declared_pairs (declared b.table code.value))).Fits vs
 
 abbrev pub entry_size : Building → Unsigned → List Attribute → ℕ
 entry_size b code vs = length (entry_bytes (context_of b.header) b.table code vs)

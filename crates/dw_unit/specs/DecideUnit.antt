@@ -11,21 +11,21 @@ use Rattle.dw_abbrev.specs.Table.{Table, TableAt}
 use Rattle.dw_header.specs.Header.{Header, fields, fields_of, context_of}
 use Rattle.dw_tree.specs.Tree.{Tree, tree, nesting, nulls, AreNulls, PaddingBreaks}
 use Rattle.dw_unit.specs.Unit.{WholeUnit, body_bytes, bytes_of, UnitFront, left_behind, EntriesBreak, BodyBreaks, UnitBreaks, UnitAt, Fails}
-use Rattle.dw_header.specs.Headed.{Headed, HeaderAt, header_size}
-use Rattle.dw_leb.specs.declared.errors.Section.{Section}
-use Rattle.dw_leb.specs.declared.errors.Section.TheVariants.{Info, Abbrev}
+use Rattle.dw_header.specs.HeaderPlace.{SpelledHeader, HeaderAt, header_size}
+use Rattle.dw_leb.specs.declared.errors.SectionId.{SectionId}
+use Rattle.dw_leb.specs.declared.errors.SectionId.TheVariants.{Info, Abbrev}
 use Rattle.dw_leb.specs.Reader.{Outcome, Found, Broken, ◌and_then◌, behind, paired}
 use Rattle.dw_tree.specs.ReadTree.{read_tree, read_padding}
 use Rattle.dw_header.specs.ReadHeader.{Heading, read_head}
 use Rattle.dw_unit.specs.ReadUnit.{Answer, Unit, Fault, read_entries, with_header, read_body, body_over, read_over, answer_body, answer_table, answer_head, read_unit}
 use Rattle.dw_abbrev.specs.ReadTable.{read_table_at}
 use Rattle.dw_leb.specs.Decide.{Says, AreBytes, AreBytes-behind, found, broken}
-use Rattle.dw_leb.specs.Stay.{Stays, After_stays}
+use Rattle.dw_leb.specs.PartLaws.{Stays, After_stays}
 use Rattle.dw_leb.specs.DecideRepeat.{behind_at}
 use Rattle.dw_leb.specs.DecideNumber.{initial-size}
 use Rattle.dw_header.specs.DecideHeader.{header_stays, headed_stays}
-use Rattle.dw_header.specs.HeadRead.{HeadSays, head_says, head_rest, head_rest_bytes, head_within}
-use Rattle.dw_header.specs.HeadLaws.{head_take, head_fault, one_header, headers_stay}
+use Rattle.dw_header.specs.HeaderFound.{HeadSays, head_says, head_rest, head_rest_bytes, head_within}
+use Rattle.dw_header.specs.Laws.{head_take, head_fault, one_header, headers_stay}
 use Rattle.dw_tree.specs.DecideTree.{tree_decides, tree_stays, padding_take, padding_fault, padding_stays, PaddingSays, padding_says}
 use Rattle.dw_abbrev.specs.DecideTable.{table_take, table_fault, TableSays, table_says}
 use Rattle.dw_abbrev.specs.Laws.{one_table_at}
@@ -110,19 +110,19 @@ abbrev pub rest_bytes : WholeUnit → List ℕ
 rest_bytes u = (tree (context_of u.header) u.table (nesting - 1)).spell u.root ++ nulls u.padding
 
 -- the header of a unit at the front stands there, with the unit's length
-pub unit_headed : (order : Order) (bytes : List ℕ) (u : WholeUnit) (size : ℕ) (h : UnitFront order bytes u size) → Headed order bytes u.header.format (length (body_bytes u)) (fields_of u.header) (rest_bytes u ++ h.rest)
+pub unit_headed : (order : Order) (bytes : List ℕ) (u : WholeUnit) (size : ℕ) (h : UnitFront order bytes u size) → SpelledHeader order bytes u.header.format (length (body_bytes u)) (fields_of u.header) (rest_bytes u ++ h.rest)
 unit_headed order bytes u size h =
     let n : ℕ = length (body_bytes u) in
     let l : List ℕ = len_bytes u.header n in
     let f : List ℕ = field_bytes u.header in
     let e : List ℕ = rest_bytes u in
-    let headed : Headed u.header.order bytes u.header.format n (fields_of u.header) (e ++ h.rest) = record {
+    let headed : SpelledHeader u.header.order bytes u.header.format n (fields_of u.header) (e ++ h.rest) = record {
       length_fits = h.fits.length_fits;
       fields_fit = h.fits.fields_fit;
       split = h.split ∙ append_assoc l (f ++ e) h.rest ∙ ap (λ (b : List ℕ). l ++ b) (append_assoc f e h.rest);
       within = omega (arith, length-append f e);
     } in
-    subst (λ (o : Order). Headed o bytes u.header.format n (fields_of u.header) (e ++ h.rest)) h.order_is headed
+    subst (λ (o : Order). SpelledHeader o bytes u.header.format n (fields_of u.header) (e ++ h.rest)) h.order_is headed
 
 abbrev pub unit_header : (order : Order) (bytes : List ℕ) (u : WholeUnit) (size : ℕ) → UnitFront order bytes u size → HeaderAt order bytes u.header (length (body_bytes u))
 unit_header order bytes u size h = (h.order_is, rest_bytes u ++ h.rest, unit_headed order bytes u size h)
@@ -144,7 +144,7 @@ module _ (order : Order) (bytes : List ℕ) (h : Header) (n : ℕ) (stands : Hea
   entries_answer (Broken own reason) g = inr (record { header = h; count = n; stands = stands; table = t; is_table = refl; own = own; sum = refl; breaks = g })
   entries_answer (Found y size) g =
       let u : WholeUnit = record { header = h; table = t; root = y.0; padding = y.1 } in
-      let own : Headed h.order bytes h.format n (fields_of h) stands.1 = subst (λ (o : Order). Headed o bytes h.format n (fields_of h) stands.1) (sym stands.0) stands.2 in
+      let own : SpelledHeader h.order bytes h.format n (fields_of h) stands.1 = subst (λ (o : Order). SpelledHeader o bytes h.format n (fields_of h) stands.1) (sym stands.0) stands.2 in
       let l : ℕ → List ℕ = λ m. len_bytes h m in
       let f : List ℕ = field_bytes h in
       let e : List ℕ = rest_bytes u in
@@ -198,66 +198,66 @@ over_says order t bytes fit = over_answer order t bytes fit (read_head order byt
 
 -- ---- a table that stands in a section
 
-module _ (order : Order) (section bytes : List ℕ) (h : Header) (n : ℕ) (stands : HeaderAt order bytes h n) (t : Table) (place : TableAt section h.abbrev_offset t) where
-  at_header : (g : Header) (m : ℕ) (s : Table) → HeaderAt order bytes g m → s ≡ t → TableAt section g.abbrev_offset s
-  at_header g m s there is = subst (λ (x : Header). TableAt section x.abbrev_offset s) (one_header order bytes h g n m stands there).0 (subst (λ (x : Table). TableAt section h.abbrev_offset x) (sym is) place)
+module _ (order : Order) (abbreviations bytes : List ℕ) (h : Header) (n : ℕ) (stands : HeaderAt order bytes h n) (t : Table) (place : TableAt abbreviations h.abbrev_offset t) where
+  at_header : (g : Header) (m : ℕ) (s : Table) → HeaderAt order bytes g m → s ≡ t → TableAt abbreviations g.abbrev_offset s
+  at_header g m s there is = subst (λ (x : Header). TableAt abbreviations x.abbrev_offset s) (one_header order bytes h g n m stands there).0 (subst (λ (x : Table). TableAt abbreviations h.abbrev_offset x) (sym is) place)
 
   -- a unit over it is one over the section ..
-  pub unit_at : (u : WholeUnit) (size : ℕ) → u.table ≡ t → UnitFront order bytes u size → UnitAt section order bytes u size
+  pub unit_at : (u : WholeUnit) (size : ℕ) → u.table ≡ t → UnitFront order bytes u size → UnitAt abbreviations order bytes u size
   unit_at u size is front = record { table_at = at_header u.header (length (body_bytes u)) u.table (unit_header order bytes u size front) is; front = front }
 
   -- .. and a break over it is the fault over the section
-  pub break_fails : (offset : ℕ) (reason : Reason) → UnitBreaks order t bytes offset reason → Fails order section bytes Info offset reason
+  pub break_fails : (offset : ℕ) (reason : Reason) → UnitBreaks order t bytes offset reason → Fails order abbreviations bytes Info offset reason
   break_fails offset reason (inl one) = inl one
   break_fails offset reason (inr b) =
       inr (record { header = b.header; count = b.count; stands = b.stands; table = b.table; is_table = at_header b.header b.count b.table b.stands b.is_table; own = b.own; sum = b.sum; breaks = b.breaks })
 
-  pub fails_break : (offset : ℕ) (reason : Reason) → Fails order section bytes Info offset reason → UnitBreaks order t bytes offset reason
+  pub fails_break : (offset : ℕ) (reason : Reason) → Fails order abbreviations bytes Info offset reason → UnitBreaks order t bytes offset reason
   fails_break offset reason (inl one) = inl one
   fails_break offset reason (inr b) =
-      let here : TableAt section h.abbrev_offset b.table = subst (λ (x : Header). TableAt section x.abbrev_offset b.table) (one_header order bytes b.header h b.count n b.stands stands).0 b.is_table in
-      inr (record { header = b.header; count = b.count; stands = b.stands; table = b.table; is_table = one_table_at section h.abbrev_offset b.table t here place; own = b.own; sum = b.sum; breaks = b.breaks })
+      let here : TableAt abbreviations h.abbrev_offset b.table = subst (λ (x : Header). TableAt abbreviations x.abbrev_offset b.table) (one_header order bytes b.header h b.count n b.stands stands).0 b.is_table in
+      inr (record { header = b.header; count = b.count; stands = b.stands; table = b.table; is_table = one_table_at abbreviations h.abbrev_offset b.table t here place; own = b.own; sum = b.sum; breaks = b.breaks })
 
 -- ---- over a section: what is spelled is read, what fails is refused with that fault, and nothing else
 
-pub unit_take : (section : List ℕ) (order : Order) (bytes : List ℕ) (u : WholeUnit) (size : ℕ) → UnitAt section order bytes u size → read_unit order section bytes ≡ Unit u size
+pub unit_take : (abbreviations : List ℕ) (order : Order) (bytes : List ℕ) (u : WholeUnit) (size : ℕ) → UnitAt abbreviations order bytes u size → read_unit order abbreviations bytes ≡ Unit u size
 unfolding read_unit
-unit_take section order bytes u size h =
+unit_take abbreviations order bytes u size h =
     let n : ℕ = length (body_bytes u) in
-    ap (answer_head section bytes) (head_take order bytes u.header n (unit_header order bytes u size h.front))
-    ∙ ap (answer_table bytes (u.header, n)) (table_take section u.header.abbrev_offset u.table h.table_at)
+    ap (answer_head abbreviations bytes) (head_take order bytes u.header n (unit_header order bytes u size h.front))
+    ∙ ap (answer_table bytes (u.header, n)) (table_take abbreviations u.header.abbrev_offset u.table h.table_at)
     ∙ ap answer_body (body_take order bytes u size h.front)
 
-pub unit_fault : (order : Order) (section bytes : List ℕ) (s : Section) (offset : ℕ) (reason : Reason) → Fails order section bytes s offset reason → read_unit order section bytes ≡ Fault s offset reason
+pub unit_fault : (order : Order) (abbreviations bytes : List ℕ) (s : SectionId) (offset : ℕ) (reason : Reason) → Fails order abbreviations bytes s offset reason → read_unit order abbreviations bytes ≡ Fault s offset reason
 unfolding read_unit
-unit_fault order section bytes Info offset reason (inl one) = ap (answer_head section bytes) (head_fault order bytes offset reason one)
-unit_fault order section bytes Info offset reason (inr b) =
-    ap (answer_head section bytes) (head_take order bytes b.header b.count b.stands)
-    ∙ ap (answer_table bytes (b.header, b.count)) (table_take section b.header.abbrev_offset b.table b.is_table)
+unit_fault order abbreviations bytes Info offset reason (inl one) = ap (answer_head abbreviations bytes) (head_fault order bytes offset reason one)
+unit_fault order abbreviations bytes Info offset reason (inr b) =
+    ap (answer_head abbreviations bytes) (head_take order bytes b.header b.count b.stands)
+    ∙ ap (answer_table bytes (b.header, b.count)) (table_take abbreviations b.header.abbrev_offset b.table b.is_table)
     ∙ ap answer_body (body_fault order bytes b.header b.count b.stands b.table b.own reason b.breaks)
     ∙ ap (λ (m : ℕ). Fault Info m reason) (sym b.sum)
-unit_fault order section bytes Abbrev offset reason (h, n, stands, breaks) =
-    ap (answer_head section bytes) (head_take order bytes h n stands) ∙ ap (answer_table bytes (h, n)) (table_fault section h.abbrev_offset offset reason breaks)
+unit_fault order abbreviations bytes Abbrev offset reason (h, n, stands, breaks) =
+    ap (answer_head abbreviations bytes) (head_take order bytes h n stands) ∙ ap (answer_table bytes (h, n)) (table_fault abbreviations h.abbrev_offset offset reason breaks)
 
 abbrev pub AnswerSays : Order → List ℕ → List ℕ → Answer → Type 0
-AnswerSays order section bytes (Unit u size) = UnitAt section order bytes u size
-AnswerSays order section bytes (Fault s offset reason) = Fails order section bytes s offset reason
+AnswerSays order abbreviations bytes (Unit u size) = UnitAt abbreviations order bytes u size
+AnswerSays order abbreviations bytes (Fault s offset reason) = Fails order abbreviations bytes s offset reason
 
-module _ (order : Order) (section bytes : List ℕ) (fit_s : AreBytes section) (fit : AreBytes bytes) where
-  body_answer : (h : Header) (n : ℕ) → HeaderAt order bytes h n → (t : Table) → TableAt section h.abbrev_offset t → (o : Outcome WholeUnit) → OverSays order t bytes o → AnswerSays order section bytes (answer_body o)
-  body_answer h n stands t place (Found u size) g = unit_at order section bytes h n stands t place u size g.0 g.1
-  body_answer h n stands t place (Broken offset reason) g = break_fails order section bytes h n stands t place offset reason g
+module _ (order : Order) (abbreviations bytes : List ℕ) (fit_s : AreBytes abbreviations) (fit : AreBytes bytes) where
+  body_answer : (h : Header) (n : ℕ) → HeaderAt order bytes h n → (t : Table) → TableAt abbreviations h.abbrev_offset t → (o : Outcome WholeUnit) → OverSays order t bytes o → AnswerSays order abbreviations bytes (answer_body o)
+  body_answer h n stands t place (Found u size) g = unit_at order abbreviations bytes h n stands t place u size g.0 g.1
+  body_answer h n stands t place (Broken offset reason) g = break_fails order abbreviations bytes h n stands t place offset reason g
 
-  table_answer : (h : Header) (n : ℕ) → HeaderAt order bytes h n → (o : Outcome Table) → TableSays section h.abbrev_offset o → AnswerSays order section bytes (answer_table bytes (h, n) o)
+  table_answer : (h : Header) (n : ℕ) → HeaderAt order bytes h n → (o : Outcome Table) → TableSays abbreviations h.abbrev_offset o → AnswerSays order abbreviations bytes (answer_table bytes (h, n) o)
   table_answer h n stands (Found t size) g = body_answer h n stands t g (read_body t bytes (h, n)) (body_says order bytes h n stands t fit)
   table_answer h n stands (Broken offset reason) g = (h, n, stands, g)
 
-  head_answer : (o : Outcome Heading) → HeadSays order bytes o → AnswerSays order section bytes (answer_head section bytes o)
-  head_answer (Found x size) g = table_answer x.0 x.1 g (read_table_at section x.0.abbrev_offset) (table_says section x.0.abbrev_offset fit_s)
+  head_answer : (o : Outcome Heading) → HeadSays order bytes o → AnswerSays order abbreviations bytes (answer_head abbreviations bytes o)
+  head_answer (Found x size) g = table_answer x.0 x.1 g (read_table_at abbreviations x.0.abbrev_offset) (table_says abbreviations x.0.abbrev_offset fit_s)
   head_answer (Broken offset reason) g = inl g
 
   -- the reader's answer is always right, so every byte list is a unit at the front or fails
-  pub unit_says : AnswerSays order section bytes (read_unit order section bytes)
+  pub unit_says : AnswerSays order abbreviations bytes (read_unit order abbreviations bytes)
   unfolding read_unit
   unit_says = head_answer (read_head order bytes) (head_says order bytes fit)
 
@@ -266,8 +266,8 @@ module _ (order : Order) (section bytes : List ℕ) (fit_s : AreBytes section) (
 pub front_stays : (order : Order) (bytes tail : List ℕ) (u : WholeUnit) (size : ℕ) → UnitFront order bytes u size → UnitFront order (bytes ++ tail) u size
 front_stays order bytes tail u size h = record { order_is = h.order_is; fits = h.fits; rest = h.rest ++ tail; split = ap (λ (b : List ℕ). b ++ tail) h.split ∙ append_assoc (bytes_of u) h.rest tail; is_size = h.is_size }
 
-pub unit_stays : (section : List ℕ) (order : Order) (bytes tail : List ℕ) (u : WholeUnit) (size : ℕ) → UnitAt section order bytes u size → UnitAt section order (bytes ++ tail) u size
-unit_stays section order bytes tail u size h = record { table_at = h.table_at; front = front_stays order bytes tail u size h.front }
+pub unit_stays : (abbreviations : List ℕ) (order : Order) (bytes tail : List ℕ) (u : WholeUnit) (size : ℕ) → UnitAt abbreviations order bytes u size → UnitAt abbreviations order (bytes ++ tail) u size
+unit_stays abbreviations order bytes tail u size h = record { table_at = h.table_at; front = front_stays order bytes tail u size h.front }
 
 body_stays : (order : Order) (IsTable : ℕ → Table → Type 0) (bytes tail : List ℕ) (offset : ℕ) (reason : Reason) → reason ≢ Truncated → BodyBreaks order IsTable bytes offset reason → BodyBreaks order IsTable (bytes ++ tail) offset reason
 body_stays order IsTable bytes tail offset reason ne b = record {
@@ -285,7 +285,7 @@ pub break_stays : (order : Order) (t : Table) (bytes tail : List ℕ) (offset : 
 break_stays order t bytes tail offset reason ne (inl one) = inl (header_stays order bytes tail offset reason ne one)
 break_stays order t bytes tail offset reason ne (inr two) = inr (body_stays order (λ _ s. s ≡ t) bytes tail offset reason ne two)
 
-pub fault_stays : (order : Order) (section bytes tail : List ℕ) (s : Section) (offset : ℕ) (reason : Reason) → (s ≡ Info → reason ≢ Truncated) → Fails order section bytes s offset reason → Fails order section (bytes ++ tail) s offset reason
-fault_stays order section bytes tail Info offset reason ne (inl one) = inl (header_stays order bytes tail offset reason (ne refl) one)
-fault_stays order section bytes tail Info offset reason ne (inr two) = inr (body_stays order (TableAt section) bytes tail offset reason (ne refl) two)
-fault_stays order section bytes tail Abbrev offset reason ne (h, n, stands, breaks) = (h, n, headers_stay order bytes tail h n stands, breaks)
+pub fault_stays : (order : Order) (abbreviations bytes tail : List ℕ) (s : SectionId) (offset : ℕ) (reason : Reason) → (s ≡ Info → reason ≢ Truncated) → Fails order abbreviations bytes s offset reason → Fails order abbreviations (bytes ++ tail) s offset reason
+fault_stays order abbreviations bytes tail Info offset reason ne (inl one) = inl (header_stays order bytes tail offset reason (ne refl) one)
+fault_stays order abbreviations bytes tail Info offset reason ne (inr two) = inr (body_stays order (TableAt abbreviations) bytes tail offset reason (ne refl) two)
+fault_stays order abbreviations bytes tail Abbrev offset reason ne (h, n, stands, breaks) = (h, n, headers_stay order bytes tail h n stands, breaks)

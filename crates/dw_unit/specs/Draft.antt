@@ -8,15 +8,15 @@ use Rattle.dw_leb.specs.Number.{Unsigned}
 use Rattle.dw_form.specs.declared.shape.Ctx.{Ctx}
 use Rattle.dw_form.specs.Form.{Attribute}
 use Rattle.dw_abbrev.specs.Table.{Table, declared}
-use Rattle.dw_tree.specs.Tree.{Tree, Forest, none, more, pairs_of, nulls, AreNulls}
+use Rattle.dw_tree.specs.Tree.{Tree, Forest, none, more, declared_pairs, nulls, AreNulls}
 use Rattle.dw_tree.specs.Codes.{table_code}
-use Rattle.dw_tree.specs.Place.{Frame, Spot, nowhere, Unread, Place, place_code}
-use Rattle.dw_tree.specs.Standing.{is_bare}
-use Rattle.dw_tree.specs.Steps.{Growing, begun_at, with_value, begun_in, begun_value, started as started_at, extended as extended_at, ended as ended_at, closed_at, undone as undone_at, end_of, whole_tree, NextFits, next_bytes, FirstsFit}
+use Rattle.dw_tree.specs.Place.{Frame, Spot, nowhere, UnfinishedEntry, Place, place_code}
+use Rattle.dw_tree.specs.Emptiness.{is_bare}
+use Rattle.dw_tree.specs.Steps.{Growing, begun_at, with_value, partial_in, partial_attribute, started as started_at, extended as extended_at, ended as ended_at, closed_at, undone as undone_at, end_of, whole_tree, NextFits, next_bytes, FirstsFit}
 use Rattle.dw_header.specs.Header.{Header, HeaderFits, context_of}
 use Rattle.dw_unit.specs.Unit.{WholeUnit}
 use Rattle.dw_unit.specs.UnitView.{header_code}
-use Rattle.dw_header.specs.Headed.{header_size}
+use Rattle.dw_header.specs.HeaderPlace.{header_size}
 
 -- a header with its table, a tree with one open place, and the widths of the nulls behind the root
 pub record Drafted : Type 0 where
@@ -33,14 +33,14 @@ drafted_code = code_by (Header × (Table × (Place × List ℕ))) (coded× heade
 abbrev pub tree_in : Drafted → Growing
 tree_in d = record { context = context_of d.header; table = d.table; start = header_size d.header; place = d.place }
 
--- the count of its bytes: header, entries and nulls, and what the entry that is read has so far; those of a value that has begun aside
+-- the count of its bytes: header, entries and nulls, and what the unfinished entry has so far; those of a partial value aside
 abbrev pub drafted_size : Drafted → ℕ
 drafted_size d = end_of (tree_in d) + length (nulls d.padding)
 
 -- ---- what the calls do
 
 abbrev pub empty : Header → Table → Drafted
-empty header table = record { header = header; table = table; place = record { spot = nowhere; reading = None }; padding = [] }
+empty header table = record { header = header; table = table; place = record { spot = nowhere; unfinished = None }; padding = [] }
 
 -- its tree goes on at this place
 abbrev pub with_place : Place → Drafted → Drafted
@@ -50,7 +50,7 @@ with_place p d = record { header = d.header; table = d.table; place = p; padding
 abbrev pub begun : Unsigned → Drafted → Drafted
 begun code d = with_place (begun_at code (tree_in d)).place d
 
--- the entry that is read is given its next value
+-- the unfinished entry is given its next value
 abbrev pub given : Attribute → Drafted → Drafted
 given v d = with_place (with_value v (tree_in d)).place d
 
@@ -74,13 +74,13 @@ closed width d = with_place (closed_at width (tree_in d)).place d
 abbrev pub padded : ℕ → Drafted → Drafted
 padded width d = record { header = d.header; table = d.table; place = d.place; padding = d.padding ++ width ∷ [] }
 
--- the entry that is read is taken back
+-- the unfinished entry is taken back
 abbrev pub undone : Drafted → Drafted
 undone d = with_place (undone_at (tree_in d)).place d
 
 -- the unit, where its root is closed
 abbrev pub finished : Drafted → Option WholeUnit
-finished d = option_map (λ (x : Tree). record { header = d.header; table = d.table; root = x; padding = d.padding }) (whole_tree d.place.spot.above d.place.spot.left d.place.reading)
+finished d = option_map (λ (x : Tree). record { header = d.header; table = d.table; root = x; padding = d.padding }) (whole_tree d.place.spot.above d.place.spot.left d.place.unfinished)
 
 -- ---- what the caller has tested
 
@@ -97,20 +97,20 @@ passes_limit d count = nat_le (size_limit d.header.format) (drafted_size d + cou
 abbrev pub IsOnlyRoot : Spot → Type 0
 IsOnlyRoot s = s.above ≡ [] → is_bare s ≡ true
 
--- the bytes of a value, as the next one of the entry that is read
+-- the bytes of a value, as the next one of the unfinished entry
 abbrev pub value_bytes : Drafted → Attribute → List ℕ
-value_bytes d v = next_bytes (context_of d.header) d.table d.place.reading v
+value_bytes d v = next_bytes (context_of d.header) d.table d.place.unfinished v
 
--- the text or block that has begun, with its bytes so far
-abbrev pub begun_of : Drafted → Option Attribute
-begun_of d = option_map begun_value (begun_in d.place.reading)
+-- the partial text or block, with its bytes so far
+abbrev pub partial_of : Drafted → Option Attribute
+partial_of d = option_map partial_attribute (partial_in d.place.unfinished)
 
--- it has a spelling as the next value of the entry that is read, and the unit isn't too long with it
-abbrev pub BegunFits : Drafted → Type 0
-BegunFits d = IfSome (begun_of d) (λ v. NextFits (context_of d.header) d.table d.place.reading v)
+-- it has a spelling as the next value of the unfinished entry, and the unit isn't too long with it
+abbrev pub PartialFits : Drafted → Type 0
+PartialFits d = IfSome (partial_of d) (λ v. NextFits (context_of d.header) d.table d.place.unfinished v)
 
-abbrev pub BegunShort : Drafted → Type 0
-BegunShort d = IfSome (begun_of d) (λ v. passes_limit d (length (value_bytes d v)) ≡ false)
+abbrev pub PartialShort : Drafted → Type 0
+PartialShort d = IfSome (partial_of d) (λ v. passes_limit d (length (value_bytes d v)) ≡ false)
 
 -- ---- what is kept
 
@@ -128,18 +128,18 @@ abbrev pub HasOneRoot : List Frame → Forest → Type 0
 HasOneRoot [] ts = AtMostOne ts
 HasOneRoot (f ∷ fs) ts = NoneBefore fs f.left
 
--- an entry that is read: it is declared, has a place, and the values that it was given have a spelling
-pub record IsUnread (k : Ctx) (t : Table) (s : Spot) (r : Unread) : Type 0 where
+-- an unfinished entry: it is declared, has a place, and the values that it was given have a spelling
+pub record IsUnfinished (k : Ctx) (t : Table) (s : Spot) (r : UnfinishedEntry) : Type 0 where
   pub known : IsSome (declared t r.code.value)
   pub only : IsOnlyRoot s
-  pub prefix : FirstsFit k (pairs_of (declared t r.code.value)) r.values
+  pub prefix : FirstsFit k (declared_pairs (declared t r.code.value)) r.values
 
 -- the tree and the count of the bytes of the padding's nulls are those of the unit, which has a spelling so far and isn't too long
 pub record IsDrafted (d : Drafted) (tree : Growing) (padded : ℕ) : Type 0 where
   pub header_fits : HeaderFits d.header
   pub tree_is : tree ≡ tree_in d
   pub one_root : HasOneRoot d.place.spot.above d.place.spot.left
-  pub unread : IfSome d.place.reading (IsUnread (context_of d.header) d.table d.place.spot)
+  pub unfinished : IfSome d.place.unfinished (IsUnfinished (context_of d.header) d.table d.place.spot)
   pub nulls_fit : AreNulls d.padding
   pub counted : padded ≡ length (nulls d.padding)
   pub short : drafted_size d < size_limit d.header.format

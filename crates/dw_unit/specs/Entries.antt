@@ -26,35 +26,35 @@ abbrev pub placed : Growing → Place → Growing
 placed g p = record { context = g.context; table = g.table; start = g.start; place = p }
 
 -- what a refusal at a place tells of the plain reader there; where a growth was refused it tells nothing
-abbrev pub TellsError : {X : Type 0} → ℕ → BodyError → Outcome X → Type 0
-TellsError at (errors.Bad e) o = (own : ℕ) × (o ≡ Broken own e.reason) × (e.offset ≡ at + own)
-TellsError at errors.NoMemory o = Unit {0}
+abbrev pub BreaksFrom : {X : Type 0} → ℕ → BodyError → Outcome X → Type 0
+BreaksFrom at (errors.Bad e) o = (own : ℕ) × (o ≡ Broken own e.reason) × (e.offset ≡ at + own)
+BreaksFrom at errors.NoMemory o = Unit {0}
 
 -- the same of a refusal at the front
-abbrev pub Refuses : {X : Type 0} → BodyError → Outcome X → Type 0
-Refuses (errors.Bad e) o = o ≡ Broken e.offset e.reason
-Refuses errors.NoMemory o = Unit {0}
+abbrev pub BreaksAs : {X : Type 0} → BodyError → Outcome X → Type 0
+BreaksAs (errors.Bad e) o = o ≡ Broken e.offset e.reason
+BreaksAs errors.NoMemory o = Unit {0}
 
 -- an entry of this code was put, with the values that are read at a place
-abbrev pub TellsEntry : ℕ → Unsigned → Growing → Growing → Result ℕ BodyError → Outcome (List Attribute) → Type 0
-TellsEntry at code old new (Ok next) o = (vs : List Attribute) × (size : ℕ) × (o ≡ Found vs size) × (next ≡ at + size) × (new ≡ placed old (settle old.table old.place.spot code vs))
-TellsEntry at code old new (Err e) o = TellsError at e o
+abbrev pub EntryOutcome : ℕ → Unsigned → Growing → Growing → Result ℕ BodyError → Outcome (List Attribute) → Type 0
+EntryOutcome at code old new (Ok next) o = (vs : List Attribute) × (size : ℕ) × (o ≡ Found vs size) × (next ≡ at + size) × (new ≡ placed old (settle old.table old.place.spot code vs))
+EntryOutcome at code old new (Err e) o = BreaksFrom at e o
 
 -- the chain of entries that is read at a place, up to its null, was put where none was
-abbrev pub TellsForest : ℕ → Growing → Growing → Result (Uleb × ℕ) BodyError → Outcome (Forest × Unsigned) → Type 0
-TellsForest at old new (Ok x) o = (ts : Forest) × (size : ℕ) × (o ≡ Found (ts, uleb_of x.0) size) × (x.1 ≡ at + size)
-    × (new ≡ placed old (record { spot = record { above = old.place.spot.above; left = ts }; reading = None }))
-TellsForest at old new (Err e) o = TellsError at e o
+abbrev pub ForestOutcome : ℕ → Growing → Growing → Result (Uleb × ℕ) BodyError → Outcome (Forest × Unsigned) → Type 0
+ForestOutcome at old new (Ok x) o = (ts : Forest) × (size : ℕ) × (o ≡ Found (ts, uleb_of x.0) size) × (x.1 ≡ at + size)
+    × (new ≡ placed old (record { spot = record { above = old.place.spot.above; left = ts }; unfinished = None }))
+ForestOutcome at old new (Err e) o = BreaksFrom at e o
 
 -- the root that is read at the front was put, with all that is below it
-abbrev pub TellsRoot : Growing → Growing → Result ℕ BodyError → Outcome Tree → Type 0
-TellsRoot old new (Ok size) o = (x : Tree) × (o ≡ Found x size) × (new ≡ placed old (record { spot = record { above = []; left = more x none }; reading = None }))
-TellsRoot old new (Err e) o = Refuses e o
+abbrev pub RootOutcome : Growing → Growing → Result ℕ BodyError → Outcome Tree → Type 0
+RootOutcome old new (Ok size) o = (x : Tree) × (o ≡ Found x size) × (new ≡ placed old (record { spot = record { above = []; left = more x none }; unfinished = None }))
+RootOutcome old new (Err e) o = BreaksAs e o
 
 -- the tree that is read at the front
-abbrev pub TellsTree : Ctx → Table → ℕ → Result (TreeAt × ℕ) BodyError → Outcome Tree → Type 0
-TellsTree k t start (Ok x) o = (o ≡ Found x.0.root x.1) × (x.0 ≡ record { context = k; table = t; start = start; root = x.0.root })
-TellsTree k t start (Err e) o = Refuses e o
+abbrev pub TreeOutcome : Ctx → Table → ℕ → Result (TreeAt × ℕ) BodyError → Outcome Tree → Type 0
+TreeOutcome k t start (Ok x) o = (o ≡ Found x.0.root x.1) × (x.0 ≡ record { context = k; table = t; start = start; root = x.0.root })
+TreeOutcome k t start (Err e) o = BreaksAs e o
 
 -- ---- the plain reader of a chain, with room for so many levels
 

@@ -7,15 +7,15 @@ use Rattle.dw_leb.specs.declared.order.Order.{Order}
 use Rattle.dw_abbrev.specs.Table.{Table, TableAt}
 use Rattle.dw_form.specs.declared.shape.Ctx.{Ctx}
 use Rattle.dw_header.specs.Header.{Header}
-use Rattle.dw_header.specs.Headed.{HeaderAt}
+use Rattle.dw_header.specs.HeaderPlace.{HeaderAt}
 use Rattle.dw_tree.specs.Offset.{offset_at}
 use Rattle.dw_tree.specs.Tree.{Tree, tree}
 use Rattle.dw_tree.specs.Spelling.{tree_bytes}
 use Rattle.dw_tree.specs.Steps.{TreeAt}
 use Rattle.dw_tree.specs.Lent.{EntryAt, entries_of, end_offset_of, LeadsTo}
 use Rattle.dw_unit.specs.Unit.{WholeUnit, bytes_of, tree_of, UnitFits, UnitFront, UnitBreaks, UnitAt, Fails, ReadAs}
-use Rattle.dw_leb.specs.declared.errors.Section.{Section}
-use Rattle.dw_leb.specs.declared.errors.Section.TheVariants.{Info}
+use Rattle.dw_leb.specs.declared.errors.SectionId.{SectionId}
+use Rattle.dw_leb.specs.declared.errors.SectionId.TheVariants.{Info}
 
 -- ---- units over a table that is handed in
 
@@ -53,53 +53,53 @@ FrontsAreCut = (u : WholeUnit) (front : List ℕ) (b : ℕ) (more : List ℕ) �
 
 -- over the table that stands in the section at the header's offset, a unit is one over the section ..
 abbrev pub UnitsOverSections : Type 0
-UnitsOverSections = (order : Order) (section bytes : List ℕ) (h : Header) (n : ℕ) (t : Table) → HeaderAt order bytes h n → TableAt section h.abbrev_offset t
-    → (u : WholeUnit) (size : ℕ) → u.table ≡ t → UnitFront order bytes u size → UnitAt section order bytes u size
+UnitsOverSections = (order : Order) (abbreviations bytes : List ℕ) (h : Header) (n : ℕ) (t : Table) → HeaderAt order bytes h n → TableAt abbreviations h.abbrev_offset t
+    → (u : WholeUnit) (size : ℕ) → u.table ≡ t → UnitFront order bytes u size → UnitAt abbreviations order bytes u size
 
 -- .. and a break is the fault over the section
 abbrev pub BreaksAreFaults : Type 0
-BreaksAreFaults = (order : Order) (section bytes : List ℕ) (h : Header) (n : ℕ) (t : Table) → HeaderAt order bytes h n → TableAt section h.abbrev_offset t
-    → (offset : ℕ) (reason : Reason) → UnitBreaks order t bytes offset reason ↔ Fails order section bytes Info offset reason
+BreaksAreFaults = (order : Order) (abbreviations bytes : List ℕ) (h : Header) (n : ℕ) (t : Table) → HeaderAt order bytes h n → TableAt abbreviations h.abbrev_offset t
+    → (offset : ℕ) (reason : Reason) → UnitBreaks order t bytes offset reason ↔ Fails order abbreviations bytes Info offset reason
 
 -- bytes have at most one unit at the front, of one size
 abbrev pub OneUnit : Type 0
-OneUnit = (section : List ℕ) (order : Order) (bytes : List ℕ) (u v : WholeUnit) (m n : ℕ) → UnitAt section order bytes u m → UnitAt section order bytes v n → (u ≡ v) × (m ≡ n)
+OneUnit = (abbreviations : List ℕ) (order : Order) (bytes : List ℕ) (u v : WholeUnit) (m n : ℕ) → UnitAt abbreviations order bytes u m → UnitAt abbreviations order bytes v n → (u ≡ v) × (m ≡ n)
 
 -- a unit that can't be read has one fault
 abbrev pub OneFault : Type 0
-OneFault = (order : Order) (section bytes : List ℕ) (s z : Section) (m n : ℕ) (r q : Reason) → Fails order section bytes s m r → Fails order section bytes z n q → (s ≡ z) × (m ≡ n) × (r ≡ q)
+OneFault = (order : Order) (abbreviations bytes : List ℕ) (s z : SectionId) (m n : ℕ) (r q : Reason) → Fails order abbreviations bytes s m r → Fails order abbreviations bytes z n q → (s ≡ z) × (m ≡ n) × (r ≡ q)
 
 -- bytes have at most one of a unit at the front and a fault
 abbrev pub NotBoth : Type 0
-NotBoth = (section : List ℕ) (order : Order) (bytes : List ℕ) (u : WholeUnit) (size : ℕ) (s : Section) (n : ℕ) (r : Reason) → UnitAt section order bytes u size → Fails order section bytes s n r → ⊥
+NotBoth = (abbreviations : List ℕ) (order : Order) (bytes : List ℕ) (u : WholeUnit) (size : ℕ) (s : SectionId) (n : ℕ) (r : Reason) → UnitAt abbreviations order bytes u size → Fails order abbreviations bytes s n r → ⊥
 
 -- every list of bytes has one
 abbrev pub SomeAnswer : Type 0
-SomeAnswer = (order : Order) (section bytes : List ℕ) → AllByRecursion (λ b. b < 256) section → AllByRecursion (λ b. b < 256) bytes
-    → ((u : WholeUnit) × (size : ℕ) × UnitAt section order bytes u size) ⊎ ((s : Section) × (n : ℕ) × (r : Reason) × Fails order section bytes s n r)
+SomeAnswer = (order : Order) (abbreviations bytes : List ℕ) → AllByRecursion (λ b. b < 256) abbreviations → AllByRecursion (λ b. b < 256) bytes
+    → ((u : WholeUnit) × (size : ℕ) × UnitAt abbreviations order bytes u size) ⊎ ((s : SectionId) × (n : ℕ) × (r : Reason) × Fails order abbreviations bytes s n r)
 
 -- a unit at the front stays there whatever bytes follow
 abbrev pub UnitsStay : Type 0
-UnitsStay = (section : List ℕ) (order : Order) (bytes tail : List ℕ) (u : WholeUnit) (size : ℕ) → UnitAt section order bytes u size → UnitAt section order (bytes ++ tail) u size
+UnitsStay = (abbreviations : List ℕ) (order : Order) (bytes tail : List ℕ) (u : WholeUnit) (size : ℕ) → UnitAt abbreviations order bytes u size → UnitAt abbreviations order (bytes ++ tail) u size
 
 -- and so does a fault other than Truncated in the unit's own bytes
 abbrev pub FaultsStay : Type 0
-FaultsStay = (order : Order) (section bytes tail : List ℕ) (s : Section) (offset : ℕ) (reason : Reason) → (s ≡ Info → reason ≢ Truncated) → Fails order section bytes s offset reason → Fails order section (bytes ++ tail) s offset reason
+FaultsStay = (order : Order) (abbreviations bytes tail : List ℕ) (s : SectionId) (offset : ℕ) (reason : Reason) → (s ≡ Info → reason ≢ Truncated) → Fails order abbreviations bytes s offset reason → Fails order abbreviations (bytes ++ tail) s offset reason
 
 -- a proper front of a unit's bytes has a fault of an input that ends too early, and no other
 abbrev pub FrontsAreTruncated : Type 0
-FrontsAreTruncated = (section : List ℕ) (u : WholeUnit) (front : List ℕ) (b : ℕ) (more : List ℕ) → AllByRecursion (λ b. b < 256) front → TableAt section u.header.abbrev_offset u.table → UnitFits u → bytes_of u ≡ front ++ b ∷ more
-    → (offset : ℕ) × Fails u.header.order section front Info offset Truncated
+FrontsAreTruncated = (abbreviations : List ℕ) (u : WholeUnit) (front : List ℕ) (b : ℕ) (more : List ℕ) → AllByRecursion (λ b. b < 256) front → TableAt abbreviations u.header.abbrev_offset u.table → UnitFits u → bytes_of u ≡ front ++ b ∷ more
+    → (offset : ℕ) × Fails u.header.order abbreviations front Info offset Truncated
 
 -- ---- the round trip
 
 -- the bytes of a unit are read as that unit, whatever follows, where its table stands
 abbrev pub WrittenIsRead : Type 0
-WrittenIsRead = (section rest : List ℕ) (u : WholeUnit) → UnitFits u → TableAt section u.header.abbrev_offset u.table → ReadAs section u.header.order (bytes_of u ++ rest) u (length (bytes_of u))
+WrittenIsRead = (abbreviations rest : List ℕ) (u : WholeUnit) → UnitFits u → TableAt abbreviations u.header.abbrev_offset u.table → ReadAs abbreviations u.header.order (bytes_of u ++ rest) u (length (bytes_of u))
 
 -- the bytes that a unit was read from are its one spelling
 abbrev pub ReadIsWritten : Type 0
-ReadIsWritten = (section : List ℕ) (order : Order) (bytes : List ℕ) (u : WholeUnit) (size : ℕ) → UnitAt section order bytes u size → take size bytes ≡ bytes_of u
+ReadIsWritten = (abbreviations : List ℕ) (order : Order) (bytes : List ℕ) (u : WholeUnit) (size : ℕ) → UnitAt abbreviations order bytes u size → take size bytes ≡ bytes_of u
 
 -- ---- offsets
 

@@ -2,14 +2,14 @@
 use Rattle.std.specs.Prelude.{ℕ, suc, ◌+◌, ◌-◌, List, length, drop}
 use Rattle.dw_leb.specs.declared.errors.Reason.{Reason}
 use Rattle.dw_leb.specs.declared.order.Order.{Order}
-use Rattle.dw_leb.specs.declared.errors.Section.{Section}
-use Rattle.dw_leb.specs.declared.errors.Section.TheVariants.{Info, Abbrev}
+use Rattle.dw_leb.specs.declared.errors.SectionId.{SectionId}
+use Rattle.dw_leb.specs.declared.errors.SectionId.TheVariants.{Info, Abbrev}
 use Rattle.dw_leb.specs.Reader.{Outcome, Found, Broken, Reader, ◌and_then◌}
 use Rattle.dw_form.specs.declared.shape.Ctx.{Ctx}
 use Rattle.dw_abbrev.specs.Table.{Table}
 use Rattle.dw_abbrev.specs.ReadTable.{read_table_at}
 use Rattle.dw_header.specs.Header.{Header, context_of}
-use Rattle.dw_header.specs.Headed.{header_size}
+use Rattle.dw_header.specs.HeaderPlace.{header_size}
 use Rattle.dw_header.specs.ReadHeader.{Heading, read_head}
 use Rattle.dw_tree.specs.ReadTree.{read_tree, read_padding}
 use Rattle.dw_tree.specs.Tree.{Tree, nesting}
@@ -40,7 +40,7 @@ read_over order t bytes = body_over t bytes (read_head order bytes)
 -- what reading a unit gives
 pub data Answer : Type 0 where
   Unit : WholeUnit → ℕ → Answer
-  Fault : Section → ℕ → Reason → Answer
+  Fault : SectionId → ℕ → Reason → Answer
 
 abbrev pub answer_body : Outcome WholeUnit → Answer
 answer_body (Found u size) = Unit u size
@@ -51,8 +51,8 @@ answer_table bytes x (Found t size) = answer_body (read_body t bytes x)
 answer_table bytes x (Broken offset reason) = Fault Abbrev offset reason
 
 abbrev pub answer_head : List ℕ → List ℕ → Outcome Heading → Answer
-answer_head section bytes (Found x size) = answer_table bytes x (read_table_at section x.0.abbrev_offset)
-answer_head section bytes (Broken offset reason) = Fault Info offset reason
+answer_head abbreviations bytes (Found x size) = answer_table bytes x (read_table_at abbreviations x.0.abbrev_offset)
+answer_head abbreviations bytes (Broken offset reason) = Fault Info offset reason
 
 unfoldable pub read_unit : Order → List ℕ → List ℕ → Answer
-read_unit order section bytes = answer_head section bytes (read_head order bytes)
+read_unit order abbreviations bytes = answer_head abbreviations bytes (read_head order bytes)

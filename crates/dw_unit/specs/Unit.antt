@@ -4,12 +4,12 @@ use Rattle.dw_leb.specs.declared.errors.Reason.{Reason}
 use Rattle.dw_leb.specs.Part.{Breaks, After}
 use Rattle.dw_leb.specs.declared.order.Order.{Order}
 use Rattle.dw_leb.specs.Number.{length_field, initial_length, length_size}
-use Rattle.dw_leb.specs.declared.errors.Section.{Section}
-use Rattle.dw_leb.specs.declared.errors.Section.TheVariants.{Info, Abbrev}
+use Rattle.dw_leb.specs.declared.errors.SectionId.{SectionId}
+use Rattle.dw_leb.specs.declared.errors.SectionId.TheVariants.{Info, Abbrev}
 use Rattle.dw_form.specs.declared.shape.Ctx.{Ctx}
 use Rattle.dw_abbrev.specs.Table.{Table, TableAt, TableBreaks}
 use Rattle.dw_header.specs.Header.{Header, fields, fields_of, context_of}
-use Rattle.dw_header.specs.Headed.{HeaderAt, HeaderBreaks, header_size}
+use Rattle.dw_header.specs.HeaderPlace.{HeaderAt, HeaderBreaks, header_size}
 use Rattle.dw_tree.specs.Tree.{Tree, tree, nesting, nulls, AreNulls, PaddingBreaks}
 use Rattle.dw_tree.specs.Steps.{TreeAt}
 
@@ -76,17 +76,17 @@ UnitBreaks order t bytes offset reason = HeaderBreaks order bytes offset reason 
 -- ---- over an abbreviation section
 
 -- the unit, of so many bytes, stands at the front of the bytes, and its table in the section at its header's offset
-pub record UnitAt (section : List ℕ) (order : Order) (bytes : List ℕ) (u : WholeUnit) (size : ℕ) : Type 0 where
-  pub table_at : TableAt section u.header.abbrev_offset u.table
+pub record UnitAt (abbreviations : List ℕ) (order : Order) (bytes : List ℕ) (u : WholeUnit) (size : ℕ) : Type 0 where
+  pub table_at : TableAt abbreviations u.header.abbrev_offset u.table
   pub front : UnitFront order bytes u size
 
 -- the one fault of a unit that can't be read: the header's, else the table's, else the body's
-abbrev pub Fails : Order → List ℕ → List ℕ → Section → ℕ → Reason → Type 0
-Fails order section bytes Info offset reason = HeaderBreaks order bytes offset reason ⊎ BodyBreaks order (TableAt section) bytes offset reason
-Fails order section bytes Abbrev offset reason = (h : Header) × (n : ℕ) × HeaderAt order bytes h n × TableBreaks section h.abbrev_offset offset reason
+abbrev pub Fails : Order → List ℕ → List ℕ → SectionId → ℕ → Reason → Type 0
+Fails order abbreviations bytes Info offset reason = HeaderBreaks order bytes offset reason ⊎ BodyBreaks order (TableAt abbreviations) bytes offset reason
+Fails order abbreviations bytes Abbrev offset reason = (h : Header) × (n : ℕ) × HeaderAt order bytes h n × TableBreaks abbreviations h.abbrev_offset offset reason
 
 -- These bytes are read as this unit: it stands at their front, no other unit does, and they have no fault.
-pub record ReadAs (section : List ℕ) (order : Order) (bytes : List ℕ) (u : WholeUnit) (size : ℕ) : Type 0 where
-  pub there : UnitAt section order bytes u size
-  pub only : (v : WholeUnit) (n : ℕ) → UnitAt section order bytes v n → (v ≡ u) × (n ≡ size)
-  pub no_fault : (s : Section) (offset : ℕ) (reason : Reason) → Fails order section bytes s offset reason → ⊥
+pub record ReadAs (abbreviations : List ℕ) (order : Order) (bytes : List ℕ) (u : WholeUnit) (size : ℕ) : Type 0 where
+  pub there : UnitAt abbreviations order bytes u size
+  pub only : (v : WholeUnit) (n : ℕ) → UnitAt abbreviations order bytes v n → (v ≡ u) × (n ≡ size)
+  pub no_fault : (s : SectionId) (offset : ℕ) (reason : Reason) → Fails order abbreviations bytes s offset reason → ⊥

@@ -3,14 +3,14 @@ use Rattle.std.proofs.Common.{◌⊎◌, ◌≡◌, ◌≢◌, ◌++◌, ◌∷�
 use Rattle.std.proofs.lemmas.List.{length-append, take_at}
 use Rattle.dw_leb.specs.declared.errors.Reason.{Reason}
 use Rattle.dw_leb.specs.declared.errors.Reason.TheVariants.{Truncated}
-use Rattle.dw_leb.specs.declared.errors.Section.{Section}
-use Rattle.dw_leb.specs.declared.errors.Section.TheVariants.{Info}
+use Rattle.dw_leb.specs.declared.errors.SectionId.{SectionId}
+use Rattle.dw_leb.specs.declared.errors.SectionId.TheVariants.{Info}
 use Rattle.dw_leb.specs.declared.order.Order.{Order}
 use Rattle.dw_leb.specs.Reader.{Outcome, Found, Broken}
 use Rattle.dw_leb.specs.Decide.{found_value, broken_value, found_broken}
 use Rattle.dw_abbrev.specs.Table.{Table, TableAt}
 use Rattle.dw_header.specs.Header.{Header}
-use Rattle.dw_header.specs.HeadLaws.{one_header, headers_stay}
+use Rattle.dw_header.specs.Laws.{one_header, headers_stay}
 use Rattle.dw_unit.specs.Unit.{WholeUnit, body_bytes, bytes_of, UnitFits, UnitFront, UnitBreaks, UnitAt, Fails}
 use Rattle.dw_unit.specs.ReadUnit.{Answer, Unit, Fault, read_over, read_unit}
 use Rattle.dw_unit.specs.DecideUnit.{OverSays, over_take, over_fault, over_says, unit_header, unit_take, unit_fault, unit_says, AnswerSays, break_fails, front_stays, break_stays}
@@ -61,55 +61,55 @@ fronts_are_cut u front b more fit fits is = front_cut u front b more (whole_fron
 same_answer : (u v : WholeUnit) (m n : ℕ) → Unit u m ≡ Unit v n → (u ≡ v) × (m ≡ n)
 same_answer u v m n e = (cc, cc)
 
-same_fault : (s z : Section) (m n : ℕ) (r q : Reason) → Fault s m r ≡ Fault z n q → (s ≡ z) × (m ≡ n) × (r ≡ q)
+same_fault : (s z : SectionId) (m n : ℕ) (r q : Reason) → Fault s m r ≡ Fault z n q → (s ≡ z) × (m ≡ n) × (r ≡ q)
 same_fault s z m n r q e = (cc, cc, cc)
 
-apart : (u : WholeUnit) (size : ℕ) (s : Section) (n : ℕ) (r : Reason) → Unit u size ≡ Fault s n r → ⊥
+apart : (u : WholeUnit) (size : ℕ) (s : SectionId) (n : ℕ) (r : Reason) → Unit u size ≡ Fault s n r → ⊥
 apart u size s n r e = cc
 
 pub one_unit : OneUnit
-one_unit section order bytes u v m n h g = same_answer u v m n (sym (unit_take section order bytes u m h) ∙ unit_take section order bytes v n g)
+one_unit abbreviations order bytes u v m n h g = same_answer u v m n (sym (unit_take abbreviations order bytes u m h) ∙ unit_take abbreviations order bytes v n g)
 
 pub one_fault : OneFault
-one_fault order section bytes s z m n r q h g = same_fault s z m n r q (sym (unit_fault order section bytes s m r h) ∙ unit_fault order section bytes z n q g)
+one_fault order abbreviations bytes s z m n r q h g = same_fault s z m n r q (sym (unit_fault order abbreviations bytes s m r h) ∙ unit_fault order abbreviations bytes z n q g)
 
 pub not_both : NotBoth
-not_both section order bytes u size s n r h g = apart u size s n r (sym (unit_take section order bytes u size h) ∙ unit_fault order section bytes s n r g)
+not_both abbreviations order bytes u size s n r h g = apart u size s n r (sym (unit_take abbreviations order bytes u size h) ∙ unit_fault order abbreviations bytes s n r g)
 
-some_answer_by : (order : Order) (section bytes : List ℕ) (a : Answer) → AnswerSays order section bytes a
-    → ((u : WholeUnit) × (size : ℕ) × UnitAt section order bytes u size) ⊎ ((s : Section) × (n : ℕ) × (r : Reason) × Fails order section bytes s n r)
-some_answer_by order section bytes (Unit u size) h = inl (u, size, h)
-some_answer_by order section bytes (Fault s n r) h = inr (s, n, r, h)
+some_answer_by : (order : Order) (abbreviations bytes : List ℕ) (a : Answer) → AnswerSays order abbreviations bytes a
+    → ((u : WholeUnit) × (size : ℕ) × UnitAt abbreviations order bytes u size) ⊎ ((s : SectionId) × (n : ℕ) × (r : Reason) × Fails order abbreviations bytes s n r)
+some_answer_by order abbreviations bytes (Unit u size) h = inl (u, size, h)
+some_answer_by order abbreviations bytes (Fault s n r) h = inr (s, n, r, h)
 
 pub some_answer : SomeAnswer
-some_answer order section bytes fit_s fit = some_answer_by order section bytes (read_unit order section bytes) (unit_says order section bytes fit_s fit)
+some_answer order abbreviations bytes fit_s fit = some_answer_by order abbreviations bytes (read_unit order abbreviations bytes) (unit_says order abbreviations bytes fit_s fit)
 
 -- the header that is spelled in a front is the unit's
-truncated_by : (section : List ℕ) (u : WholeUnit) (front tail : List ℕ) (size : ℕ) → UnitFront u.header.order (front ++ tail) u size → TableAt section u.header.abbrev_offset u.table
-    → (offset : ℕ) (reason : Reason) → UnitBreaks u.header.order u.table front offset reason → Fails u.header.order section front Info offset reason
-truncated_by section u front tail size whole place offset reason (inl one) = inl one
-truncated_by section u front tail size whole place offset reason (inr b) =
+truncated_by : (abbreviations : List ℕ) (u : WholeUnit) (front tail : List ℕ) (size : ℕ) → UnitFront u.header.order (front ++ tail) u size → TableAt abbreviations u.header.abbrev_offset u.table
+    → (offset : ℕ) (reason : Reason) → UnitBreaks u.header.order u.table front offset reason → Fails u.header.order abbreviations front Info offset reason
+truncated_by abbreviations u front tail size whole place offset reason (inl one) = inl one
+truncated_by abbreviations u front tail size whole place offset reason (inr b) =
     let same = one_header u.header.order (front ++ tail) u.header b.header (length (body_bytes u)) b.count (unit_header u.header.order (front ++ tail) u size whole) (headers_stay u.header.order front tail b.header b.count b.stands) in
-    break_fails u.header.order section front b.header b.count b.stands u.table (subst (λ (g : Header). TableAt section g.abbrev_offset u.table) same.0 place) offset reason (inr b)
+    break_fails u.header.order abbreviations front b.header b.count b.stands u.table (subst (λ (g : Header). TableAt abbreviations g.abbrev_offset u.table) same.0 place) offset reason (inr b)
 
 pub fronts_are_truncated : FrontsAreTruncated
-fronts_are_truncated section u front b more fit place fits is =
+fronts_are_truncated abbreviations u front b more fit place fits is =
     let whole = whole_front u (front ++ b ∷ more) fits is in
     let cut = front_cut u front b more whole (read_over u.header.order u.table front) (over_says u.header.order u.table front fit) in
-    (cut.0, truncated_by section u front (b ∷ more) (length (front ++ b ∷ more)) whole place cut.0 Truncated cut.1)
+    (cut.0, truncated_by abbreviations u front (b ∷ more) (length (front ++ b ∷ more)) whole place cut.0 Truncated cut.1)
 
 -- ---- the round trip
 
 pub written_is_read : WrittenIsRead
-written_is_read section rest u fits place =
+written_is_read abbreviations rest u fits place =
     let order = u.header.order in
     let bytes = bytes_of u ++ rest in
-    let there : UnitAt section order bytes u (length (bytes_of u)) = record { table_at = place; front = record { order_is = refl; fits = fits; rest = rest; split = refl; is_size = refl } } in
+    let there : UnitAt abbreviations order bytes u (length (bytes_of u)) = record { table_at = place; front = record { order_is = refl; fits = fits; rest = rest; split = refl; is_size = refl } } in
     record {
       there = there;
-      only = λ v n h. one_unit section order bytes v u n (length (bytes_of u)) h there;
-      no_fault = λ s offset reason h. not_both section order bytes u (length (bytes_of u)) s offset reason there h;
+      only = λ v n h. one_unit abbreviations order bytes v u n (length (bytes_of u)) h there;
+      no_fault = λ s offset reason h. not_both abbreviations order bytes u (length (bytes_of u)) s offset reason there h;
     }
 
 pub read_is_written : ReadIsWritten
-read_is_written section order bytes u size h = ap (take size) h.front.split ∙ take_at (bytes_of u) h.front.rest size h.front.is_size
+read_is_written abbreviations order bytes u size h = ap (take size) h.front.split ∙ take_at (bytes_of u) h.front.rest size h.front.is_size

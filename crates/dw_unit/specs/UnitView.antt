@@ -7,7 +7,7 @@ use Rattle.dw_leb.specs.declared.order.Order.{Order}
 use Rattle.dw_leb.specs.declared.order.Format.{Format}
 use Rattle.dw_leb.specs.declared.errors.ReadError.{ReadError}
 use Rattle.dw_leb.specs.declared.errors.ReadError.TheVariants as reads
-use Rattle.dw_leb.specs.declared.errors.Section.TheVariants.{Info}
+use Rattle.dw_leb.specs.declared.errors.SectionId.TheVariants.{Info}
 use Rattle.dw_abbrev.specs.Table.{Table}
 use Rattle.dw_tree.specs.Tree.{Tree}
 use Rattle.dw_tree.specs.Codes.{order_code, format_code, table_code, tree_code}
@@ -17,14 +17,14 @@ use Rattle.dw_unit.specs.declared.bad.BodyError.TheVariants as errors
 use Rattle.dw_header.specs.declared.kind.Kind.{Kind}
 use Rattle.dw_header.specs.declared.kind.Kind.TheVariants.{Compile, Partial, TypeUnit, Skeleton}
 use Rattle.dw_header.specs.Header.{Header}
-use Rattle.dw_header.specs.Headed.{HeaderAt}
+use Rattle.dw_header.specs.HeaderPlace.{HeaderAt}
 use Rattle.dw_unit.specs.Unit.{WholeUnit, bytes_of, tree_of, UnitFits, Fails}
 
 -- An error of reading a unit: a fault is the first one. A reading without a reader has no reader's error.
-abbrev pub TellsFault : List ℕ → Order → List ℕ → ReadError → Type 0
-TellsFault section order bytes (reads.Fault f) = Fails order section bytes f.section f.offset f.reason
-TellsFault section order bytes reads.NoMemory = Unit {0}
-TellsFault section order bytes (reads.Io kind) = ⊥
+abbrev pub IsUnitError : List ℕ → Order → List ℕ → ReadError → Type 0
+IsUnitError abbreviations order bytes (reads.Fault f) = Fails order abbreviations bytes f.section f.offset f.reason
+IsUnitError abbreviations order bytes reads.NoMemory = Unit {0}
+IsUnitError abbreviations order bytes (reads.Io kind) = ⊥
 
 -- A fault in the unit's own bytes stands within so many bytes, or just behind them.
 abbrev pub FaultWithin : ℕ → ReadError → Type 0
@@ -33,11 +33,11 @@ FaultWithin n reads.NoMemory = Unit {0}
 FaultWithin n (reads.Io kind) = Unit {0}
 
 -- a header stands at the front, and the offset of its table lies in the abbreviation section
-pub record NamesTable (section : List ℕ) (order : Order) (bytes : List ℕ) : Type 0 where
+pub record NamesTable (abbreviations : List ℕ) (order : Order) (bytes : List ℕ) : Type 0 where
   pub header : Header
   pub count : ℕ
   pub stands : HeaderAt order bytes header count
-  pub inside : header.abbrev_offset < length section
+  pub inside : header.abbrev_offset < length abbreviations
 
 -- the error of reading a unit where its entries, which begin at a place, give this one
 abbrev pub unit_error_of : ℕ → BodyError → ReadError

@@ -1,6 +1,6 @@
 //! Why no entries are read.
 ghost use Rattle.std.specs.Prelude.{◌≡◌, ◌-◌, ◌^◌};
-ghost use Rattle.dw_unit.specs.Told.{IsNear, error_behind};
+ghost use Rattle.dw_unit.specs.Outcomes.{IsNear, error_behind};
 
 use dw_leb::Bad;
 

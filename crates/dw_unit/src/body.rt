@@ -1,9 +1,9 @@
 //! What stands behind a header.
 ghost use Rattle.std.specs.Prelude.{◌≤◌, ◌<◌, ◌+◌, ◌^◌, length, IfOk, IfErr};
 ghost use Rattle.dw_form.specs.Form.{IsContext};
-ghost use Rattle.dw_unit.specs.BodyView.{TellsBody};
+ghost use Rattle.dw_unit.specs.BodyView.{BodyOutcome};
 ghost use Rattle.dw_unit.specs.ReadUnit.{read_entries};
-ghost use Rattle.dw_unit.specs.Told.{IsNear};
+ghost use Rattle.dw_unit.specs.Outcomes.{IsNear};
 
 use crate::bad::BodyError;
 use crate::codes::padding_at;
@@ -34,7 +34,7 @@ pub(crate) fn body_at(
 ) -> Result<(Body, usize), BodyError>
     requires context { IsContext ctx }
     requires near { start + lim < 2 ^ 63 }
-    ensures exact { TellsBody ctx table.value start result (read_entries ctx table.value b.now lim) }
+    ensures exact { BodyOutcome ctx table.value start result (read_entries ctx table.value b.now lim) }
     ensures room { IfOk result (λ x. x.1 ≤ length b.now) }
     ensures near { IfErr result (IsNear (length b.now)) }
 {

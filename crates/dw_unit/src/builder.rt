@@ -36,7 +36,7 @@ impl Model for UnitBuilder {
 
     ghost view = { λ b. building_of b.draft };
 
-    ghost invariant = { λ b. b.draft.place.reading ≡ None };
+    ghost invariant = { λ b. b.draft.place.unfinished ≡ None };
 }
 
 impl UnitBuilder {

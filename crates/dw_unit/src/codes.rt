@@ -7,8 +7,8 @@ ghost use Rattle.dw_leb.specs.ReadNumber.{read_uleb};
 ghost use Rattle.dw_tree.specs.Tree.{bad_root, not_null};
 ghost use Rattle.dw_tree.specs.ReadTree.{read_padding};
 ghost use Rattle.dw_unit.specs.Entries.{code_reader};
-ghost use Rattle.dw_leb.specs.Told.{told};
-ghost use Rattle.dw_unit.specs.Told.{told_code, Tells, IsNear};
+ghost use Rattle.dw_leb.specs.Outcomes.{outcome_from};
+ghost use Rattle.dw_unit.specs.Outcomes.{code_outcome, HasOutcome, IsNear};
 
 use crate::bad::BodyError;
 use dw_abbrev::Table;
@@ -25,7 +25,7 @@ fn code(b: &[u8], lim: u64) -> Result<Uleb, Reason>
 
 /// The code of the root entry at the front of `b`, of which `lim` bytes are left to the unit's end.
 pub(crate) fn root_code(table: &Table, b: &[u8], lim: u64) -> Result<Uleb, Bad>
-    ensures exact { checked read_uleb (bad_root table.now) b.now lim ≡ told_code result }
+    ensures exact { checked read_uleb (bad_root table.now) b.now lim ≡ code_outcome result }
     ensures known { IfOk result (λ x. (0 < x.value) × IsSome (declared table.now x.value)) }
     ensures room { IfOk result (λ x. (x.width ≤ length b.now) × (x.width ≤ lim)) }
     ensures near { IfErr result (λ e. e.offset ≡ 0) }
@@ -47,7 +47,7 @@ pub(crate) fn root_code(table: &Table, b: &[u8], lim: u64) -> Result<Uleb, Bad>
 /// A code among children at the front of `b`: a null, or the code of an entry, for which there has
 /// to be room for one more level.
 pub(crate) fn child_code(table: &Table, room: u16, b: &[u8], lim: u64) -> Result<Uleb, Bad>
-    ensures exact { code_reader table.now room [] b.now lim ≡ told_code result }
+    ensures exact { code_reader table.now room [] b.now lim ≡ code_outcome result }
     ensures known { IfOk result (λ x. 0 < x.value → (0 < room) × IsSome (declared table.now x.value)) }
     ensures room { IfOk result (λ x. (x.width ≤ length b.now) × (x.width ≤ lim) × (1 ≤ x.width)) }
     ensures near { IfErr result (λ e. e.offset ≡ 0) }
@@ -71,7 +71,7 @@ pub(crate) fn child_code(table: &Table, room: u16, b: &[u8], lim: u64) -> Result
 
 /// A null at the front of `b`, where an entry would be a second root.
 fn null_code(b: &[u8], lim: u64) -> Result<(Uleb, usize), Bad>
-    ensures exact { checked read_uleb not_null b.now lim ≡ told uleb_of result }
+    ensures exact { checked read_uleb not_null b.now lim ≡ outcome_from uleb_of result }
     ensures null { IfOk result (λ x. x.0.value ≡ 0) }
     ensures room { IfOk result (λ x. (x.1 ≤ length b.now) × (x.1 ≤ lim) × (1 ≤ x.1)) }
     ensures near { IfErr result (λ e. e.offset ≡ 0) }
@@ -91,7 +91,7 @@ fn null_code(b: &[u8], lim: u64) -> Result<(Uleb, usize), Bad>
 /// The widths of the nulls from the front of `b` to the unit's end, before which `lim` bytes are
 /// left.
 pub(crate) fn padding_at(alloc: Global, b: &[u8], lim: u64) -> Result<(Vec<u8>, usize), BodyError>
-    ensures exact { (fuel : ℕ) → length b.now < fuel → Tells vec_items result (read_padding fuel b.now lim) }
+    ensures exact { (fuel : ℕ) → length b.now < fuel → HasOutcome vec_items result (read_padding fuel b.now lim) }
     ensures room { IfOk result (λ x. x.1 ≤ length b.now) }
     ensures near { IfErr result (IsNear (length b.now)) }
 {

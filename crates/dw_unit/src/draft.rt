@@ -6,13 +6,13 @@ ghost use Rattle.dw_abbrev.specs.Build.{is_width};
 ghost use Rattle.dw_abbrev.specs.PairView.{pair_of};
 ghost use Rattle.dw_abbrev.specs.Table.{declared, zero_of};
 ghost use Rattle.dw_tree.specs.Tree.{nesting};
-ghost use Rattle.dw_tree.specs.Held.{held_in};
-ghost use Rattle.dw_tree.specs.Standing.{is_bare};
-ghost use Rattle.dw_tree.specs.Steps.{begun_in, NextFits, next_pair};
+ghost use Rattle.dw_tree.specs.PoolBytes.{held_in};
+ghost use Rattle.dw_tree.specs.Emptiness.{is_bare};
+ghost use Rattle.dw_tree.specs.Steps.{partial_in, NextFits, next_pair};
 ghost use Rattle.dw_header.specs.Header.{context_of};
 ghost use Rattle.dw_unit.specs.Unit.{UnitFits, bytes_of};
-ghost use Rattle.dw_header.specs.Headed.{header_size};
-ghost use Rattle.dw_unit.specs.Draft.{drafted_size, empty, begun, given, started, extended, ended, closed, padded, undone, finished, size_limit as limit_of, passes_limit, IsOnlyRoot, value_bytes, begun_of, BegunFits, BegunShort};
+ghost use Rattle.dw_header.specs.HeaderPlace.{header_size};
+ghost use Rattle.dw_unit.specs.Draft.{drafted_size, empty, begun, given, started, extended, ended, closed, padded, undone, finished, size_limit as limit_of, passes_limit, IsOnlyRoot, value_bytes, partial_of, PartialFits, PartialShort};
 
 use crate::body::Body;
 use crate::unit::Unit;
@@ -85,7 +85,7 @@ impl Draft {
     pub fn begin(&mut self, code: Uleb) -> Result<(), AllocError>
         requires some { 0 < code.value }
         requires known { IsSome (declared self.old.table code.value) }
-        requires free { self.old.place.reading ≡ None }
+        requires free { self.old.place.unfinished ≡ None }
         requires level { length self.old.place.spot.above < nesting }
         requires only { IsOnlyRoot self.old.place.spot }
         requires short { passes_limit self.old code.width ≡ false }
@@ -96,12 +96,12 @@ impl Draft {
         self.tree.begin(code)
     }
 
-    /// The entry that is read is given its next value (section 7.5.3). With its last value it is
+    /// The unfinished entry is given its next value (section 7.5.3). With its last value it is
     /// complete: closed where its declaration has no children, else open. `AllocError` where a growth
     /// by the value is refused.
     pub fn value(&mut self, value: &AttrValue<'_>) -> Result<(), AllocError>
-        requires between { begun_in self.old.place.reading ≡ None }
-        requires fits { NextFits (context_of self.old.header) self.old.table self.old.place.reading (attribute_of value.now) }
+        requires between { partial_in self.old.place.unfinished ≡ None }
+        requires fits { NextFits (context_of self.old.header) self.old.table self.old.place.unfinished (attribute_of value.now) }
         requires short { passes_limit self.old (length (value_bytes self.old (attribute_of value.now))) ≡ false }
         ensures ok { OnOk result (self.new ≡ given (attribute_of value.now) self.old) }
         ensures size { OnOk result (drafted_size self.new ≡ drafted_size self.old + length (value_bytes self.old (attribute_of value.now))) }
@@ -116,13 +116,13 @@ impl Draft {
         }
     }
 
-    /// A text, or a block whose length field has `width` bytes, begins as the next value of the entry
-    /// that is read (section 7.5.5). `via` is the form that an indirect value names. The bytes come
+    /// A text, or a block whose length field has `width` bytes, begins as the next value of the unfinished entry
+    ///  (section 7.5.5). `via` is the form that an indirect value names. The bytes come
     /// with `bytes`, and `end_value` ends it. `AllocError` where the growth that its end needs is
     /// refused.
     pub fn start(&mut self, via: Option<Uleb>, width: Option<u8>) -> Result<(), AllocError>
-        requires reading { IsSome self.old.place.reading }
-        requires between { begun_in self.old.place.reading ≡ None }
+        requires unfinished { IsSome self.old.place.unfinished }
+        requires between { partial_in self.old.place.unfinished ≡ None }
         ensures ok { OnOk result (self.new ≡ started (option_map uleb_of via) width self.old) }
         ensures size { OnOk result (drafted_size self.new ≡ drafted_size self.old) }
         ensures err { OnErr result (self.new ≡ self.old) }
@@ -130,10 +130,10 @@ impl Draft {
         self.tree.start(via, width)
     }
 
-    /// The text or block that has begun is given its next bytes. `AllocError` where a growth by them is
+    /// The partial text or block is given its next bytes. `AllocError` where a growth by them is
     /// refused.
     pub fn bytes(&mut self, piece: &[u8]) -> Result<(), AllocError>
-        requires begun { IsSome (begun_in self.old.place.reading) }
+        requires partial { IsSome (partial_in self.old.place.unfinished) }
         ensures ok { OnOk result (self.new ≡ extended piece.now self.old) }
         ensures size { OnOk result (drafted_size self.new ≡ drafted_size self.old) }
         ensures err { OnErr result (self.new ≡ self.old) }
@@ -141,26 +141,26 @@ impl Draft {
         self.tree.bytes(piece)
     }
 
-    /// The text or block that has begun has all its bytes. It takes no memory.
+    /// The partial text or block has all its bytes. It takes no memory.
     pub fn end_value(&mut self)
-        requires fits { BegunFits self.old }
-        requires short { BegunShort self.old }
+        requires fits { PartialFits self.old }
+        requires short { PartialShort self.old }
         ensures ended { self.new ≡ ended self.old }
-        ensures size { IfSome (begun_of self.old) (λ v. drafted_size self.new ≡ drafted_size self.old + length (value_bytes self.old v)) }
+        ensures size { IfSome (partial_of self.old) (λ v. drafted_size self.new ≡ drafted_size self.old + length (value_bytes self.old v)) }
     {
-        if let Some(size) = self.begun_size() {
+        if let Some(size) = self.partial_size() {
             self.tree.end_value(size);
         }
     }
 
-    /// The count of bytes of the text or block that has begun.
-    fn begun_size(&self) -> Option<u64>
-        requires { BegunFits self.now }
-        ensures { result ≡ option_map (λ v. length (value_bytes self.now v)) (begun_of self.now) }
+    /// The count of bytes of the partial text or block.
+    fn partial_size(&self) -> Option<u64>
+        requires { PartialFits self.now }
+        ensures { result ≡ option_map (λ v. length (value_bytes self.now v)) (partial_of self.now) }
     {
-        let begun = self.begun()?;
+        let partial = self.partial_value()?;
         match self.next_pair() {
-            Some(pair) => Some(size_of(self.header.context(), pair.form.value, &begun)),
+            Some(pair) => Some(size_of(self.header.context(), pair.form.value, &partial)),
             None => unreachable!(),
         }
     }
@@ -170,7 +170,7 @@ impl Draft {
     pub fn close(&mut self, width: u8) -> Result<(), AllocError>
         requires width { is_width width ≡ true }
         requires inside { self.old.place.spot.above ≢ [] }
-        requires free { self.old.place.reading ≡ None }
+        requires free { self.old.place.unfinished ≡ None }
         requires short { passes_limit self.old width ≡ false }
         ensures ok { OnOk result (self.new ≡ closed width self.old) }
         ensures size { OnOk result (drafted_size self.new ≡ drafted_size self.old + width) }
@@ -185,7 +185,7 @@ impl Draft {
         requires width { is_width width ≡ true }
         requires root { is_bare self.old.place.spot ≡ false }
         requires whole { self.old.place.spot.above ≡ [] }
-        requires free { self.old.place.reading ≡ None }
+        requires free { self.old.place.unfinished ≡ None }
         requires short { passes_limit self.old width ≡ false }
         ensures ok { OnOk result (self.new ≡ padded width self.old) }
         ensures size { OnOk result (drafted_size self.new ≡ drafted_size self.old + width) }
@@ -196,7 +196,7 @@ impl Draft {
         Ok(())
     }
 
-    /// The entry that is read is taken back, with the values that it was given. It takes no memory.
+    /// The unfinished entry is taken back, with the values that it was given. It takes no memory.
     pub fn undo(&mut self)
         ensures { self.new ≡ undone self.old }
     {
@@ -208,7 +208,7 @@ impl Draft {
     pub fn finish(self) -> Unit
         requires root { is_bare self.place.spot ≡ false }
         requires whole { self.place.spot.above ≡ [] }
-        requires free { self.place.reading ≡ None }
+        requires free { self.place.unfinished ≡ None }
         ensures unit { finished self ≡ Some result }
         ensures fits { UnitFits result }
         ensures size { length (bytes_of result) ≡ drafted_size self }
@@ -238,8 +238,8 @@ impl Draft {
         self.tree.table()
     }
 
-    /// The count of its bytes so far, with those of the initial length and of the entry that is read,
-    /// but not those of a value that has begun. It is less than 2^32 - 12 in the 32-bit format, and less
+    /// The count of its bytes so far, with those of the initial length and of the unfinished entry,
+    /// but not those of a partial value. It is less than 2^32 - 12 in the 32-bit format, and less
     /// than 2^63 in the 64-bit format.
     pub fn size(&self) -> u64
         ensures size { result ≡ drafted_size self.now }
@@ -248,23 +248,23 @@ impl Draft {
         self.tree.end() + self.padded
     }
 
-    /// The pair whose value the entry that is read is given next (section 7.5.3). None exactly where
+    /// The pair whose value the unfinished entry is given next (section 7.5.3). None exactly where
     /// no entry is read.
     pub fn next_pair(&self) -> Option<Pair>
-        ensures pair { option_map pair_of result ≡ next_pair self.now.table self.now.place.reading }
-        ensures reading { is_some result ≡ is_some self.now.place.reading }
+        ensures pair { option_map pair_of result ≡ next_pair self.now.table self.now.place.unfinished }
+        ensures unfinished { is_some result ≡ is_some self.now.place.unfinished }
     {
         self.tree.next_pair()
     }
 
-    /// The text or block that has begun, with its bytes so far.
-    pub fn begun(&self) -> Option<AttrValue<'_>>
-        ensures { option_map attribute_of result ≡ begun_of self.now }
+    /// The partial text or block, with its bytes so far.
+    pub fn partial_value(&self) -> Option<AttrValue<'_>>
+        ensures { option_map attribute_of result ≡ partial_of self.now }
     {
-        self.tree.begun()
+        self.tree.partial_value()
     }
 
-    /// The bytes of its texts and blocks, those of one that has begun included, in the order in which
+    /// The bytes of its texts and blocks, those of a partial one included, in the order in which
     /// they were given. It keeps no others.
     pub fn content(&self) -> &[u8]
         ensures { result.now ≡ held_in self.now.place }
@@ -288,7 +288,7 @@ impl Draft {
         self.depth() < NESTING
     }
 
-    /// Whether no entry was begun, besides one whose values aren't complete.
+    /// Whether there is no entry, besides an unfinished one.
     pub fn is_empty(&self) -> bool
         ensures { result ≡ is_bare self.now.place.spot }
     {

@@ -13,8 +13,8 @@ ghost use Rattle.dw_tree.specs.Place.{nowhere};
 ghost use Rattle.dw_tree.specs.ReadTree.{read_values, read_children, read_tree};
 ghost use Rattle.dw_tree.specs.Flat.{value_part};
 ghost use Rattle.dw_tree.specs.Steps.{end_of};
-ghost use Rattle.dw_unit.specs.Entries.{TellsEntry, TellsForest, TellsRoot, TellsTree};
-ghost use Rattle.dw_unit.specs.Told.{IsNear};
+ghost use Rattle.dw_unit.specs.Entries.{EntryOutcome, ForestOutcome, RootOutcome, TreeOutcome};
+ghost use Rattle.dw_unit.specs.Outcomes.{IsNear};
 
 use crate::bad::BodyError;
 use crate::codes::{child_code, root_code};
@@ -65,12 +65,12 @@ fn entry_at(
     requires same { draft.old.context ≡ ctx }
     requires some { 0 < code.value }
     requires known { (d : Declaration) × (declared draft.old.table code.value ≡ Some d) × (map pair_of pairs.now ≡ d.pairs) }
-    requires free { draft.old.place.reading ≡ None }
+    requires free { draft.old.place.unfinished ≡ None }
     requires level { length draft.old.place.spot.above < nesting }
     requires within { at ≤ length b.now }
     requires left { at ≤ lim }
     requires bounded { end_of draft.old + code.width + (lim - at) < 2 ^ 63 }
-    ensures exact { TellsEntry at (uleb_of code) draft.old draft.new result (read_values ctx (map pair_of pairs.now) (drop at b.now) (lim - at)) }
+    ensures exact { EntryOutcome at (uleb_of code) draft.old draft.new result (read_values ctx (map pair_of pairs.now) (drop at b.now) (lim - at)) }
     ensures end { IfOk result (λ next. end_of draft.new + at ≡ end_of draft.old + code.width + next) }
     ensures room { IfOk result (λ next. (at ≤ next) × (next ≤ length b.now) × (next ≤ lim)) }
     ensures near { IfErr result (IsNear (length b.now)) }
@@ -106,13 +106,13 @@ fn children_at(
     requires context { IsContext ctx }
     requires same { draft.old.context ≡ ctx }
     requires over { draft.old.table ≡ table.now }
-    requires free { draft.old.place.reading ≡ None }
+    requires free { draft.old.place.unfinished ≡ None }
     requires empty { draft.old.place.spot.left ≡ none }
     requires level { length draft.old.place.spot.above + room ≡ nesting }
     requires within { at ≤ length b.now }
     requires left { at ≤ lim }
     requires bounded { end_of draft.old + (lim - at) < 2 ^ 63 }
-    ensures exact { TellsForest at draft.old draft.new result (read_children ctx table.now room (drop at b.now) (lim - at)) }
+    ensures exact { ForestOutcome at draft.old draft.new result (read_children ctx table.now room (drop at b.now) (lim - at)) }
     ensures null { IfOk result (λ x. x.0.value ≡ 0) }
     ensures end { IfOk result (λ x. end_of draft.new + x.0.width + at ≡ end_of draft.old + x.1) }
     ensures room { IfOk result (λ x. (at ≤ x.1) × (x.1 ≤ length b.now) × (x.1 ≤ lim)) }
@@ -156,12 +156,12 @@ fn root_at(
     requires context { IsContext ctx }
     requires same { draft.old.context ≡ ctx }
     requires over { draft.old.table ≡ table.now }
-    requires fresh { draft.old.place ≡ record { spot = nowhere; reading = None } }
+    requires fresh { draft.old.place ≡ record { spot = nowhere; unfinished = None } }
     requires found { checked read_uleb (bad_root table.now) b.now lim ≡ Found (uleb_of code) code.width }
     requires known { (0 < code.value) × IsSome (declared table.now code.value) }
     requires within { (code.width ≤ length b.now) × (code.width ≤ lim) }
     requires bounded { end_of draft.old + lim < 2 ^ 63 }
-    ensures exact { TellsRoot draft.old draft.new result (read_tree ctx table.now (nesting - 1) b.now lim) }
+    ensures exact { RootOutcome draft.old draft.new result (read_tree ctx table.now (nesting - 1) b.now lim) }
     ensures room { IfOk result (λ x. (x ≤ length b.now) × (x ≤ lim)) }
     ensures near { IfErr result (IsNear (length b.now)) }
 {
@@ -192,7 +192,7 @@ pub(crate) fn tree_at(
 ) -> Result<(EntryTree, usize), BodyError>
     requires context { IsContext ctx }
     requires near { start + lim < 2 ^ 63 }
-    ensures exact { TellsTree ctx table.value start result (read_tree ctx table.value (nesting - 1) b.now lim) }
+    ensures exact { TreeOutcome ctx table.value start result (read_tree ctx table.value (nesting - 1) b.now lim) }
     ensures fits { IfOk result (λ x. (part ctx table.value (nesting - 1)).Fits x.0.root) }
     ensures room { IfOk result (λ x. (x.1 ≤ length b.now) × (x.1 ≤ lim)) }
     ensures near { IfErr result (IsNear (length b.now)) }

@@ -5,7 +5,7 @@ ghost use Rattle.dw_form.specs.Form.{IsContext};
 ghost use Rattle.dw_form.specs.Lent.{attribute_of};
 ghost use Rattle.dw_abbrev.specs.PairView.{pair_of};
 ghost use Rattle.dw_abbrev.specs.Table.{declared};
-ghost use Rattle.dw_tree.specs.Tree.{nesting, pairs_of, values as value_parts};
+ghost use Rattle.dw_tree.specs.Tree.{nesting, declared_pairs, values as value_parts};
 ghost use Rattle.dw_tree.specs.Steps.{settle};
 ghost use Rattle.dw_header.specs.Header.{context_of};
 ghost use Rattle.dw_unit.specs.Draft.{with_place, passes_limit, IsOnlyRoot};
@@ -70,11 +70,11 @@ pub(crate) fn put_entry(
 ) -> Result<(), AllocError>
     requires some { 0 < code.value }
     requires known { IsSome (declared draft.old.table code.value) }
-    requires free { draft.old.place.reading ≡ None }
+    requires free { draft.old.place.unfinished ≡ None }
     requires level { length draft.old.place.spot.above < nesting }
     requires only { IsOnlyRoot draft.old.place.spot }
-    requires fits { (value_parts (context_of draft.old.header) (pairs_of (declared draft.old.table code.value))).Fits (map attribute_of values.now) }
-    requires short { passes_limit draft.old (code.width + length ((value_parts (context_of draft.old.header) (pairs_of (declared draft.old.table code.value))).spell (map attribute_of values.now))) ≡ false }
+    requires fits { (value_parts (context_of draft.old.header) (declared_pairs (declared draft.old.table code.value))).Fits (map attribute_of values.now) }
+    requires short { passes_limit draft.old (code.width + length ((value_parts (context_of draft.old.header) (declared_pairs (declared draft.old.table code.value))).spell (map attribute_of values.now))) ≡ false }
     ensures ok { OnOk result (draft.new ≡ with_place (settle draft.old.table draft.old.place.spot (uleb_of code) (map attribute_of values.now)) draft.old) }
     ensures err { OnErr result (draft.new ≡ draft.old) }
 {

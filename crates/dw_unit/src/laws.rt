@@ -1,7 +1,7 @@
 //! Laws of the definitions of trees and units. They call nothing.
 ghost use Rattle.std.specs.Prelude.{ℕ};
 ghost use Rattle.dw_leb.specs.Laws.{NoneBegins, OneAnswer};
-ghost use Rattle.dw_leb.specs.Stay.{Stays};
+ghost use Rattle.dw_leb.specs.PartLaws.{Stays};
 ghost use Rattle.dw_form.specs.declared.shape.Ctx.{Ctx};
 ghost use Rattle.dw_abbrev.specs.Table.{Table};
 ghost use Rattle.dw_tree.specs.Tree.{tree};

@@ -1,16 +1,16 @@
 //! Reading a unit.
 ghost use Rattle.std.specs.Prelude.{◌≡◌, ◌≤◌, ◌-◌, ◌^◌, length, ℕ, IfOk, IfErr};
 ghost use Rattle.dw_unit.specs.Unit.{WholeUnit, UnitAt};
-ghost use Rattle.dw_abbrev.specs.Tells.{refused_memory};
-ghost use Rattle.dw_unit.specs.UnitView.{TellsFault, FaultWithin, NamesTable, unit_error_of};
-ghost use Rattle.dw_unit.specs.Told.{IsNear};
+ghost use Rattle.dw_abbrev.specs.TableErrors.{refused_memory};
+ghost use Rattle.dw_unit.specs.UnitView.{IsUnitError, FaultWithin, NamesTable, unit_error_of};
+ghost use Rattle.dw_unit.specs.Outcomes.{IsNear};
 
 use crate::bad::BodyError;
 use crate::body::body_at;
 use crate::unit::Unit;
 use dw_abbrev::Tables;
 use dw_header::read_header;
-use dw_leb::{Fault, Order, ReadError, Section};
+use dw_leb::{Fault, Order, ReadError, SectionId};
 use std::alloc::Global;
 
 /// The unit at the front of `b`, and the count of its bytes: exactly the length field and the
@@ -31,7 +31,7 @@ pub fn read_unit(
 ) -> Result<(Unit, usize), ReadError>
     ensures found { IfOk result (λ x. UnitAt tables.old order b.now x.0 x.1) }
     ensures only { (u : WholeUnit) (size : ℕ) → UnitAt tables.old order b.now u size → IfOk result (λ x. (x.0 ≡ u) × (x.1 ≡ size)) × IfErr result (λ e. e ≡ refused_memory) }
-    ensures broken { IfErr result (TellsFault tables.old order b.now) }
+    ensures broken { IfErr result (IsUnitError tables.old order b.now) }
     ensures near { IfErr result (FaultWithin (length b.now)) }
     ensures memory { IfErr result (λ e. e ≡ refused_memory → NamesTable tables.old order b.now) }
     ensures tables { tables.new ≡ tables.old }
@@ -61,7 +61,7 @@ fn unit_error(at: usize, e: BodyError) -> ReadError
 {
     match e {
         BodyError::Bad(e) => ReadError::Fault(Fault {
-            section: Section::Info,
+            section: SectionId::Info,
             offset: (at + e.offset) as u64,
             reason: e.reason,
         }),

@@ -1,6 +1,6 @@
 //! Writing a unit.
 ghost use Rattle.std.specs.Prelude.{◌≡◌, ◌++◌, ℕ, List, length, None};
-ghost use Rattle.dw_leb.specs.Watch.{inner_of, fault_of, told_by_write, Wrote};
+ghost use Rattle.dw_leb.specs.Watch.{inner_of, fault_of, writer_fault, Wrote};
 ghost use Rattle.dw_abbrev.specs.Table.{TableAt};
 ghost use Rattle.dw_tree.specs.Tree.{nulls, AreNulls};
 ghost use Rattle.dw_unit.specs.Unit.{bytes_of, UnitFits, ReadAs};
@@ -21,10 +21,10 @@ use std::io::Write;
 pub fn write_unit<W: Write>(unit: &Unit, writer: &mut Watched<W>) -> Result<(), WriteError>
     requires { fault_of writer.old ≡ None }
     ensures written { Wrote (W.contents (inner_of writer.old)) (W.contents (inner_of writer.new)) (bytes_of unit.now) result }
-    ensures fault { fault_of writer.new ≡ told_by_write result }
+    ensures fault { fault_of writer.new ≡ writer_fault result }
     ensures fits { UnitFits unit.now }
-    ensures read_back { (section rest : List ℕ) → TableAt section unit.now.header.abbrev_offset unit.now.table
-        → ReadAs section unit.now.header.order (bytes_of unit.now ++ rest) unit.now (length (bytes_of unit.now)) }
+    ensures read_back { (abbreviations rest : List ℕ) → TableAt abbreviations unit.now.header.abbrev_offset unit.now.table
+        → ReadAs abbreviations unit.now.header.order (bytes_of unit.now ++ rest) unit.now (length (bytes_of unit.now)) }
 {
     let header = unit.header;
     let behind = unit.size - header.format().length_size() as u64;
@@ -38,7 +38,7 @@ fn write_nulls<W: Write>(widths: &[u8], writer: &mut Watched<W>) -> Result<(), W
     requires nulls { AreNulls widths.now }
     requires clear { fault_of writer.old ≡ None }
     ensures written { Wrote (W.contents (inner_of writer.old)) (W.contents (inner_of writer.new)) (nulls widths.now) result }
-    ensures fault { fault_of writer.new ≡ told_by_write result }
+    ensures fault { fault_of writer.new ≡ writer_fault result }
 {
     let mut left = widths;
     while let Some((width, others)) = left.split_first() {

@@ -4,31 +4,31 @@ use Rattle.std.specs.Prelude.{IsSome, IfSome}
 use Rattle.dw_form.specs.Form.{attribute, shaped, shape}
 use Rattle.dw_tree.specs.Tree.{Forest, nesting}
 use Rattle.dw_tree.specs.Place.{Frame, Spot, nowhere, enter, leave_from}
-use Rattle.dw_tree.specs.Steps.{Growing, begun_at, begun_in, begun_value, started, extended, ended, closed_at, NextFits, next_bytes, finished}
+use Rattle.dw_tree.specs.Steps.{Growing, begun_at, partial_in, partial_attribute, started, extended, ended, closed_at, NextFits, next_bytes, finished}
 use Rattle.dw_unit_tests.specs.Samples.{two_codes, bare_code, little, wide, a_name, a_size, with_name}
 
 -- ---- the value of an entry that was just begun
 
 module _ (g : Growing) (w : ℕ) (context : g.context ≡ little) (table : g.table ≡ two_codes) where
-  pub name_fits : NextFits g.context g.table (begun_at (wide 1 w) g).place.reading a_name
+  pub name_fits : NextFits g.context g.table (begun_at (wide 1 w) g).place.unfinished a_name
   unfolding attribute shaped shape
   name_fits = rw (context, table) (omega arith, tt)
 
-  pub name_size : 2 ≡ length (next_bytes g.context g.table (begun_at (wide 1 w) g).place.reading a_name)
+  pub name_size : 2 ≡ length (next_bytes g.context g.table (begun_at (wide 1 w) g).place.unfinished a_name)
   unfolding attribute shaped shape
   name_size = rw (context, table) refl
 
-  pub name_alone : begun_in (begun_at (wide 1 w) g).place.reading ≡ None
+  pub name_alone : partial_in (begun_at (wide 1 w) g).place.unfinished ≡ None
   name_alone = rw table refl
 
-  pub size_alone : begun_in (begun_at (wide 2 w) g).place.reading ≡ None
+  pub size_alone : partial_in (begun_at (wide 2 w) g).place.unfinished ≡ None
   size_alone = rw table refl
 
-  pub size_fits : NextFits g.context g.table (begun_at (wide 2 w) g).place.reading a_size
+  pub size_fits : NextFits g.context g.table (begun_at (wide 2 w) g).place.unfinished a_size
   unfolding attribute shaped shape
   size_fits = rw (context, table) (omega arith)
 
-  pub size_size : 1 ≡ length (next_bytes g.context g.table (begun_at (wide 2 w) g).place.reading a_size)
+  pub size_size : 1 ≡ length (next_bytes g.context g.table (begun_at (wide 2 w) g).place.unfinished a_size)
   unfolding attribute shaped shape
   size_size = rw (context, table) refl
 
@@ -41,11 +41,11 @@ module _ (g : Growing) (context : g.context ≡ little) (table : g.table ≡ two
   abbrev pub whole_name : Growing
   whole_name = extended (0x61 ∷ []) (extended [] started_name)
 
-  pub pieces_fit : IfSome (begun_in whole_name.place.reading) (λ b. NextFits g.context g.table whole_name.place.reading (begun_value b))
+  pub pieces_fit : IfSome (partial_in whole_name.place.unfinished) (λ b. NextFits g.context g.table whole_name.place.unfinished (partial_attribute b))
   unfolding attribute shaped shape
   pieces_fit = rw (context, table) (omega arith, tt)
 
-  pub pieces_size : IfSome (begun_in whole_name.place.reading) (λ b. 2 ≡ length (next_bytes g.context g.table whole_name.place.reading (begun_value b)))
+  pub pieces_size : IfSome (partial_in whole_name.place.unfinished) (λ b. 2 ≡ length (next_bytes g.context g.table whole_name.place.unfinished (partial_attribute b)))
   unfolding attribute shaped shape
   pieces_size = rw (context, table) refl
 
@@ -56,7 +56,7 @@ down zero = nowhere
 down (suc n) = enter (wide 1 1) [] (down n)
 
 abbrev pub opened : ℕ → Growing
-opened n = record { context = little; table = bare_code; start = 12; place = record { spot = down n; reading = None } }
+opened n = record { context = little; table = bare_code; start = 12; place = record { spot = down n; unfinished = None } }
 
 pub depth_is : (n : ℕ) → length (down n).above ≡ n
 depth_is zero = refl

@@ -45,8 +45,8 @@ a_size = record { via = None; value = Num 4 }
 
 -- an entry "a" begins
 abbrev pub with_name : ℕ → Growing → Growing
-with_name width g = record g { place = record { spot = enter (wide 1 width) (a_name ∷ []) g.place.spot; reading = None } }
+with_name width g = record g { place = record { spot = enter (wide 1 width) (a_name ∷ []) g.place.spot; unfinished = None } }
 
 -- an entry of the size 4 without children
 abbrev pub with_size : ℕ → Growing → Growing
-with_size width g = record g { place = record { spot = add (leaf (wide 2 width) (a_size ∷ [])) g.place.spot; reading = None } }
+with_size width g = record g { place = record { spot = add (leaf (wide 2 width) (a_size ∷ [])) g.place.spot; unfinished = None } }

@@ -1,6 +1,6 @@
 //! Sections, units and calls that several tests begin with.
 use dw_abbrev::Tables;
-use dw_leb::{Fault, Format, Order, ReadError, Reason, Section, Watched, WriteError};
+use dw_leb::{Fault, Format, Order, ReadError, Reason, SectionId, Watched, WriteError};
 use dw_unit::{Header, Kind, Refusal, Unit, UnitBuilder, read_unit, write_unit};
 use std::alloc::Global;
 use std::process::Abort;
@@ -70,7 +70,7 @@ pub fn refusal(alloc: Global, order: Order, section: &[u8], b: &[u8]) -> Option<
 /// A fault in `.debug_info`.
 pub fn in_info(offset: u64, reason: Reason) -> Option<Fault> {
     Some(Fault {
-        section: Section::Info,
+        section: SectionId::Info,
         offset,
         reason,
     })

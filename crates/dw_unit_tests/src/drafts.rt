@@ -2,7 +2,7 @@
 //! call asks for with the draft's own observers, and makes it again where memory is refused; the same
 //! unit from a builder; an entry taken back.
 ghost use Rattle.std.specs.Prelude.{IsTrue};
-ghost use Rattle.dw_unit.specs.Draft.{BegunFits, BegunShort};
+ghost use Rattle.dw_unit.specs.Draft.{PartialFits, PartialShort};
 
 use crate::common::{PADDED, TYPED, builder, finished, same, writes};
 use dw_abbrev::Tables;
@@ -36,7 +36,7 @@ fn wide_one() -> Result<Uleb, Fail> {
 }
 
 /// An entry of this code begins, where one can.
-fn begun(draft: &mut Draft, code: Uleb) -> Result<(), Fail> {
+fn partial_value(draft: &mut Draft, code: Uleb) -> Result<(), Fail> {
     if draft.next_pair().is_some() {
         return Err("an entry is read".into());
     }
@@ -54,10 +54,10 @@ fn begun(draft: &mut Draft, code: Uleb) -> Result<(), Fail> {
     Ok(())
 }
 
-/// The entry that is read is given a value that fits.
+/// The unfinished entry is given a value that fits.
 fn given(draft: &mut Draft, value: AttrValue<'_>) -> Result<(), Fail> {
-    if draft.begun().is_some() {
-        return Err("a value has begun".into());
+    if draft.partial_value().is_some() {
+        return Err("a value is partial".into());
     }
     let Some(pair) = draft.next_pair() else {
         return Err("no entry is read".into());
@@ -75,9 +75,9 @@ fn given(draft: &mut Draft, value: AttrValue<'_>) -> Result<(), Fail> {
     Ok(())
 }
 
-/// A text begins as the next value of the entry that is read.
+/// A text begins as the next value of the unfinished entry.
 fn started(draft: &mut Draft) -> Result<(), Fail> {
-    if draft.next_pair().is_none() || draft.begun().is_some() {
+    if draft.next_pair().is_none() || draft.partial_value().is_some() {
         return Err("no value can begin".into());
     }
     if draft.start(None, None).is_err() {
@@ -86,10 +86,10 @@ fn started(draft: &mut Draft) -> Result<(), Fail> {
     Ok(())
 }
 
-/// The text that has begun is given more of its bytes.
+/// The partial text is given more of its bytes.
 fn lengthened(draft: &mut Draft, piece: &[u8]) -> Result<(), Fail> {
-    if draft.begun().is_none() {
-        return Err("no value has begun".into());
+    if draft.partial_value().is_none() {
+        return Err("no value is partial".into());
     }
     if draft.bytes(piece).is_err() {
         draft.bytes(piece)?;
@@ -97,24 +97,24 @@ fn lengthened(draft: &mut Draft, piece: &[u8]) -> Result<(), Fail> {
     Ok(())
 }
 
-/// Whether the text that has begun fits as it is.
+/// Whether the partial text fits as it is.
 fn can_end(draft: &Draft) -> bool
-    ensures { IsTrue result → (BegunFits draft.now × BegunShort draft.now) }
+    ensures { IsTrue result → (PartialFits draft.now × PartialShort draft.now) }
 {
     let Some(pair) = draft.next_pair() else {
         return false;
     };
-    let Some(begun) = draft.begun() else {
+    let Some(partial) = draft.partial_value() else {
         return false;
     };
     let ctx = draft.header().context();
-    if !fits(ctx, pair.form.value, pair.constant, &begun) {
+    if !fits(ctx, pair.form.value, pair.constant, &partial) {
         return false;
     }
-    !draft.is_too_long(size_of(ctx, pair.form.value, &begun))
+    !draft.is_too_long(size_of(ctx, pair.form.value, &partial))
 }
 
-/// The text that has begun has all its bytes.
+/// The partial text has all its bytes.
 fn ended(draft: &mut Draft) -> Result<(), Fail> {
     if !can_end(draft) {
         return Err("a wrong text".into());
@@ -160,7 +160,7 @@ fn whole(draft: Draft) -> Result<Unit, Fail> {
 
 /// Behind the root's name, its child of the size 4, their null in two bytes, and nulls of one and two bytes.
 fn child_and_padding(draft: &mut Draft) -> Result<(), Fail> {
-    begun(draft, Uleb::least(2))?;
+    partial_value(draft, Uleb::least(2))?;
     given(draft, four())?;
     closed(draft, 2)?;
     padded(draft, 1)?;
@@ -200,11 +200,11 @@ fn is_empty_of(rt: &impl Abort, draft: &Draft, size: u64) {
 /// A root and its child begin, with the depth after each step.
 fn goes_down(rt: &impl Abort, draft: &mut Draft) -> Result<(), Fail> {
     is_empty_of(rt, draft, 12);
-    begun(draft, wide_one()?)?;
+    partial_value(draft, wide_one()?)?;
     is_empty_of(rt, draft, 14);
     given(draft, name())?;
     assert!(rt; draft.depth() == 1);
-    begun(draft, Uleb::least(2))?;
+    partial_value(draft, Uleb::least(2))?;
     given(draft, four())?;
     assert!(rt; draft.depth() == 1);
     Ok(())
@@ -232,26 +232,26 @@ fn a_unit_step_by_step(rt: HostRuntime) -> Result<(), Fail> {
 
 /// The root's name is given in two pieces, of which the first is empty.
 fn is_named_in_pieces(rt: &impl Abort, draft: &mut Draft) -> Result<(), Fail> {
-    begun(draft, wide_one()?)?;
+    partial_value(draft, wide_one()?)?;
     started(draft)?;
     lengthened(draft, &[])?;
     same(rt, draft.content(), &[]);
     lengthened(draft, &[0x61])?;
     same(rt, draft.content(), &[0x61]);
     let text = draft
-        .begun()
-        .map(|begun| begun.value == Value::Text(&[0x61]));
+        .partial_value()
+        .map(|partial| partial.value == Value::Text(&[0x61]));
     assert!(rt; text == Some(true));
     assert!(rt; draft.size() == 14);
     ended(draft)?;
-    assert!(rt; draft.begun().is_none() == true);
+    assert!(rt; draft.partial_value().is_none() == true);
     assert!(rt; draft.size() == 16);
     Ok(())
 }
 
 /// An entry is taken back in the middle of its name, of which nothing is kept.
 fn takes_a_name_back(rt: &impl Abort, draft: &mut Draft) -> Result<(), Fail> {
-    begun(draft, Uleb::least(1))?;
+    partial_value(draft, Uleb::least(1))?;
     started(draft)?;
     lengthened(draft, &[0x62, 0x63])?;
     draft.undo();
@@ -269,7 +269,7 @@ fn a_name_in_pieces(rt: HostRuntime) -> Result<(), Fail> {
 }
 
 fn cannot_end(rt: &impl Abort, draft: &mut Draft) -> Result<(), Fail> {
-    begun(draft, Uleb::least(1))?;
+    partial_value(draft, Uleb::least(1))?;
     started(draft)?;
     lengthened(draft, &[0x61, 0])?;
     assert!(rt; !can_end(draft));
@@ -286,7 +286,7 @@ fn a_wrong_name_in_pieces(rt: HostRuntime) -> Result<(), Fail> {
 
 /// The root begins and is taken back before its name.
 fn takes_the_root_back(rt: &impl Abort, draft: &mut Draft) -> Result<(), Fail> {
-    begun(draft, Uleb::least(1))?;
+    partial_value(draft, Uleb::least(1))?;
     let pair = draft.next_pair().ok_or("no entry is read")?;
     assert!(rt; pair.form.value == 0x08);
     draft.undo();
@@ -297,9 +297,9 @@ fn takes_the_root_back(rt: &impl Abort, draft: &mut Draft) -> Result<(), Fail> {
 
 /// The root, and an entry in its child's place that is taken back.
 fn takes_a_child_back(draft: &mut Draft) -> Result<(), Fail> {
-    begun(draft, wide_one()?)?;
+    partial_value(draft, wide_one()?)?;
     given(draft, name())?;
-    begun(draft, Uleb::least(1))?;
+    partial_value(draft, Uleb::least(1))?;
     draft.undo();
     Ok(())
 }

@@ -1,13 +1,13 @@
 //! What no clause of `dw_feed` says: units whose values are known from the standard, from readers that give few
 //! bytes a call, end early or fail, each with memory to spare.
 ghost use Rattle.std.specs.Prelude.{◌≡◌, None};
-ghost use Rattle.dw_leb.specs.Watch.{fault_of, told_by_read};
+ghost use Rattle.dw_leb.specs.Watch.{fault_of, reader_fault};
 
 use crate::common::{FIFTEEN, NAMED, SIXTY_FOUR, TYPED, same};
 use dw_abbrev::Tables;
 use dw_feed::{read_unit_from, unit_bytes};
 use dw_leb::devices::Stepped;
-use dw_leb::{Fault, Order, ReadError, Reason, Section, Watched};
+use dw_leb::{Fault, Order, ReadError, Reason, SectionId, Watched};
 use dw_unit::Unit;
 use std::alloc::{AllocError, Global};
 use std::io::{ErrorKind, Read};
@@ -20,7 +20,7 @@ fn little<R: Read>(
     reader: &mut Watched<R>,
 ) -> Result<Unit, ReadError>
     requires { fault_of reader.old ≡ None }
-    ensures { fault_of reader.new ≡ told_by_read result }
+    ensures { fault_of reader.new ≡ reader_fault result }
 {
     let mut tables = Tables::new(alloc, section);
     read_unit_from(alloc, Order::Little, &mut tables, reader)
@@ -46,7 +46,7 @@ fn refused(alloc: Global, order: Order, section: &[u8], b: &[u8]) -> Option<(u64
         Err(
             ReadError::Fault(
                 Fault {
-                    section: Section::Info,
+                    section: SectionId::Info,
                     offset,
                     reason,
                 },

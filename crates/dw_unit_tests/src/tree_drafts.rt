@@ -61,7 +61,7 @@ fn near(draft: &TreeDraft) -> Result<(), Fail>
 fn named(draft: &mut TreeDraft, width: u8) -> Result<(), Fail>
     requires context { draft.old.context ≡ little }
     requires table { draft.old.table ≡ two_codes_table }
-    requires free { draft.old.place.reading ≡ None }
+    requires free { draft.old.place.unfinished ≡ None }
     requires level { length draft.old.place.spot.above < 10 }
     ensures { OnOk result (draft.new ≡ with_name width draft.old) }
 {
@@ -80,7 +80,7 @@ fn named(draft: &mut TreeDraft, width: u8) -> Result<(), Fail>
 fn named_in_pieces(draft: &mut TreeDraft) -> Result<(), Fail>
     requires context { draft.old.context ≡ little }
     requires table { draft.old.table ≡ two_codes_table }
-    requires free { draft.old.place.reading ≡ None }
+    requires free { draft.old.place.unfinished ≡ None }
     requires level { length draft.old.place.spot.above < 10 }
     ensures { OnOk result (draft.new ≡ with_name 1 draft.old) }
 {
@@ -98,7 +98,7 @@ fn named_in_pieces(draft: &mut TreeDraft) -> Result<(), Fail>
 fn sized(draft: &mut TreeDraft, width: u8) -> Result<(), Fail>
     requires context { draft.old.context ≡ little }
     requires table { draft.old.table ≡ two_codes_table }
-    requires free { draft.old.place.reading ≡ None }
+    requires free { draft.old.place.unfinished ≡ None }
     requires level { length draft.old.place.spot.above < 10 }
     ensures { OnOk result (draft.new ≡ with_size width draft.old) }
 {
@@ -116,7 +116,7 @@ fn sized(draft: &mut TreeDraft, width: u8) -> Result<(), Fail>
 /// The innermost open entry is closed by a null of this width.
 fn closed(draft: &mut TreeDraft, width: u8) -> Result<(), Fail>
     requires inside { draft.old.place.spot.above ≢ [] }
-    requires free { draft.old.place.reading ≡ None }
+    requires free { draft.old.place.unfinished ≡ None }
     ensures { OnOk result (draft.new ≡ closed_at width draft.old) }
 {
     near(draft)?;

@@ -2,7 +2,7 @@
 //! to spare, and writers that take little or fail.
 use crate::common::{FIFTEEN, NAMED, SIXTY_FOUR, in_info, little, read, refusal, refuses, same, writes};
 use dw_leb::devices::Stepped;
-use dw_leb::{Fault, Format, Order, Reason, Section, Watched, WriteError};
+use dw_leb::{Fault, Format, Order, Reason, SectionId, Watched, WriteError};
 use dw_unit::{AttrRef, Header, Kind, Unit, read_header, write_unit};
 use std::alloc::{AllocError, Global};
 use std::io::ErrorKind;
@@ -347,7 +347,7 @@ fn refused_fields(rt: HostRuntime) {
 
 fn in_abbrev(offset: u64, reason: Reason) -> Option<Fault> {
     Some(Fault {
-        section: Section::Abbrev,
+        section: SectionId::Abbrev,
         offset,
         reason,
     })

@@ -18,7 +18,7 @@ pub use dw_abbrev::{Decl, Pair, Table, TableBuilder, TableRefusal, Tables};
 pub use dw_feed::read_unit_from;
 pub use dw_form::{AttrValue, Ctx, Shape, Value};
 pub use dw_leb::{
-    Fault, Format, Order, ReadError, Reason, Section, Sleb, Uleb, Watched, WriteError, constants,
+    Fault, Format, Order, ReadError, Reason, SectionId, Sleb, Uleb, Watched, WriteError, constants,
 };
 pub use dw_unit::{
     AttrRef, Attrs, Children, Draft, Entries, EntryRef, Header, Kind, Refusal, Unit, UnitBuilder,

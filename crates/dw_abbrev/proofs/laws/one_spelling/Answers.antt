@@ -1,4 +1,4 @@
-use Rattle.dw_leb.specs.Stay.{one_front}
+use Rattle.dw_leb.specs.PartLaws.{one_front}
 use Rattle.dw_abbrev.specs.DecideTable.{table_decides}
 use Rattle.dw_abbrev.proofs.laws.one_spelling.Goals as goal
 

@@ -11,10 +11,10 @@ use Rattle.dw_abbrev.proofs.pair.pairs_at.Given as goal
 abbrev pub invariant-loop-list : goal.invariant-loop-list
 invariant-loop-list l =
     record {
-      read : ReadTo (λ before. read_names (length before)) is_end read_constant l.section l.at (map pair_parts (map pair_of l.list.items)) l.here;
+      read : ReadTo (λ before. read_names (length before)) is_end read_constant l.abbreviations l.at (map pair_parts (map pair_of l.list.items)) l.here;
       pairs : ArePairs (map pair_of l.list.items);
-      within : l.here ≤ length l.section;
+      within : l.here ≤ length l.abbreviations;
     }
 
 abbrev pub decreases-loop-list : goal.decreases-loop-list
-decreases-loop-list l = length l.section - l.here
+decreases-loop-list l = length l.abbreviations - l.here

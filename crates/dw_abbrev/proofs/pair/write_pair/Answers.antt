@@ -6,7 +6,7 @@ use Rattle.dw_abbrev.specs.PairView.{pair_of}
 use Rattle.std.proofs.Common.{ℕ, List, Option, ◌++◌, subst, sym, ap, ◌∙◌, append-nil}
 use Rattle.dw_leb.specs.Number.{uleb, sleb}
 use Rattle.dw_leb.specs.Watch.{inner_of, Wrote}
-use Rattle.dw_leb.specs.Known.{appends_more, wrote_then, wrote_err}
+use Rattle.dw_leb.specs.Transfers.{appends_more, wrote_then, wrote_err}
 use Rattle.dw_abbrev.specs.Spelling.{constant_bytes}
 use Rattle.dw_abbrev.proofs.pair.write_pair.Goals as goal
 

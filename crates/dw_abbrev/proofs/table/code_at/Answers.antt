@@ -5,12 +5,12 @@ use Rattle.dw_abbrev.proofs.table.code_at.Goals as goal
 
 pub returns-then-contains_key-clause-err : goal.returns-then-contains_key-clause-err
 returns-then-contains_key-clause-err c =
-    rw c.fault.ensures (code_repeats c.args.section.now c.args.at c.args.decls.now.entries c.requires.keyed (uleb_of c.in_ok-code.code) c.in_ok-code.next c.in_ok-code.ensures.ok
+    rw c.fault.ensures (code_repeats c.args.abbreviations.now c.args.at c.args.decls.now.entries c.requires.keyed (uleb_of c.in_ok-code.code) c.in_ok-code.next c.in_ok-code.ensures.ok
     (sym c.if-contains_key.true ∙ c.contains_key.ensures))
 
 pub returns-clause-ok : goal.returns-clause-ok
 returns-clause-ok c =
-    code_passes c.args.section.now c.args.at c.args.decls.now.entries c.requires.keyed (uleb_of c.in_ok-code.code) c.in_ok-code.next c.in_ok-code.ensures.ok
+    code_passes c.args.abbreviations.now c.args.at c.args.decls.now.entries c.requires.keyed (uleb_of c.in_ok-code.code) c.in_ok-code.next c.in_ok-code.ensures.ok
     (sym c.if-contains_key.false ∙ c.contains_key.ensures)
 
 pub returns-clause-fresh : goal.returns-clause-fresh

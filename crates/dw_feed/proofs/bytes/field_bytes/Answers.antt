@@ -1,6 +1,6 @@
 use Rattle.std.proofs.Common.{◌≡◌, ◌∙◌, List, [], ◌++◌, Bool, ℕ, sym, ap, subst, arith, inl, inr}
 use Rattle.std.proofs.lemmas.Result.{err_from_is_err_and}
-use Rattle.dw_leb.specs.Known.{consumes_none}
+use Rattle.dw_leb.specs.Transfers.{consumes_none}
 use Rattle.dw_feed.specs.Feed.{escape, IsEscape}
 use Rattle.dw_feed.proofs.Taking.{field_error, kept_more}
 use Rattle.dw_feed.proofs.bytes.field_bytes.Goals as goal

@@ -1,5 +1,5 @@
 use Rattle.std.proofs.Common.{◌++◌, take, arith, length-append, length-take}
-use Rattle.dw_leb.specs.Known.{consumes_more}
+use Rattle.dw_leb.specs.Transfers.{consumes_more}
 use Rattle.dw_feed.proofs.bytes.read_up_to.Goals as goal
 
 pub returns-then-is_err-clause-bytes : goal.returns-then-is_err-clause-bytes

@@ -3,8 +3,8 @@ use Rattle.std.proofs.lemmas.Result.{err_from_is_err_and}
 use Rattle.dw_leb.specs.declared.errors.Reason.{Reason}
 use Rattle.dw_leb.specs.Part.{Taken}
 use Rattle.dw_leb.specs.Number.{initial_length, length_limit, length_size}
-use Rattle.dw_leb.specs.Known.{consumes_more}
-use Rattle.dw_feed.proofs.Cut.{field_uncut, field_size}
+use Rattle.dw_leb.specs.Transfers.{consumes_more}
+use Rattle.dw_feed.proofs.Cut.{field_never_truncated, field_size}
 use Rattle.dw_feed.proofs.Taking.{bytes_error, rest_error, unit_held, kept_more}
 use Rattle.dw_feed.proofs.bytes.unit_bytes.Goals as goal
 
@@ -47,7 +47,7 @@ returns-in-Err-clause-bytes g c =
         reason = reason;
         breaks = breaks;
         inside = field.1;
-        why = elim field.2 [ inl is ↦ inl (field_uncut c.args.order bytes 0 reason is breaks) | inr e ↦ inr e ];
+        why = elim field.2 [ inl is ↦ inl (field_never_truncated c.args.order bytes 0 reason is breaks) | inr e ↦ inr e ];
       }),
     )
 

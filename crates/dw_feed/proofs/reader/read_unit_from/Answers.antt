@@ -1,8 +1,8 @@
 use Rattle.std.proofs.Common.{◌≡◌, List, ℕ, subst}
 use Rattle.std.proofs.lemmas.Result.{err_from_is_err_and}
-use Rattle.dw_abbrev.specs.Tells.{refused_memory}
+use Rattle.dw_abbrev.specs.TableErrors.{refused_memory}
 use Rattle.dw_unit.specs.Unit.{UnitAt}
-use Rattle.dw_unit.specs.UnitView.{TellsFault, NamesTable}
+use Rattle.dw_unit.specs.UnitView.{IsUnitError, NamesTable}
 use Rattle.dw_feed.proofs.Taking.{unit_error, takes_unit, takes_no_unit, kept_unit}
 use Rattle.dw_feed.proofs.reader.read_unit_from.Goals as goal
 
@@ -15,8 +15,8 @@ pub returns-in_err-unit-clause-broken : goal.returns-in_err-unit-clause-broken
 returns-in_err-unit-clause-broken g c =
     let p = err_from_is_err_and c.from_residual-in_err-unit.result c.from_residual-in_err-unit.ensures.1 in
     let held = c.in_ok-bytes.ensures.bytes in
-    let told = subst (λ (b : List ℕ). TellsFault c.args.tables.now c.args.order b c.in_err-unit.field-0.0) c.as_slice.ensures.value c.in_err-unit.ensures.broken in
-    rw (p.1, p.2) (takes_no_unit c.args.tables.now c.args.order _ _ c.in_ok-bytes.bytes.items held.0 held.1 c.in_err-unit.field-0.0 told)
+    let is_error = subst (λ (b : List ℕ). IsUnitError c.args.tables.now c.args.order b c.in_err-unit.field-0.0) c.as_slice.ensures.value c.in_err-unit.ensures.broken in
+    rw (p.1, p.2) (takes_no_unit c.args.tables.now c.args.order _ _ c.in_ok-bytes.bytes.items held.0 held.1 c.in_err-unit.field-0.0 is_error)
 
 pub returns-clause-found : goal.returns-clause-found
 returns-clause-found g c =

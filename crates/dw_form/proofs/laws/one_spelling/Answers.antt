@@ -1,4 +1,4 @@
-use Rattle.dw_leb.specs.Stay.{one_front}
+use Rattle.dw_leb.specs.PartLaws.{one_front}
 use Rattle.dw_form.specs.DecideForm.{attribute_decides}
 use Rattle.dw_form.proofs.laws.one_spelling.Goals as goal
 

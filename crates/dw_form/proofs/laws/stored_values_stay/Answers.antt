@@ -1,4 +1,4 @@
-use Rattle.dw_form.specs.Kept.{content_stays, stored_fits}
+use Rattle.dw_form.specs.StoredView.{content_stays, stored_fits}
 use Rattle.dw_form.proofs.laws.stored_values_stay.Goals as goal
 
 pub returns-clause-fits : goal.returns-clause-fits

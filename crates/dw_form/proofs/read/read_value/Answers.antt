@@ -1,6 +1,6 @@
 use Rattle.std.proofs.Common.{◌∙◌}
 use Rattle.dw_form.specs.Lent.{attribute_of}
-use Rattle.dw_form.specs.Named.{spelled_names}
+use Rattle.dw_form.specs.NamedForms.{spelled_names}
 use Rattle.dw_form.proofs.read.read_value.Goals as goal
 
 pub keep-requires : goal.keep-requires

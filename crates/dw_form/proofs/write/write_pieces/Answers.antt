@@ -1,7 +1,7 @@
 use Rattle.std.proofs.Common.{subst, List, ℕ, ◌++◌}
 use Rattle.std.specs.Io.KnownBytes.{Appends}
 use Rattle.dw_leb.specs.Watch.{inner_of, Wrote, AppendsFront}
-use Rattle.dw_leb.specs.Known.{wrote_then, wrote_err}
+use Rattle.dw_leb.specs.Transfers.{wrote_then, wrote_err}
 use Rattle.dw_form.specs.Lent.{attribute_of}
 use Rattle.dw_form.specs.Pieces.{head_of, content_of, tail_of, pieces_of, via_bytes}
 use Rattle.dw_form.proofs.write.write_pieces.Goals as goal

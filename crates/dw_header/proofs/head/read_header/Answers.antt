@@ -1,14 +1,14 @@
 use Rattle.std.proofs.Common.{◌≡◌, ◌∙◌, ℕ, Err, refl, ap, subst, sym, arith}
 use Rattle.dw_leb.specs.declared.errors.Fault.{Fault}
 use Rattle.dw_leb.specs.declared.errors.Reason.{Reason}
-use Rattle.dw_leb.specs.declared.errors.Section.TheVariants.{Info}
+use Rattle.dw_leb.specs.declared.errors.SectionId.TheVariants.{Info}
 use Rattle.dw_leb.specs.Decide.{broken, broken_value}
 use Rattle.dw_leb.specs.Reader.{Outcome}
 use Rattle.dw_leb.specs.Field.{are_bytes}
-use Rattle.dw_header.specs.HeadLaws.{head_take, head_fault, same_heading, not_both}
+use Rattle.dw_header.specs.Laws.{head_take, head_fault, same_heading, not_both}
 use Rattle.dw_header.specs.ReadHeader.{Heading}
-use Rattle.dw_header.specs.HeadRead.{HeadSays, head_says, head_room, head_within, head_end}
-use Rattle.dw_header.specs.Headed.{HeaderFault}
+use Rattle.dw_header.specs.HeaderFound.{HeadSays, head_says, head_room, head_within, head_end}
+use Rattle.dw_header.specs.HeaderPlace.{HeaderFault}
 use Rattle.dw_header.proofs.head.read_header.Goals as goal
 
 pub returns-in-Ok-clause-found : goal.returns-in-Ok-clause-found

@@ -1,4 +1,4 @@
-use Rattle.dw_header.specs.HeadLaws.{one_header_break, no_header_and_break, header_or_break}
+use Rattle.dw_header.specs.Laws.{one_header_break, no_header_and_break, header_or_break}
 use Rattle.dw_header.proofs.laws.one_outcome.Goals as goal
 
 pub returns-clause-one_break : goal.returns-clause-one_break

@@ -1,6 +1,6 @@
-use Rattle.dw_leb.specs.Stay.{one_front}
+use Rattle.dw_leb.specs.PartLaws.{one_front}
 use Rattle.dw_header.specs.DecideHeader.{fields_decides}
-use Rattle.dw_header.specs.HeadLaws.{no_header_begins, headers_are_spelled, spelled_headers_stand}
+use Rattle.dw_header.specs.Laws.{no_header_begins, headers_are_spelled, spelled_headers_stand}
 use Rattle.dw_header.proofs.laws.one_spelling.Goals as goal
 
 pub returns-clause-fields : goal.returns-clause-fields

@@ -1,5 +1,5 @@
 use Rattle.dw_header.specs.DecideHeader.{fields_stays}
-use Rattle.dw_header.specs.HeadLaws.{header_breaks_stay, headers_stay}
+use Rattle.dw_header.specs.Laws.{header_breaks_stay, headers_stay}
 use Rattle.dw_header.proofs.laws.outcomes_are_stable.Goals as goal
 
 pub returns-clause-fields : goal.returns-clause-fields

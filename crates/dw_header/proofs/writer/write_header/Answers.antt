@@ -3,7 +3,7 @@ use Rattle.dw_leb.specs.declared.order.Order.{Order}
 use Rattle.dw_leb.specs.declared.order.Format.{Format}
 use Rattle.std.specs.Io.KnownBytes.{Appends}
 use Rattle.dw_leb.specs.Watch.{inner_of, Wrote}
-use Rattle.dw_leb.specs.Known.{wrote_then}
+use Rattle.dw_leb.specs.Transfers.{wrote_then}
 use Rattle.dw_leb.specs.Number.{length_field}
 use Rattle.dw_header.specs.Header.{fields, fields_of}
 use Rattle.dw_header.proofs.writer.write_header.Goals as goal

@@ -1,4 +1,4 @@
-use Rattle.dw_leb.specs.Stay.{one_front}
+use Rattle.dw_leb.specs.PartLaws.{one_front}
 use Rattle.dw_leb.specs.Digits.{fixed_decides}
 use Rattle.dw_leb.specs.DecideNumber.{uleb_decides, sleb_decides, length_field_decides}
 use Rattle.dw_leb.proofs.laws.one_spelling.Goals as goal

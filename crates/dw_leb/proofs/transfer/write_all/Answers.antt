@@ -1,6 +1,6 @@
 use Rattle.std.proofs.Common.{◌∙◌, arith}
 use Rattle.std.proofs.lemmas.Grind.{common_steps}
-use Rattle.dw_leb.specs.Known.{appends_part, write_fault_none}
+use Rattle.dw_leb.specs.Transfers.{appends_part, write_fault_none}
 use Rattle.dw_leb.proofs.transfer.write_all.Goals as goal
 
 pub loop-at-preserved : goal.loop-at-preserved

@@ -1,5 +1,5 @@
 use Rattle.std.proofs.Common.{◌++◌, take, arith, length-append}
-use Rattle.dw_leb.specs.Known.{consumes_more}
+use Rattle.dw_leb.specs.Transfers.{consumes_more}
 use Rattle.dw_tool.proofs.input.read_all.Goals as goal
 
 pub returns-then-is_err-clause-bytes : goal.returns-then-is_err-clause-bytes

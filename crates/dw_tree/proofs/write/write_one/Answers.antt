@@ -2,7 +2,7 @@ use Rattle.std.proofs.Common.{◌≡◌, ◌∙◌, ℕ, List, sym, ap, subst}
 use Rattle.dw_leb.specs.Watch.{inner_of, Wrote}
 use Rattle.dw_form.specs.Form.{Attribute}
 use Rattle.dw_form.specs.Lent.{attribute_of}
-use Rattle.dw_form.specs.Kept.{content}
+use Rattle.dw_form.specs.StoredView.{content}
 use Rattle.dw_form.specs.Pieces.{HasSpelling, spelling}
 use Rattle.dw_abbrev.specs.PairView.{pair_of}
 use Rattle.dw_tree.specs.Flat.{value_part}

@@ -9,7 +9,7 @@ use Rattle.dw_leb.specs.ItemSteps.{none_read}
 use Rattle.dw_form.specs.Form.{Attribute}
 use Rattle.dw_abbrev.specs.PairView.{pair_of}
 use Rattle.dw_abbrev.specs.Table.{Pair, Declaration, Table, declared, is_null}
-use Rattle.dw_tree.specs.Tree.{Forest, pairs_of, children_of, nesting}
+use Rattle.dw_tree.specs.Tree.{Forest, declared_pairs, declares_children, nesting}
 use Rattle.dw_tree.specs.ReadTree.{nodes_from, read_values, read_children}
 use Rattle.dw_tree.specs.Place.{Frame}
 use Rattle.dw_tree.specs.Steps.{Growing, closed_at, end_of}
@@ -17,7 +17,7 @@ use Rattle.dw_tree.specs.Ends.{closed_end}
 use Rattle.dw_leb.specs.declared.errors.Bad.{Bad}
 use Rattle.dw_unit.specs.declared.bad.BodyError.{BodyError}
 use Rattle.dw_unit.specs.declared.bad.BodyError.TheVariants as errors
-use Rattle.dw_unit.specs.Entries.{placed, code_reader, body_reader, TellsError}
+use Rattle.dw_unit.specs.Entries.{placed, code_reader, body_reader, BreaksFrom}
 use Rattle.dw_unit.proofs.EntryLemmas.{no_error}
 use Rattle.dw_unit.proofs.Chain.{ValuesRead, under, values_read, code_broken, null_ends, values_break, leaf_read, kids_break, branch_read, leaf_put, entered, branch_put}
 use Rattle.dw_unit.proofs.entries.+children_at.Goals as goal
@@ -31,7 +31,7 @@ known_in : (old : Growing) (t : Table) (code : ℕ) (d : Declaration) → old.ta
 known_in old t code d over known = ap (λ (q : Table). declared q code) over ∙ known
 
 -- an error that is passed on, counted from another place
-passed : {X Y : Type 0} (at place : ℕ) (e : BodyError) (o : Outcome X) (p : Outcome Y) → ((own : ℕ) (reason : _) → o ≡ Broken own reason → (whole : ℕ) × (p ≡ Broken whole reason) × (place + own ≡ at + whole)) → TellsError place e o → TellsError at e p
+passed : {X Y : Type 0} (at place : ℕ) (e : BodyError) (o : Outcome X) (p : Outcome Y) → ((own : ℕ) (reason : _) → o ≡ Broken own reason → (whole : ℕ) × (p ≡ Broken whole reason) × (place + own ≡ at + whole)) → BreaksFrom place e o → BreaksFrom at e p
 passed at place (errors.Bad e) o p f h = let g = f h.0 e.reason h.1 in (g.0, g.1, h.2 ∙ g.2)
 passed at place errors.NoMemory o p f h = tt
 
@@ -42,7 +42,7 @@ loop-code-init t c =
     let bytes = drop c.args.at c.args.b.now in
     record {
       items = [];
-      draft_is = ap₂ (λ (ts : Forest) (o : _). placed old (record { spot = record { above = old.place.spot.above; left = ts }; reading = o })) c.requires.empty c.requires.free;
+      draft_is = ap₂ (λ (ts : Forest) (o : _). placed old (record { spot = record { above = old.place.spot.above; left = ts }; unfinished = o })) c.requires.empty c.requires.free;
       read = subst (λ (m : ℕ). Rattle.dw_leb.specs.ItemSteps.ReadSoFar (code_reader c.args.table.now c.args.room) is_null (body_reader c.args.ctx c.args.table.now c.args.room) bytes (c.args.lim - c.args.at) [] m) n
           (none_read (code_reader c.args.table.now c.args.room) is_null (body_reader c.args.ctx c.args.table.now c.args.room) bytes (c.args.lim - c.args.at));
       end = refl;
@@ -121,7 +121,7 @@ children_at-requires t c =
           (
             ap (λ (g : Growing). g.table) new ∙ c.requires.over,
             (
-              ap (λ (g : Growing). g.place.reading) new,
+              ap (λ (g : Growing). g.place.unfinished) new,
               (
                 ap (λ (g : Growing). g.place.spot.left) new,
                 (
@@ -153,7 +153,7 @@ returns-in_err-null-clause-exact t c =
     let q = c.in_ok-next.ensures.exact in
     let vs : List Attribute = q.0 in
     let r : ValuesRead k tb code d (drop place b) (lim - place) vs q.1 = values_read k tb code d _ _ _ vs q.1 c.in-Some.ensures.value c.pairs.ensures q.2 in
-    let flag : children_of (declared tb code.value) ≡ true = ap children_of r.known ∙ (sym c.has_children.ensures ∙ c.if-has_children.true) in
+    let flag : declares_children (declared tb code.value) ≡ true = ap declares_children r.known ∙ (sym c.has_children.ensures ∙ c.if-has_children.true) in
     let p = err_from_is_err_and c.from_residual-in_err-null.result c.from_residual-in_err-null.ensures.1 in
     let next : c.in_ok-next.next ≡ place + q.1 = q.3 in
     rw (p.1, p.2) (passed at c.in_ok-next.next c.in_err-null.field-0.0 _ _
@@ -197,7 +197,7 @@ loop-code-preserved-then-has_children t c =
     let vs : List Attribute = q.0 in
     let r : ValuesRead k tb code d (drop place b) (lim - place) vs q.1 = values_read k tb code d _ _ _ vs q.1 c.in-Some.ensures.value c.pairs.ensures q.2 in
     let flag : d.children ≡ true = sym c.has_children.ensures ∙ c.if-has_children.true in
-    let flag_is : children_of (declared tb code.value) ≡ true = ap children_of r.known ∙ flag in
+    let flag_is : declares_children (declared tb code.value) ≡ true = ap declares_children r.known ∙ flag in
     let new = entered old c.loop-code.draft above i.items i.draft_is code vs d (known_in old tb code.value d c.requires.over r.known) r.long c.entry_at.new.draft q.4 flag in
     let next : c.in_ok-next.next ≡ place + q.1 = q.3 in
     let f = c.in_ok-null.ensures.exact in
@@ -205,7 +205,7 @@ loop-code-preserved-then-has_children t c =
     let null = uleb_of c.in_ok-null.null in
     let closed : c.close.new.self ≡ closed_at null.width c.children_at.new.draft = no_error c.close.result _ (sym c.if-is_err.ensures.value) c.close.ensures.ok in
     let inside : c.children_at.new.draft.place.spot.above ≢ [] = let is = ap (λ (g : Growing). g.place.spot.above) f.4 ∙ ap (λ (g : Growing). g.place.spot.above) new in λ none. cc in
-    let free : c.children_at.new.draft.place.reading ≡ None = ap (λ (g : Growing). g.place.reading) f.4 in
+    let free : c.children_at.new.draft.place.unfinished ≡ None = ap (λ (g : Growing). g.place.unfinished) f.4 in
     let ends = ap end_of closed ∙ closed_end c.children_at.new.draft null.width inside free in
     let room = c.in_ok-null.ensures.room in
     record {
@@ -239,7 +239,7 @@ loop-code-preserved t c =
     let vs : List Attribute = q.0 in
     let r : ValuesRead k tb code d (drop place b) (lim - place) vs q.1 = values_read k tb code d _ _ _ vs q.1 c.in-Some.ensures.value c.pairs.ensures q.2 in
     let flag : d.children ≡ false = sym c.has_children.ensures ∙ c.if-has_children.false in
-    let flag_is : children_of (declared tb code.value) ≡ false = ap children_of r.known ∙ flag in
+    let flag_is : declares_children (declared tb code.value) ≡ false = ap declares_children r.known ∙ flag in
     let next : place + q.1 ≡ c.in_ok-next.next = sym q.3 in
     let room = c.in_ok-next.ensures.room in
     record {

@@ -17,7 +17,7 @@ abbrev pub invariant-loop-code : goal.invariant-loop-code
 invariant-loop-code l =
     record {
       items : List (Unsigned × Body);
-      draft_is : l.draft ≡ placed l.fn.draft (record { spot = record { above = l.fn.draft.place.spot.above; left = nodes_from items }; reading = None });
+      draft_is : l.draft ≡ placed l.fn.draft (record { spot = record { above = l.fn.draft.place.spot.above; left = nodes_from items }; unfinished = None });
       read : ReadSoFar (code_reader l.table l.room) is_null (body_reader l.ctx l.table l.room) (drop l.at l.b) (l.lim - l.at) items (l.here - l.at);
       end : end_of l.draft + l.at ≡ end_of l.fn.draft + l.here;
       forward : l.at ≤ l.here;

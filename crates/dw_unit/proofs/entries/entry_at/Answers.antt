@@ -15,21 +15,21 @@ use Rattle.dw_tree.specs.Steps.{Growing, begun_at, with_value, end_of}
 use Rattle.dw_tree.specs.Ends.{begun_end}
 use Rattle.dw_unit.specs.Entries.{put_front}
 use Rattle.dw_unit.proofs.EntryLemmas.{put_none, value_breaks, value_read, no_error, drop_past}
-use Rattle.dw_unit.proofs.GivenValue.{none_begun, next_fits, next_size, with_is, with_end, prefix_then}
+use Rattle.dw_unit.proofs.GivenValue.{none_partial, next_fits, next_size, with_is, with_end, prefix_then}
 use Rattle.dw_unit.proofs.entries.entry_at.Goals as goal
 
 pub loop-pair-init : goal.loop-pair-init
 loop-pair-init c =
     let old : Growing = c.args.draft.now in
     let code : Unsigned = uleb_of c.args.code in
-    let begun : c.begin.new.self ≡ begun_at code old = no_error c.begin.result _ (sym c.if-is_err.ensures.value) c.begin.ensures.ok in
+    let partial : c.begin.new.self ≡ begun_at code old = no_error c.begin.result _ (sym c.if-is_err.ensures.value) c.begin.ensures.ok in
     let known : IsSome (declared old.table c.args.code.value) = rw c.requires.known.1 refl in
-    let ends = ap end_of begun ∙ begun_end old code known c.requires.free in
+    let ends = ap end_of partial ∙ begun_end old code known c.requires.free in
     let none : c.args.at - c.args.at ≡ 0 = omega arith in
     let o : Outcome (List Attribute) = read_values c.args.ctx (map pair_of c.args.pairs.now) (drop c.args.at c.args.b.now) (c.args.lim - c.args.at) in
     record {
       vs = [];
-      draft_is = begun;
+      draft_is = partial;
       counted = refl;
       read = put_none o ∙ ap (λ (n : ℕ). put_front [] n o) (sym none);
       prefix = tt;
@@ -71,7 +71,7 @@ value-requires-clause-between c =
     let i = c.loop-pair.invariant in
     let a : Attribute = attribute_of c.in-Ok.found.0 in
     let t : Taken (value_part c.args.ctx c.pair-item.result) (drop c.loop-pair.here c.args.b.now) (c.args.lim - c.loop-pair.here) a c.in-Ok.found.1 = c.in-Ok.ensures.found in
-    none_begun c.args.draft.now c.loop-pair.draft c.args.ctx (uleb_of c.args.code) c.requires.known.0 c.args.pairs.now i.vs c.loop-pair.pair-index c.pair-item.result c.requires.same c.requires.known.1 c.requires.known.2 i.draft_is i.counted c.loop-pair-test.true c.pair-item.is i.prefix a t.fits
+    none_partial c.args.draft.now c.loop-pair.draft c.args.ctx (uleb_of c.args.code) c.requires.known.0 c.args.pairs.now i.vs c.loop-pair.pair-index c.pair-item.result c.requires.same c.requires.known.1 c.requires.known.2 i.draft_is i.counted c.loop-pair-test.true c.pair-item.is i.prefix a t.fits
 
 pub value-requires-clause-size : goal.value-requires-clause-size
 value-requires-clause-size c =

@@ -6,13 +6,13 @@ use Rattle.dw_leb.specs.Reader.{Outcome, Found, Broken}
 use Rattle.dw_form.specs.Form.{Attribute}
 use Rattle.dw_abbrev.specs.PairView.{pair_of}
 use Rattle.dw_abbrev.specs.Table.{Pair, Declaration, Table, declared}
-use Rattle.dw_tree.specs.Tree.{Forest, leaf, branch, pairs_of, children_of, nesting}
+use Rattle.dw_tree.specs.Tree.{Forest, leaf, branch, declared_pairs, declares_children, nesting}
 use Rattle.dw_tree.specs.ReadTree.{nodes_from, read_values, read_children}
 use Rattle.dw_tree.specs.Place.{Place}
 use Rattle.dw_tree.specs.Steps.{Growing, closed_at}
 use Rattle.dw_unit.specs.declared.bad.BodyError.{BodyError}
 use Rattle.dw_unit.specs.declared.bad.BodyError.TheVariants as errors
-use Rattle.dw_unit.specs.Entries.{placed, TellsError, Refuses}
+use Rattle.dw_unit.specs.Entries.{placed, BreaksFrom, BreaksAs}
 use Rattle.dw_unit.proofs.EntryLemmas.{no_error}
 use Rattle.dw_tree.specs.Levels.{levels_is, nesting_is}
 use Rattle.dw_unit.proofs.Chain.{ValuesRead, under, values_read, leaf_put, entered, branch_put}
@@ -20,7 +20,7 @@ use Rattle.dw_unit.proofs.RootRead.{values_break, leaf_read, kids_break, branch_
 use Rattle.dw_unit.proofs.entries.root_at.Goals as goal
 
 -- a tree without entries
-from_nothing : (old : Growing) → old.place ≡ record { spot = record { above = []; left = nodes_from [] }; reading = None } → old ≡ placed old (record { spot = record { above = []; left = nodes_from [] }; reading = None })
+from_nothing : (old : Growing) → old.place ≡ record { spot = record { above = []; left = nodes_from [] }; unfinished = None } → old ≡ placed old (record { spot = record { above = []; left = nodes_from [] }; unfinished = None })
 from_nothing old fresh = ap (placed old) fresh
 
 -- the code is declared in the tree's own table
@@ -28,7 +28,7 @@ known_in : (old : Growing) (t : Table) (code : ℕ) (d : Declaration) → old.ta
 known_in old t code d over known = ap (λ (q : Table). declared q code) over ∙ known
 
 -- an error at a place is the same counted from the front
-from_front : {X Y : Type 0} (place : ℕ) (e : BodyError) (o : Outcome X) (p : Outcome Y) → ((own : ℕ) (reason : Reason) → o ≡ Broken own reason → p ≡ Broken (place + own) reason) → TellsError place e o → Refuses e p
+from_front : {X Y : Type 0} (place : ℕ) (e : BodyError) (o : Outcome X) (p : Outcome Y) → ((own : ℕ) (reason : Reason) → o ≡ Broken own reason → p ≡ Broken (place + own) reason) → BreaksFrom place e o → BreaksAs e p
 from_front place (errors.Bad e) o p f h = f h.0 e.reason h.1 ∙ ap (λ (n : ℕ). Broken n e.reason) (sym h.2)
 from_front place errors.NoMemory o p f h = tt
 
@@ -57,7 +57,7 @@ returns-then-not-has_children-clause-exact c =
     let r : ValuesRead c.args.ctx tb code d (drop code.width c.args.b.now) (c.args.lim - code.width) q.0 q.1 = values_read c.args.ctx tb code d _ _ _ q.0 q.1 c.in-Some.ensures.value c.pairs.ensures q.2 in
     let flag : d.children ≡ false = sym c.has_children.ensures ∙ c.if-not-has_children.true in (
       leaf code q.0,
-      leaf_read c.args.ctx tb (nesting - 1) c.args.b.now c.args.lim code c.requires.found q.0 q.1 r.read (ap children_of r.known ∙ flag) ∙ ap (λ (m : ℕ). Found (leaf code q.0) m) (sym q.3),
+      leaf_read c.args.ctx tb (nesting - 1) c.args.b.now c.args.lim code c.requires.found q.0 q.1 r.read (ap declares_children r.known ∙ flag) ∙ ap (λ (m : ℕ). Found (leaf code q.0) m) (sym q.3),
       leaf_put old old [] [] (from_nothing old c.requires.fresh) code q.0 d (known_in old tb code.value d c.requires.over r.known) r.long c.entry_at.new.draft q.4 flag,
     )
 
@@ -70,7 +70,7 @@ children_at-requires-clause-free c =
     let q = c.in_ok-end.ensures.exact in
     let r : ValuesRead c.args.ctx tb code d (drop code.width c.args.b.now) (c.args.lim - code.width) q.0 q.1 = values_read c.args.ctx tb code d _ _ _ q.0 q.1 c.in-Some.ensures.value c.pairs.ensures q.2 in
     let inside = entered old old [] [] (from_nothing old c.requires.fresh) code q.0 d (known_in old tb code.value d c.requires.over r.known) r.long c.entry_at.new.draft q.4 (sym c.has_children.ensures ∙ c.if-not-has_children.false) in
-    ap (λ (g : Growing). g.place.reading) inside
+    ap (λ (g : Growing). g.place.unfinished) inside
 
 pub children_at-requires-clause-level : goal.children_at-requires-clause-level
 children_at-requires-clause-level c =
@@ -94,7 +94,7 @@ returns-in_err-null-clause-exact c =
     let d : Declaration = c.in-Some.decl.now in
     let q = c.in_ok-end.ensures.exact in
     let r : ValuesRead c.args.ctx tb code d (drop code.width c.args.b.now) (c.args.lim - code.width) q.0 q.1 = values_read c.args.ctx tb code d _ _ _ q.0 q.1 c.in-Some.ensures.value c.pairs.ensures q.2 in
-    let flag : children_of (declared tb code.value) ≡ true = ap children_of r.known ∙ (sym c.has_children.ensures ∙ c.if-not-has_children.false) in
+    let flag : declares_children (declared tb code.value) ≡ true = ap declares_children r.known ∙ (sym c.has_children.ensures ∙ c.if-not-has_children.false) in
     let p = err_from_is_err_and c.from_residual-in_err-null.result c.from_residual-in_err-null.ensures.1 in
     let next : c.in_ok-end.end ≡ code.width + q.1 = q.3 in
     rw (p.1, p.2) (from_front c.in_ok-end.end c.in_err-null.field-0.0 _ _
@@ -132,7 +132,7 @@ returns-clause-exact c =
     let null = uleb_of c.in_ok-null.null in
     let closed : c.close.new.self ≡ closed_at null.width c.children_at.new.draft = no_error c.close.result _ (sym c.if-is_err.ensures.value) c.close.ensures.ok in (
       branch code q.0 ts null.width,
-      branch_read k tb (nesting - 1) b lim code c.requires.found q.0 q.1 r.read (ap children_of r.known ∙ flag) ts null f.1 (ap₂ (λ (n m : ℕ). read_children k tb n (drop m b) (lim - m)) levels_is (sym next) ∙ f.2)
+      branch_read k tb (nesting - 1) b lim code c.requires.found q.0 q.1 r.read (ap declares_children r.known ∙ flag) ts null f.1 (ap₂ (λ (n m : ℕ). read_children k tb n (drop m b) (lim - m)) levels_is (sym next) ∙ f.2)
           ∙ ap (λ (m : ℕ). Found (branch code q.0 ts null.width) m) (sym (f.3 ∙ ap (λ (m : ℕ). m + f.1) next)),
       closed ∙ branch_put old old [] [] (from_nothing old c.requires.fresh) code q.0 d (known_in old tb code.value d c.requires.over r.known) r.long c.entry_at.new.draft q.4 flag ts null c.children_at.new.draft f.4,
     )

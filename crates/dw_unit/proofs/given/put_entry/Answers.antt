@@ -5,12 +5,12 @@ use Rattle.dw_leb.specs.View.{uleb_of}
 use Rattle.dw_form.specs.Form.{Attribute}
 use Rattle.dw_form.specs.Lent.{attribute_of}
 use Rattle.dw_abbrev.specs.Table.{declared}
-use Rattle.dw_tree.specs.Tree.{values, pairs_of}
+use Rattle.dw_tree.specs.Tree.{values, declared_pairs}
 use Rattle.dw_tree.specs.Steps.{settle}
 use Rattle.dw_header.specs.Header.{context_of}
 use Rattle.dw_unit.specs.Draft.{Drafted, drafted_size, size_limit, value_bytes, undone, with_place}
 use Rattle.dw_unit.proofs.EntryLemmas.{drop_past}
-use Rattle.dw_unit.proofs.PutValues.{none_begun, next_here, next_parted, next_fits, next_size, with_is, undone_is}
+use Rattle.dw_unit.proofs.PutValues.{none_partial, next_here, next_parted, next_fits, next_size, with_is, undone_is}
 use Rattle.dw_unit.proofs.DraftLemmas.{within, not_long}
 use Rattle.dw_unit.proofs.given.put_entry.Goals as goal
 
@@ -33,7 +33,7 @@ value-requires-clause-fits c =
     let old : Drafted = c.args.draft.now in
     let k = context_of old.header in
     let code : Unsigned = uleb_of c.args.code in
-    let ps = pairs_of (declared old.table c.args.code.value) in
+    let ps = declared_pairs (declared old.table c.args.code.value) in
     let v : Attribute = attribute_of c.value-item.result in
     let value_in : c.loop-value.value-index < length vs = omega (arith, c.loop-value-test.true) in
     let w = next_parted k ps vs c.loop-value.value-index (length i.before) c.value-item.result value_in c.value-item.is i.fits in
@@ -46,11 +46,11 @@ value-requires-clause-between c =
     let old : Drafted = c.args.draft.now in
     let k = context_of old.header in
     let code : Unsigned = uleb_of c.args.code in
-    let ps = pairs_of (declared old.table c.args.code.value) in
+    let ps = declared_pairs (declared old.table c.args.code.value) in
     let v : Attribute = attribute_of c.value-item.result in
     let value_in : c.loop-value.value-index < length vs = omega (arith, c.loop-value-test.true) in
     let w = next_parted k ps vs c.loop-value.value-index (length i.before) c.value-item.result value_in c.value-item.is i.fits in
-    none_begun old c.loop-value.draft code i.before v c.requires.known i.draft_is w.short w.first
+    none_partial old c.loop-value.draft code i.before v c.requires.known i.draft_is w.short w.first
 
 pub value-requires-clause-short : goal.value-requires-clause-short
 value-requires-clause-short c =
@@ -59,7 +59,7 @@ value-requires-clause-short c =
     let old : Drafted = c.args.draft.now in
     let k = context_of old.header in
     let code : Unsigned = uleb_of c.args.code in
-    let ps = pairs_of (declared old.table c.args.code.value) in
+    let ps = declared_pairs (declared old.table c.args.code.value) in
     let v : Attribute = attribute_of c.value-item.result in
     let value_in : c.loop-value.value-index < length vs = omega (arith, c.loop-value-test.true) in
     let here = next_here k ps vs c.loop-value.value-index (length i.before) c.value-item.result value_in c.value-item.is in
@@ -77,7 +77,7 @@ loop-value-preserved c =
     let old : Drafted = c.args.draft.now in
     let k = context_of old.header in
     let code : Unsigned = uleb_of c.args.code in
-    let ps = pairs_of (declared old.table c.args.code.value) in
+    let ps = declared_pairs (declared old.table c.args.code.value) in
     let rest = drop (suc c.loop-value.value-index) (map attribute_of vs) in
     let v : Attribute = attribute_of c.value-item.result in
     let value_in : c.loop-value.value-index < length vs = omega (arith, c.loop-value-test.true) in
@@ -104,7 +104,7 @@ returns-in-Err-clause-err c =
     let old : Drafted = c.args.draft.now in
     let k = context_of old.header in
     let code : Unsigned = uleb_of c.args.code in
-    let ps = pairs_of (declared old.table c.args.code.value) in
+    let ps = declared_pairs (declared old.table c.args.code.value) in
     let v : Attribute = attribute_of c.value-item.result in
     let value_in : c.loop-value.value-index < length vs = omega (arith, c.loop-value-test.true) in
     let w = next_parted k ps vs c.loop-value.value-index (length i.before) c.value-item.result value_in c.value-item.is i.fits in

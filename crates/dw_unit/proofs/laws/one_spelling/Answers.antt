@@ -1,4 +1,4 @@
-use Rattle.dw_leb.specs.Stay.{one_front}
+use Rattle.dw_leb.specs.PartLaws.{one_front}
 use Rattle.dw_tree.specs.DecideTree.{tree_decides}
 use Rattle.dw_unit.specs.UnitLaws.{one_unit_over, one_unit}
 use Rattle.dw_unit.proofs.laws.one_spelling.Goals as goal

@@ -1,6 +1,6 @@
 use Rattle.std.proofs.Common.{◌≡◌, None, length}
 use Rattle.dw_leb.specs.Watch.{inner_of, fault_of}
-use Rattle.dw_leb.specs.Towards.{Towards}
+use Rattle.dw_leb.specs.PartlyWritten.{PartlyWritten}
 use Rattle.dw_tree.specs.Tree.{nulls, AreNulls}
 use Rattle.dw_unit.proofs.writer.write_nulls.Given as goal
 
@@ -8,7 +8,7 @@ use Rattle.dw_unit.proofs.writer.write_nulls.Given as goal
 abbrev pub invariant-loop-width : goal.invariant-loop-width
 invariant-loop-width g l =
     record {
-      written : Towards (g.W.Write.contents (inner_of l.fn.writer)) (g.W.Write.contents (inner_of l.writer)) (nulls l.left) (nulls l.widths);
+      written : PartlyWritten (g.W.Write.contents (inner_of l.fn.writer)) (g.W.Write.contents (inner_of l.writer)) (nulls l.left) (nulls l.widths);
       fits : AreNulls l.left;
       clear : fault_of l.writer ≡ None;
     }

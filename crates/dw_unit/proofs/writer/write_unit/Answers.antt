@@ -1,7 +1,7 @@
 use Rattle.std.proofs.Common.{◌≡◌, ◌++◌, ◌-◌, ◌∙◌, ℕ, List, length, subst, ap}
 use Rattle.std.specs.Io.KnownBytes.{Appends}
 use Rattle.dw_leb.specs.Watch.{inner_of, Wrote, AppendsFront}
-use Rattle.dw_leb.specs.Known.{wrote_then, wrote_err}
+use Rattle.dw_leb.specs.Transfers.{wrote_then, wrote_err}
 use Rattle.dw_leb.specs.Number.{length_size}
 use Rattle.dw_tree.specs.Tree.{tree, nulls, nesting}
 use Rattle.dw_tree.specs.Steps.{TreeAt}
@@ -61,10 +61,10 @@ returns-clause-written g c =
 -- ---- what is written is read back
 
 pub returns-in_err-write_header-clause-read_back : goal.returns-in_err-write_header-clause-read_back
-returns-in_err-write_header-clause-read_back g c = λ section rest place. written_is_read section rest c.args.unit.now (subst UnitFits c.unit.view_is c.unit.invariant.fits) place
+returns-in_err-write_header-clause-read_back g c = λ abbreviations rest place. written_is_read abbreviations rest c.args.unit.now (subst UnitFits c.unit.view_is c.unit.invariant.fits) place
 
 pub returns-in_err-write-clause-read_back : goal.returns-in_err-write-clause-read_back
-returns-in_err-write-clause-read_back g c = λ section rest place. written_is_read section rest c.args.unit.now (subst UnitFits c.unit.view_is c.unit.invariant.fits) place
+returns-in_err-write-clause-read_back g c = λ abbreviations rest place. written_is_read abbreviations rest c.args.unit.now (subst UnitFits c.unit.view_is c.unit.invariant.fits) place
 
 pub returns-clause-read_back : goal.returns-clause-read_back
-returns-clause-read_back g c = λ section rest place. written_is_read section rest c.args.unit.now (subst UnitFits c.unit.view_is c.unit.invariant.fits) place
+returns-clause-read_back g c = λ abbreviations rest place. written_is_read abbreviations rest c.args.unit.now (subst UnitFits c.unit.view_is c.unit.invariant.fits) place

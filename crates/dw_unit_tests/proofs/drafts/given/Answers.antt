@@ -26,7 +26,7 @@ pub value-requires-in-Err-clause-fits : goal.value-requires-in-Err-clause-fits
 value-requires-in-Err-clause-fits c =
     let v : Attribute = attribute_of c.args.value in
     let next = is_next c.args.draft.now _ v (pair_of c.in-Some.pair) (c.context-ctx.ensures.context ∙ ap context_of c.header.ensures) c.in-Some.ensures.pair (c.fits.ensures.0 c.if-not-fits.false) in
-    subst (λ (x : Drafted). NextFits (context_of x.header) x.table x.place.reading v) (sym c.in-Err.ensures.err) next
+    subst (λ (x : Drafted). NextFits (context_of x.header) x.table x.place.unfinished v) (sym c.in-Err.ensures.err) next
 
 pub value-requires-in-Err-clause-short : goal.value-requires-in-Err-clause-short
 value-requires-in-Err-clause-short c =

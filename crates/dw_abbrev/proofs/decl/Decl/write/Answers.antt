@@ -5,7 +5,7 @@ use Rattle.dw_leb.specs.View.{uleb_of}
 use Rattle.dw_abbrev.specs.PairView.{pair_of}
 use Rattle.std.proofs.Common.{ℕ, List, Option, ◌++◌, subst}
 use Rattle.dw_leb.specs.Watch.{inner_of, Wrote, AppendsFront}
-use Rattle.dw_leb.specs.Known.{wrote_then, wrote_err}
+use Rattle.dw_leb.specs.Transfers.{wrote_then, wrote_err}
 use Rattle.dw_abbrev.specs.Table.{Declaration}
 use Rattle.dw_abbrev.specs.Spelling.{head_bytes, pairs_bytes, zeros_bytes}
 use Rattle.dw_abbrev.proofs.decl.Decl.write.Goals as goal

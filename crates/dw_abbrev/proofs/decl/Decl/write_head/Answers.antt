@@ -1,7 +1,7 @@
 use Rattle.dw_leb.specs.View.{uleb_of}
 use Rattle.std.proofs.Common.{ℕ, List, Option, ◌++◌}
 use Rattle.dw_leb.specs.Watch.{inner_of}
-use Rattle.dw_leb.specs.Known.{wrote_then, wrote_err}
+use Rattle.dw_leb.specs.Transfers.{wrote_then, wrote_err}
 use Rattle.dw_leb.specs.Number.{uleb}
 use Rattle.dw_abbrev.specs.Spelling.{flag_bytes}
 use Rattle.dw_abbrev.proofs.decl.Decl.write_head.Goals as goal

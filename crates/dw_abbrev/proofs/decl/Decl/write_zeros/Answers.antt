@@ -3,7 +3,7 @@ use Rattle.std.specs.Io.KnownBytes.{Appends}
 use Rattle.std.proofs.Common.{ℕ, List, Option, ◌++◌, subst}
 use Rattle.dw_leb.specs.Number.{Unsigned, uleb}
 use Rattle.dw_leb.specs.Watch.{inner_of, Wrote, AppendsFront}
-use Rattle.dw_leb.specs.Known.{wrote_then, wrote_err}
+use Rattle.dw_leb.specs.Transfers.{wrote_then, wrote_err}
 use Rattle.dw_abbrev.specs.Table.{zero_of}
 use Rattle.dw_abbrev.proofs.DeclLemmas.{zero_is}
 use Rattle.dw_abbrev.proofs.decl.Decl.write_zeros.Goals as goal

@@ -3,7 +3,7 @@ use Rattle.std.specs.Prelude.{map, ◌⊎◌}
 use Rattle.dw_abbrev.specs.Table.{is_null, declaration_parts}
 use Rattle.dw_abbrev.specs.TableView.{decls_in, AreKeyed}
 use Rattle.dw_abbrev.specs.ReadTable.{read_code, read_described}
-use Rattle.dw_abbrev.specs.Tells.{Declares}
+use Rattle.dw_abbrev.specs.TableErrors.{Declares}
 use Rattle.dw_abbrev.specs.Place.{ReadTo}
 use Rattle.dw_abbrev.proofs.table.Table.scan.Given as goal
 
@@ -11,11 +11,11 @@ use Rattle.dw_abbrev.proofs.table.Table.scan.Given as goal
 abbrev pub invariant-loop-decls : goal.invariant-loop-decls
 invariant-loop-decls l =
     record {
-      read : ReadTo read_code is_null (λ _. read_described) l.section l.at (map declaration_parts (decls_in l.decls.entries)) l.here;
+      read : ReadTo read_code is_null (λ _. read_described) l.abbreviations l.at (map declaration_parts (decls_in l.decls.entries)) l.here;
       keyed : AreKeyed l.decls.entries;
-      begun : (l.here ≡ l.at) ⊎ Declares l.section l.at;
-      within : l.here ≤ length l.section;
+      begun : (l.here ≡ l.at) ⊎ Declares l.abbreviations l.at;
+      within : l.here ≤ length l.abbreviations;
     }
 
 abbrev pub decreases-loop-decls : goal.decreases-loop-decls
-decreases-loop-decls l = length l.section - l.here
+decreases-loop-decls l = length l.abbreviations - l.here

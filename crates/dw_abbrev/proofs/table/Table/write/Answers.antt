@@ -2,7 +2,7 @@ use Rattle.dw_leb.specs.View.{uleb_of}
 use Rattle.std.proofs.Common.{◌≡◌, ◌∙◌, ℕ, List, Option, sym, subst, ap}
 use Rattle.dw_leb.specs.Number.{Unsigned, uleb}
 use Rattle.dw_leb.specs.Watch.{inner_of, Wrote}
-use Rattle.dw_leb.specs.Known.{wrote_then, wrote_err}
+use Rattle.dw_leb.specs.Transfers.{wrote_then, wrote_err}
 use Rattle.dw_abbrev.specs.Table.{Table, zero_of, table}
 use Rattle.dw_abbrev.specs.TableView.{decls_in}
 use Rattle.dw_abbrev.specs.Spelling.{declarations_bytes, table_bytes}

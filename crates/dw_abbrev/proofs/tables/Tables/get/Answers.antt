@@ -1,7 +1,7 @@
 use Rattle.std.proofs.Common.{◌≡◌, ◌<◌, length, ℕ, List, sym, subst, ◌∙◌}
 use Rattle.std.specs.Rc.{rc_value}
 use Rattle.std.proofs.lemmas.Result.{IfOk-weaker, IfErr-weaker, err_from_is_err_and}
-use Rattle.dw_abbrev.specs.Tells.{refused_memory}
+use Rattle.dw_abbrev.specs.TableErrors.{refused_memory}
 use Rattle.dw_abbrev.specs.Laws.{one_table_at}
 use Rattle.dw_abbrev.specs.Table.{Table, TableAt}
 use Rattle.dw_abbrev.proofs.Kept.{kept_at, kept_more}
@@ -9,30 +9,30 @@ use Rattle.dw_abbrev.proofs.tables.Tables.get.Goals as goal
 
 pub returns-in-Some-clause-found : goal.returns-in-Some-clause-found
 returns-in-Some-clause-found c =
-    let stands : TableAt c.self.inside.section.now c.args.offset c.in-Some.table.now.value =
-    kept_at rc_value (λ o t. TableAt c.self.inside.section.now o t) c.self.inside.kept.entries c.args.offset c.in-Some.table.now c.self.invariant (sym c.in-Some.ensures.value) in
-    rw (← c.self.view_is) (IfOk-weaker c.share.result (λ t. t.value ≡ c.in-Some.table.now.value) (λ t. TableAt c.self.inside.section.now c.args.offset t.value)
-    (λ t e. subst (λ (v : Table). TableAt c.self.inside.section.now c.args.offset v) (sym e) stands) c.share.ensures.ok)
+    let stands : TableAt c.self.inside.abbreviations.now c.args.offset c.in-Some.table.now.value =
+    kept_at rc_value (λ o t. TableAt c.self.inside.abbreviations.now o t) c.self.inside.kept.entries c.args.offset c.in-Some.table.now c.self.invariant (sym c.in-Some.ensures.value) in
+    rw (← c.self.view_is) (IfOk-weaker c.share.result (λ t. t.value ≡ c.in-Some.table.now.value) (λ t. TableAt c.self.inside.abbreviations.now c.args.offset t.value)
+    (λ t e. subst (λ (v : Table). TableAt c.self.inside.abbreviations.now c.args.offset v) (sym e) stands) c.share.ensures.ok)
 
 pub invariant_of-self-2 : goal.invariant_of-self-2
 invariant_of-self-2 c =
-    let section : List ℕ = c.self.inside.section.now in
-    let stands : TableAt section c.args.offset c.in_ok-table.table.value = subst (λ (t : Table). TableAt section c.args.offset t) (sym c.in_ok-table.ensures.ok) c.in_ok-read.ensures.found in
-    rw c.in_ok-keep.ensures.ok (kept_more rc_value (λ o t. TableAt section o t) c.self.inside.kept.entries c.args.offset c.in_ok-table.table c.self.invariant stands)
+    let abbreviations : List ℕ = c.self.inside.abbreviations.now in
+    let stands : TableAt abbreviations c.args.offset c.in_ok-table.table.value = subst (λ (t : Table). TableAt abbreviations c.args.offset t) (sym c.in_ok-table.ensures.ok) c.in_ok-read.ensures.found in
+    rw c.in_ok-keep.ensures.ok (kept_more rc_value (λ o t. TableAt abbreviations o t) c.self.inside.kept.entries c.args.offset c.in_ok-table.table c.self.invariant stands)
 
 pub returns-in-Some-clause-only : goal.returns-in-Some-clause-only
 returns-in-Some-clause-only c t at =
-    let stands : TableAt c.self.inside.section.now c.args.offset c.in-Some.table.now.value =
-    kept_at rc_value (λ o t. TableAt c.self.inside.section.now o t) c.self.inside.kept.entries c.args.offset c.in-Some.table.now c.self.invariant (sym c.in-Some.ensures.value) in
-    let there : TableAt c.self.inside.section.now c.args.offset t = subst (λ (s : List ℕ). TableAt s c.args.offset t) (sym c.self.view_is) at in (
-      IfOk-weaker c.share.result (λ x. x.value ≡ c.in-Some.table.now.value) (λ x. x.value ≡ t) (λ x e. e ∙ one_table_at c.self.inside.section.now c.args.offset c.in-Some.table.now.value t stands there) c.share.ensures.ok,
+    let stands : TableAt c.self.inside.abbreviations.now c.args.offset c.in-Some.table.now.value =
+    kept_at rc_value (λ o t. TableAt c.self.inside.abbreviations.now o t) c.self.inside.kept.entries c.args.offset c.in-Some.table.now c.self.invariant (sym c.in-Some.ensures.value) in
+    let there : TableAt c.self.inside.abbreviations.now c.args.offset t = subst (λ (s : List ℕ). TableAt s c.args.offset t) (sym c.self.view_is) at in (
+      IfOk-weaker c.share.result (λ x. x.value ≡ c.in-Some.table.now.value) (λ x. x.value ≡ t) (λ x e. e ∙ one_table_at c.self.inside.abbreviations.now c.args.offset c.in-Some.table.now.value t stands there) c.share.ensures.ok,
       c.share.ensures.err,
     )
 
 pub returns-in_err-read-clause-only : goal.returns-in_err-read-clause-only
 returns-in_err-read-clause-only c t at =
     let p = err_from_is_err_and c.from_residual.result c.from_residual.ensures.1 in
-    let there : TableAt c.self.inside.section.now c.args.offset t = subst (λ (s : List ℕ). TableAt s c.args.offset t) (sym c.self.view_is) at in
+    let there : TableAt c.self.inside.abbreviations.now c.args.offset t = subst (λ (s : List ℕ). TableAt s c.args.offset t) (sym c.self.view_is) at in
     rw (p.1, p.2) (c.in_err-read.ensures.only t there)
 
 pub invariant_of-self : goal.invariant_of-self
@@ -40,11 +40,11 @@ invariant_of-self c = rw c.in_err-keep.ensures.unchanged c.self.invariant
 
 pub returns-clause-only : goal.returns-clause-only
 returns-clause-only c t at =
-    let there : TableAt c.self.inside.section.now c.args.offset t = subst (λ (s : List ℕ). TableAt s c.args.offset t) (sym c.self.view_is) at in
+    let there : TableAt c.self.inside.abbreviations.now c.args.offset t = subst (λ (s : List ℕ). TableAt s c.args.offset t) (sym c.self.view_is) at in
     (c.in_ok-shared.ensures.ok ∙ (c.in_ok-table.ensures.ok ∙ (c.in_ok-read.ensures.only t there).0), tt)
 
 pub returns-in-Some-clause-memory : goal.returns-in-Some-clause-memory
 returns-in-Some-clause-memory c =
-    let stands : TableAt c.self.inside.section.now c.args.offset c.in-Some.table.now.value =
-    kept_at rc_value (λ o t. TableAt c.self.inside.section.now o t) c.self.inside.kept.entries c.args.offset c.in-Some.table.now c.self.invariant (sym c.in-Some.ensures.value) in
-    rw (← c.self.view_is) (IfErr-weaker c.share.result (λ e. e ≡ refused_memory) (λ e. e ≡ refused_memory → c.args.offset < length c.self.inside.section.now) (λ e h same. stands.inside) c.share.ensures.err)
+    let stands : TableAt c.self.inside.abbreviations.now c.args.offset c.in-Some.table.now.value =
+    kept_at rc_value (λ o t. TableAt c.self.inside.abbreviations.now o t) c.self.inside.kept.entries c.args.offset c.in-Some.table.now c.self.invariant (sym c.in-Some.ensures.value) in
+    rw (← c.self.view_is) (IfErr-weaker c.share.result (λ e. e ≡ refused_memory) (λ e. e ≡ refused_memory → c.args.offset < length c.self.inside.abbreviations.now) (λ e h same. stands.inside) c.share.ensures.err)

@@ -1,5 +1,5 @@
 use Rattle.std.proofs.Common.{sym}
-use Rattle.dw_header.specs.HeaderLemmas.{header_back}
+use Rattle.dw_header.specs.FittingHeaders.{header_back}
 use Rattle.dw_header.proofs.header.Header.of.Goals as goal
 
 pub returns : goal.returns

@@ -1,6 +1,6 @@
 use Rattle.std.proofs.Common.{◌≡◌, ◌+◌, ℕ, length, map, sym, ap, subst, ◌∙◌, arith, rules}
 use Rattle.dw_form.specs.Form.{Attribute}
-use Rattle.dw_form.specs.Kept.{content}
+use Rattle.dw_form.specs.StoredView.{content}
 use Rattle.dw_form.specs.Pieces.{HasSpelling, spelling}
 use Rattle.dw_abbrev.specs.PairView.{pair_of}
 use Rattle.dw_tree.specs.Lent.{AreLent}

@@ -1,6 +1,6 @@
 use Rattle.std.proofs.Common.{ap, ◌∙◌}
 use Rattle.dw_tree.specs.Steps.{Growing}
-use Rattle.dw_tree.specs.Held.{held_in}
+use Rattle.dw_tree.specs.PoolBytes.{held_in}
 use Rattle.dw_tree.proofs.Begins.{held_is}
 use Rattle.dw_tree.proofs.draft.TreeDraft.content.Goals as goal
 

@@ -12,10 +12,10 @@ use Rattle.dw_tree.proofs.draft.TreeDraft.depth.Goals as goal
 pub returns : goal.returns
 returns c =
     let a = c.self.inside in
-    let xs : List Token = tokens a.table.value a.rows.items a.values.items (front a.begun a.pool.items) in
+    let xs : List Token = tokens a.table.value a.rows.items a.values.items (front a.partial a.pool.items) in
     c.len.ensures
     ∙ (a.nested.ok.0
     ∙ (ap length c.self.invariant.given.sound.is_spelled.opened
     ∙ (open_long (spot_after xs).above
-    ∙ (ap (λ (s : Spot). length s.above) (sym (spot_is a.begun a.pool.items _))
+    ∙ (ap (λ (s : Spot). length s.above) (sym (spot_is a.partial a.pool.items _))
     ∙ ap (λ (g : Growing). length g.place.spot.above) c.self.view_is))))

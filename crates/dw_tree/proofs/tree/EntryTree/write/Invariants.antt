@@ -1,17 +1,17 @@
 use Rattle.std.proofs.Common.{◌≡◌, None, length}
 use Rattle.std.specs.List.{AllByRecursion}
 use Rattle.dw_leb.specs.Watch.{inner_of, fault_of}
-use Rattle.dw_leb.specs.Towards.{Towards}
+use Rattle.dw_leb.specs.PartlyWritten.{PartlyWritten}
 use Rattle.dw_tree.specs.Row.{rows_bytes}
 use Rattle.dw_tree.specs.Flat.{tokens, RowFits}
-use Rattle.dw_tree.specs.Sound.{TokenFits}
+use Rattle.dw_tree.specs.DraftInvariant.{TokenFits}
 use Rattle.dw_tree.proofs.tree.EntryTree.write.Given as goal
 
 -- the rows before these are written
 abbrev pub invariant-loop-row : goal.invariant-loop-row
 invariant-loop-row g l =
     record {
-      written : Towards (g.W.Write.contents (inner_of l.fn.writer)) (g.W.Write.contents (inner_of l.writer))
+      written : PartlyWritten (g.W.Write.contents (inner_of l.fn.writer)) (g.W.Write.contents (inner_of l.writer))
           (rows_bytes l.self-inside.context l.self-inside.table.value (tokens l.self-inside.table.value l.left l.self-inside.values.items l.self-inside.pool.items))
           (rows_bytes l.self-inside.context l.self-inside.table.value (tokens l.self-inside.table.value l.self-inside.rows.items l.self-inside.values.items l.self-inside.pool.items));
       inside : AllByRecursion (RowFits l.self-inside.table.value (length l.self-inside.values.items)) l.left;

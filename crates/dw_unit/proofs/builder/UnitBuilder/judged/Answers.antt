@@ -7,7 +7,7 @@ use Rattle.dw_form.specs.declared.shape.Ctx.{Ctx}
 use Rattle.dw_form.specs.Lent.{attribute_of}
 use Rattle.dw_abbrev.specs.PairView.{pair_of}
 use Rattle.dw_abbrev.specs.Table.{Pair, Table, declared}
-use Rattle.dw_tree.specs.Tree.{values, pairs_of}
+use Rattle.dw_tree.specs.Tree.{values, declared_pairs}
 use Rattle.dw_unit.specs.declared.refusal.Refusal.TheVariants.{TooLong}
 use Rattle.dw_header.specs.Header.{context_of}
 use Rattle.dw_unit.specs.Draft.{Drafted, drafted_size, size_limit}
@@ -23,7 +23,7 @@ returns-then-is_longer-clause-refused c =
     let code : Unsigned = uleb_of c.args.code in
     let vs = map attribute_of c.args.values.now in
     let known : is_known b.table code ≡ true = known_is b.table code c.in-Some.decl.now c.if-code-eq0.false (ap (λ (t : Table). declared t code.value) (sym c.table.ensures) ∙ sym c.in-Some.ensures.value) in
-    let pairs : map pair_of c.pairs-pairs.result.now ≡ pairs_of (declared b.table code.value) = c.pairs-pairs.ensures ∙ (ap pairs_of c.in-Some.ensures.value ∙ ap (λ (t : Table). pairs_of (declared t code.value)) c.table.ensures) in
+    let pairs : map pair_of c.pairs-pairs.result.now ≡ declared_pairs (declared b.table code.value) = c.pairs-pairs.ensures ∙ (ap declared_pairs c.in-Some.ensures.value ∙ ap (λ (t : Table). declared_pairs (declared t code.value)) c.table.ensures) in
     let same : c.context-ctx.result ≡ context_of b.header = c.context-ctx.ensures.context ∙ ap context_of c.header-header.ensures in
     let fits : ValuesFit b code vs = subst (λ (qs : List Pair). (values (context_of b.header) qs).Fits vs) pairs (subst (λ (k : Ctx). (values k (map pair_of c.pairs-pairs.result.now)).Fits vs) same (c.values_fit.ensures.0 c.if-not-values_fit.false)) in
     let size = size_is b code vs c.context-ctx.result (map pair_of c.pairs-pairs.result.now) same pairs in
@@ -41,7 +41,7 @@ returns-clause-short c =
     let code : Unsigned = uleb_of c.args.code in
     let vs = map attribute_of c.args.values.now in
     let known : is_known b.table code ≡ true = known_is b.table code c.in-Some.decl.now c.if-code-eq0.false (ap (λ (t : Table). declared t code.value) (sym c.table.ensures) ∙ sym c.in-Some.ensures.value) in
-    let pairs : map pair_of c.pairs-pairs.result.now ≡ pairs_of (declared b.table code.value) = c.pairs-pairs.ensures ∙ (ap pairs_of c.in-Some.ensures.value ∙ ap (λ (t : Table). pairs_of (declared t code.value)) c.table.ensures) in
+    let pairs : map pair_of c.pairs-pairs.result.now ≡ declared_pairs (declared b.table code.value) = c.pairs-pairs.ensures ∙ (ap declared_pairs c.in-Some.ensures.value ∙ ap (λ (t : Table). declared_pairs (declared t code.value)) c.table.ensures) in
     let same : c.context-ctx.result ≡ context_of b.header = c.context-ctx.ensures.context ∙ ap context_of c.header-header.ensures in
     let fits : ValuesFit b code vs = subst (λ (qs : List Pair). (values (context_of b.header) qs).Fits vs) pairs (subst (λ (k : Ctx). (values k (map pair_of c.pairs-pairs.result.now)).Fits vs) same (c.values_fit.ensures.0 c.if-not-values_fit.false)) in
     let size = size_is b code vs c.context-ctx.result (map pair_of c.pairs-pairs.result.now) same pairs in
@@ -59,7 +59,7 @@ returns-clause-allowed c =
     let code : Unsigned = uleb_of c.args.code in
     let vs = map attribute_of c.args.values.now in
     let known : is_known b.table code ≡ true = known_is b.table code c.in-Some.decl.now c.if-code-eq0.false (ap (λ (t : Table). declared t code.value) (sym c.table.ensures) ∙ sym c.in-Some.ensures.value) in
-    let pairs : map pair_of c.pairs-pairs.result.now ≡ pairs_of (declared b.table code.value) = c.pairs-pairs.ensures ∙ (ap pairs_of c.in-Some.ensures.value ∙ ap (λ (t : Table). pairs_of (declared t code.value)) c.table.ensures) in
+    let pairs : map pair_of c.pairs-pairs.result.now ≡ declared_pairs (declared b.table code.value) = c.pairs-pairs.ensures ∙ (ap declared_pairs c.in-Some.ensures.value ∙ ap (λ (t : Table). declared_pairs (declared t code.value)) c.table.ensures) in
     let same : c.context-ctx.result ≡ context_of b.header = c.context-ctx.ensures.context ∙ ap context_of c.header-header.ensures in
     let fits : ValuesFit b code vs = subst (λ (qs : List Pair). (values (context_of b.header) qs).Fits vs) pairs (subst (λ (k : Ctx). (values k (map pair_of c.pairs-pairs.result.now)).Fits vs) same (c.values_fit.ensures.0 c.if-not-values_fit.false)) in
     let size = size_is b code vs c.context-ctx.result (map pair_of c.pairs-pairs.result.now) same pairs in

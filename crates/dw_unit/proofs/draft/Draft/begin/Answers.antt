@@ -15,7 +15,7 @@ invariant_of-self c =
     let new : Growing = c.begin.new.self in
     let code : Unsigned = uleb_of c.args.code in
     let known : IsSome (declared d.table code.value) = subst (λ (x : Drafted). IsSome (declared x.table code.value)) (sym c.self.view_is) c.requires.known in
-    let free : d.place.reading ≡ None = ap (λ (x : Drafted). x.place.reading) c.self.view_is ∙ c.requires.free in
+    let free : d.place.unfinished ≡ None = ap (λ (x : Drafted). x.place.unfinished) c.self.view_is ∙ c.requires.free in
     let only : IsOnlyRoot d.place.spot = subst (λ (x : Drafted). IsOnlyRoot x.place.spot) (sym c.self.view_is) c.requires.only in
     let short : passes_limit d code.width ≡ false = ap (λ (x : Drafted). passes_limit x code.width) c.self.view_is ∙ c.requires.short in
     either_way c.begin.result (new ≡ begun_at code a.tree) (new ≡ a.tree) _ c.begin.ensures.ok c.begin.ensures.err
@@ -29,7 +29,7 @@ returns-clause-size c =
     let new : Growing = c.begin.new.self in
     let code : Unsigned = uleb_of c.args.code in
     let known : IsSome (declared d.table code.value) = subst (λ (x : Drafted). IsSome (declared x.table code.value)) (sym c.self.view_is) c.requires.known in
-    let free : d.place.reading ≡ None = ap (λ (x : Drafted). x.place.reading) c.self.view_is ∙ c.requires.free in
+    let free : d.place.unfinished ≡ None = ap (λ (x : Drafted). x.place.unfinished) c.self.view_is ∙ c.requires.free in
     on_ok c.begin.result (new ≡ begun_at code a.tree) _ c.begin.ensures.ok
     (λ e. ap (λ (g : Growing). drafted_size (record { header = a.header; table = g.table; place = g.place; padding = a.padding.items })) (new_is d a.tree a.padded c.self.invariant (begun_at code) new e)
     ∙ (begun_size d a.tree a.padded c.self.invariant code known free ∙ ap (λ (x : Drafted). drafted_size x + code.width) c.self.view_is))

@@ -13,7 +13,7 @@ invariant_of-self c =
     let w = c.args.width in
     let width : c.null.result.width ≡ w = ap (λ (u : Unsigned). u.width) c.null.ensures in
     let inside : d.place.spot.above ≢ [] = λ e. c.requires.inside (ap (λ (x : Drafted). x.place.spot.above) (sym c.self.view_is) ∙ e) in
-    let free : d.place.reading ≡ None = ap (λ (x : Drafted). x.place.reading) c.self.view_is ∙ c.requires.free in
+    let free : d.place.unfinished ≡ None = ap (λ (x : Drafted). x.place.unfinished) c.self.view_is ∙ c.requires.free in
     let short : passes_limit d w ≡ false = ap (λ (x : Drafted). passes_limit x w) c.self.view_is ∙ c.requires.short in
     either_way c.close.result (new ≡ closed_at c.null.result.width a.tree) (new ≡ a.tree) _ c.close.ensures.ok c.close.ensures.err
     (λ e. close_kept d a.tree a.padded c.self.invariant w new (e ∙ ap (λ (n : ℕ). closed_at n a.tree) width) inside free short)
@@ -27,7 +27,7 @@ returns-clause-size c =
     let w = c.args.width in
     let width : c.null.result.width ≡ w = ap (λ (u : Unsigned). u.width) c.null.ensures in
     let inside : d.place.spot.above ≢ [] = λ e. c.requires.inside (ap (λ (x : Drafted). x.place.spot.above) (sym c.self.view_is) ∙ e) in
-    let free : d.place.reading ≡ None = ap (λ (x : Drafted). x.place.reading) c.self.view_is ∙ c.requires.free in
+    let free : d.place.unfinished ≡ None = ap (λ (x : Drafted). x.place.unfinished) c.self.view_is ∙ c.requires.free in
     on_ok c.close.result (new ≡ closed_at c.null.result.width a.tree) _ c.close.ensures.ok
     (λ e. ap (λ (g : Growing). drafted_size (record { header = a.header; table = g.table; place = g.place; padding = a.padding.items })) (new_is d a.tree a.padded c.self.invariant (closed_at w) new (e ∙ ap (λ (n : ℕ). closed_at n a.tree) width))
     ∙ (closed_size d a.tree a.padded c.self.invariant w inside free ∙ ap (λ (x : Drafted). drafted_size x + w) c.self.view_is))

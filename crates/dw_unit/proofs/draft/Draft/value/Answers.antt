@@ -23,7 +23,7 @@ value-requires-clause-size c =
     let tree : c.self.inside.tree ≡ tree_in d = c.self.invariant.tree_is ∙ ap tree_in c.self.view_is in
     c.size_of-size.ensures
     ∙ ((next_sized d c.context.result v (pair_of c.in-Some.pair) same (sym c.in-Some.ensures.pair) c.requires.fits).1
-    ∙ ap (λ (g : Growing). length (next_bytes g.context g.table g.place.reading v)) (sym tree))
+    ∙ ap (λ (g : Growing). length (next_bytes g.context g.table g.place.unfinished v)) (sym tree))
 
 pub value-requires-clause-near : goal.value-requires-clause-near
 value-requires-clause-near c =
@@ -37,7 +37,7 @@ value-requires-clause-near c =
 pub unreachable-requires : goal.unreachable-requires
 unreachable-requires c =
     let d : Drafted = c.args.self.now in
-    absurd (next_some (context_of d.header) (attribute_of c.args.value.now) d.table d.place.reading (sym c.in-None.ensures.pair) c.requires.fits)
+    absurd (next_some (context_of d.header) (attribute_of c.args.value.now) d.table d.place.unfinished (sym c.in-None.ensures.pair) c.requires.fits)
 
 pub invariant_of-self : goal.invariant_of-self
 invariant_of-self c =
@@ -45,7 +45,7 @@ invariant_of-self c =
     let d : Drafted = record { header = a.header; table = a.tree.table; place = a.tree.place; padding = a.padding.items } in
     let new : Growing = c.value.new.self in
     let v : Attribute = attribute_of c.args.value.now in
-    let fits : NextFits (context_of d.header) d.table d.place.reading v = subst (λ (x : Drafted). NextFits (context_of x.header) x.table x.place.reading v) (sym c.self.view_is) c.requires.fits in
+    let fits : NextFits (context_of d.header) d.table d.place.unfinished v = subst (λ (x : Drafted). NextFits (context_of x.header) x.table x.place.unfinished v) (sym c.self.view_is) c.requires.fits in
     let short : passes_limit d (length (value_bytes d v)) ≡ false = ap (λ (x : Drafted). passes_limit x (length (value_bytes x v))) c.self.view_is ∙ c.requires.short in
     either_way c.value.result (new ≡ with_value v a.tree) (new ≡ a.tree) _ c.value.ensures.ok c.value.ensures.err
     (λ e. value_kept d a.tree a.padded c.self.invariant v fits new e short)
@@ -57,7 +57,7 @@ returns-clause-size c =
     let d : Drafted = record { header = a.header; table = a.tree.table; place = a.tree.place; padding = a.padding.items } in
     let new : Growing = c.value.new.self in
     let v : Attribute = attribute_of c.args.value.now in
-    let fits : NextFits (context_of d.header) d.table d.place.reading v = subst (λ (x : Drafted). NextFits (context_of x.header) x.table x.place.reading v) (sym c.self.view_is) c.requires.fits in
+    let fits : NextFits (context_of d.header) d.table d.place.unfinished v = subst (λ (x : Drafted). NextFits (context_of x.header) x.table x.place.unfinished v) (sym c.self.view_is) c.requires.fits in
     on_ok c.value.result (new ≡ with_value v a.tree) _ c.value.ensures.ok
     (λ e. ap (λ (g : Growing). drafted_size (record { header = a.header; table = g.table; place = g.place; padding = a.padding.items })) (new_is d a.tree a.padded c.self.invariant (with_value v) new e ∙ value_place d v)
     ∙ (given_size d a.tree a.padded c.self.invariant v fits ∙ ap (λ (x : Drafted). drafted_size x + length (value_bytes x v)) c.self.view_is))

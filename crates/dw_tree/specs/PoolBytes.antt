@@ -2,12 +2,12 @@
 use Rattle.std.specs.Prelude.{◌≡◌, ℕ, List, [], ◌∷◌, ◌++◌, length, drop, Option, None, Some, IfSome}
 use Rattle.dw_form.specs.declared.stored.Stored.{Stored}
 use Rattle.dw_form.specs.Form.{Attribute}
-use Rattle.dw_form.specs.Kept.{bytes_in}
+use Rattle.dw_form.specs.StoredView.{bytes_in}
 use Rattle.dw_abbrev.specs.Table.{Table}
 use Rattle.dw_tree.specs.declared.row.Row.{Row}
-use Rattle.dw_tree.specs.declared.row.Reading.{Reading}
+use Rattle.dw_tree.specs.declared.row.Unfinished.{Unfinished}
 use Rattle.dw_tree.specs.Row.{Token, leaf_row, branch_row, null_row}
-use Rattle.dw_tree.specs.Place.{Begun, Unread, Place, rows_before}
+use Rattle.dw_tree.specs.Place.{PartialValue, UnfinishedEntry, Place, rows_before}
 use Rattle.dw_tree.specs.Flat.{contents, tokens}
 
 -- of values
@@ -25,26 +25,26 @@ abbrev pub held : List Token → List ℕ
 held [] = []
 held (x ∷ xs) = joined (row_values x) ++ held xs
 
--- of an entry that is read, a value included that has begun
-abbrev pub begun_bytes : Option Begun → List ℕ
-begun_bytes None = []
-begun_bytes (Some b) = b.bytes
+-- of an unfinished entry, a partial value included
+abbrev pub partial_bytes : Option PartialValue → List ℕ
+partial_bytes None = []
+partial_bytes (Some b) = b.bytes
 
-abbrev pub read_bytes : Option Unread → List ℕ
+abbrev pub read_bytes : Option UnfinishedEntry → List ℕ
 read_bytes None = []
-read_bytes (Some r) = joined r.values ++ begun_bytes r.begun
+read_bytes (Some r) = joined r.values ++ partial_bytes r.partial
 
 -- of a tree with one open place
 abbrev pub held_in : Place → List ℕ
-held_in p = held (rows_before p.spot.above p.spot.left) ++ read_bytes p.reading
+held_in p = held (rows_before p.spot.above p.spot.left) ++ read_bytes p.unfinished
 
 -- ---- what the pool has
 
-abbrev pub given_bytes : List Stored → List ℕ → Option Reading → List ℕ
+abbrev pub given_bytes : List Stored → List ℕ → Option Unfinished → List ℕ
 given_bytes values pool None = []
 given_bytes values pool (Some r) = joined (contents (drop r.first values) pool)
 
--- the pool has these bytes and no others, and those of the entry that is read from where it began
-pub record Holds (t : Table) (rows : List Row) (values : List Stored) (pool : List ℕ) (reading : Option Reading) : Type 0 where
-  pub exact : pool ≡ held (tokens t rows values pool) ++ given_bytes values pool reading
-  pub from : IfSome reading (λ r. r.pool ≡ length (held (tokens t rows values pool)))
+-- the pool has these bytes and no others, and those of the unfinished entry from where it began
+pub record Holds (t : Table) (rows : List Row) (values : List Stored) (pool : List ℕ) (unfinished : Option Unfinished) : Type 0 where
+  pub exact : pool ≡ held (tokens t rows values pool) ++ given_bytes values pool unfinished
+  pub from : IfSome unfinished (λ r. r.pool ≡ length (held (tokens t rows values pool)))

@@ -9,15 +9,15 @@ use Rattle.dw_unit.specs.declared.bad.BodyError.{BodyError}
 use Rattle.dw_unit.specs.declared.bad.BodyError.TheVariants as errors
 
 -- a code, whose size is its width; or where and why the bytes break
-abbrev pub told_code : Result Uleb Bad → Outcome Unsigned
-told_code (Ok code) = Found (uleb_of code) code.width
-told_code (Err e) = Broken e.offset e.reason
+abbrev pub code_outcome : Result Uleb Bad → Outcome Unsigned
+code_outcome (Ok code) = Found (uleb_of code) code.width
+code_outcome (Err e) = Broken e.offset e.reason
 
 -- a value that is seen by a view, and its size; or the break. Where a growth was refused it tells nothing
-abbrev pub Tells : {X Y : Type 0} → (X → Y) → Result (X × ℕ) BodyError → Outcome Y → Type 0
-Tells view (Ok x) o = o ≡ Found (view x.0) x.1
-Tells view (Err (errors.Bad e)) o = o ≡ Broken e.offset e.reason
-Tells view (Err errors.NoMemory) o = Unit {0}
+abbrev pub HasOutcome : {X Y : Type 0} → (X → Y) → Result (X × ℕ) BodyError → Outcome Y → Type 0
+HasOutcome view (Ok x) o = o ≡ Found (view x.0) x.1
+HasOutcome view (Err (errors.Bad e)) o = o ≡ Broken e.offset e.reason
+HasOutcome view (Err errors.NoMemory) o = Unit {0}
 
 -- a broken field begins within so many bytes
 abbrev pub IsNear : ℕ → BodyError → Type 0

@@ -6,11 +6,11 @@ use Rattle.dw_leb.specs.View.{uleb_of}
 use Rattle.dw_form.specs.declared.shape.Ctx.{Ctx}
 use Rattle.dw_form.specs.declared.stored.Stored.{Stored}
 use Rattle.dw_form.specs.Form.{Attribute}
-use Rattle.dw_form.specs.Kept.{StoredFits}
+use Rattle.dw_form.specs.StoredView.{StoredFits}
 use Rattle.dw_abbrev.specs.Table.{Declaration, Table, declared, is_null, zero_of}
 use Rattle.dw_tree.specs.declared.row.Row.{Row}
-use Rattle.dw_tree.specs.declared.row.Reading.{Reading}
-use Rattle.dw_tree.specs.Tree.{Tree, values, pairs_of, children_of, nesting}
+use Rattle.dw_tree.specs.declared.row.Unfinished.{Unfinished}
+use Rattle.dw_tree.specs.Tree.{Tree, values, declared_pairs, declares_children, nesting}
 use Rattle.dw_tree.specs.Row.{Token, leaf_row, branch_row, null_row, rows_of, row_bytes, rows_bytes}
 use Rattle.dw_tree.specs.Place.{spot_after, rows_before, open_rows}
 use Rattle.dw_tree.specs.Flat.{tokens, contents, RowFits, IsEntry}
@@ -40,7 +40,7 @@ pub record IsSpelled (rows : List Row) (xs : List Token) (open_at : List ℕ) : 
   pub opened : open_at ≡ open_rows (spot_after xs).above
 
 -- the declaration of what is read, and that some of its values are still to come
-pub record IsRead (t : Table) (values : ℕ) (r : Reading) : Type 0 where
+pub record IsRead (t : Table) (values : ℕ) (r : Unfinished) : Type 0 where
   pub decl : Declaration
   pub declared : declared t r.code.value ≡ Some decl
   pub children : decl.children ≡ r.children
@@ -48,23 +48,23 @@ pub record IsRead (t : Table) (values : ℕ) (r : Reading) : Type 0 where
   pub first : r.first ≤ values
   pub short : values < r.first + r.count
 
--- what stood before the entry that is read stays when its values go
-pub record CanUndo (t : Table) (rows : List Row) (values : List Stored) (pool : ℕ) (r : Reading) : Type 0 where
+-- what stood before the unfinished entry stays when its values go
+pub record CanUndo (t : Table) (rows : List Row) (values : List Stored) (pool : ℕ) (r : Unfinished) : Type 0 where
   pub rows_fit : AllByRecursion (RowFits t r.first) rows
   pub values_fit : AllByRecursion (StoredFits r.pool) (take r.first values)
   pub within : r.pool ≤ pool
 
-pub record IsSound (t : Table) (rows : List Row) (values : List Stored) (pool : List ℕ) (open_at : List ℕ) (reading : Option Reading) : Type 0 where
+pub record IsSound (t : Table) (rows : List Row) (values : List Stored) (pool : List ℕ) (open_at : List ℕ) (unfinished : Option Unfinished) : Type 0 where
   pub rows_fit : AllByRecursion (RowFits t (length values)) rows
   pub values_fit : AllByRecursion (StoredFits (length pool)) values
   pub is_spelled : IsSpelled rows (tokens t rows values pool) open_at
-  pub is_read : IfSome reading (IsRead t (length values))
-  pub can_undo : IfSome reading (CanUndo t rows values (length pool))
+  pub is_read : IfSome unfinished (IsRead t (length values))
+  pub can_undo : IfSome unfinished (CanUndo t rows values (length pool))
 
 -- what was made room for
-pub record HasRoom (reading : Option Reading) (rows rows_cap open_len open_cap : ℕ) : Type 0 where
-  pub row : IfSome reading (λ r. rows < rows_cap)
-  pub place : IfSome reading (λ r. open_len < open_cap)
+pub record HasRoom (unfinished : Option Unfinished) (rows rows_cap open_len open_cap : ℕ) : Type 0 where
+  pub row : IfSome unfinished (λ r. rows < rows_cap)
+  pub place : IfSome unfinished (λ r. open_len < open_cap)
 
 -- ---- each row has a spelling, stands where the bytes before it end, and not too deep
 
@@ -73,11 +73,11 @@ pub record EntryFits (k : Ctx) (t : Table) (code : Unsigned) (vs : List Attribut
   pub code_fits : uleb.Fits code
   pub not_null : is_null code ≡ false
   pub known : IsSome (declared t code.value)
-  pub values_fit : (values k (pairs_of (declared t code.value))).Fits vs
+  pub values_fit : (values k (declared_pairs (declared t code.value))).Fits vs
 
 abbrev pub TokenFits : Ctx → Table → Token → Type 0
-TokenFits k t (leaf_row code vs) = EntryFits k t code vs × (children_of (declared t code.value) ≡ false)
-TokenFits k t (branch_row code vs) = EntryFits k t code vs × (children_of (declared t code.value) ≡ true)
+TokenFits k t (leaf_row code vs) = EntryFits k t code vs × (declares_children (declared t code.value) ≡ false)
+TokenFits k t (branch_row code vs) = EntryFits k t code vs × (declares_children (declared t code.value) ≡ true)
 TokenFits k t (null_row w) = uleb.Fits (zero_of w)
 
 -- an entry's level is at most the nesting's limit
@@ -108,10 +108,10 @@ Stand k t at depth [] (x ∷ xs) = ⊥
 Stand k t at depth (r ∷ rows) [] = ⊥
 Stand k t at depth (r ∷ rows) (x ∷ xs) = ((r.offset ≡ at) × (r.depth ≡ depth) × TokenFits k t x × LevelFits x depth) × Stand k t (at + length (row_bytes k t x)) (level_after depth x) rows xs
 
--- the entry that is read begins behind the rows, and its values so far have a spelling
-pub record IsBegun (k : Ctx) (t : Table) (start : ℕ) (xs : List Token) (values : List Stored) (pool : List ℕ) (r : Reading) : Type 0 where
+-- the unfinished entry begins behind the rows, and its values so far have a spelling
+pub record IsUnfinishedEntry (k : Ctx) (t : Table) (start : ℕ) (xs : List Token) (values : List Stored) (pool : List ℕ) (r : Unfinished) : Type 0 where
   pub offset : r.offset ≡ start + length (rows_bytes k t xs)
   pub code_fits : uleb.Fits (uleb_of r.code)
   pub not_null : is_null (uleb_of r.code) ≡ false
-  pub prefix_fits : FirstsFit k (pairs_of (declared t r.code.value)) (contents (drop r.first values) pool)
+  pub prefix_fits : FirstsFit k (declared_pairs (declared t r.code.value)) (contents (drop r.first values) pool)
   pub level : length (spot_after xs).above < nesting

@@ -10,10 +10,10 @@ use Rattle.dw_leb.specs.ReadNumber.{read_length}
 use Rattle.dw_leb.specs.Decide.{Says, AreBytes, AreBytes-behind}
 use Rattle.dw_leb.specs.DecideNumber.{initial_length_decides, initial-size, initial_end}
 use Rattle.dw_header.specs.Header.{Header, Fields, fields, fields_of}
-use Rattle.dw_header.specs.Headed.{HeaderBreaks, HeaderAt, header_size}
+use Rattle.dw_header.specs.HeaderPlace.{HeaderBreaks, HeaderAt, header_size}
 use Rattle.dw_header.specs.ReadHeader.{read_fields, header_from, Heading, head_fields, head_length, read_head}
 use Rattle.dw_header.specs.DecideHeader.{fields_decides}
-use Rattle.dw_header.specs.HeaderLemmas.{kind_there}
+use Rattle.dw_header.specs.FittingHeaders.{kind_there}
 
 abbrev pub HeadSays : Order → List ℕ → Outcome Heading → Type 0
 HeadSays order bytes (Found x size) = HeaderAt order bytes x.0 x.1

@@ -6,7 +6,7 @@ use Rattle.dw_leb.specs.Number.{Unsigned}
 use Rattle.dw_leb.specs.declared.order.Format.{Format}
 use Rattle.dw_form.specs.declared.shape.Ctx.{Ctx}
 use Rattle.dw_form.specs.Form.{Attribute, shape, forms, at_number}
-use Rattle.dw_form.specs.Kept.{NamesForm}
+use Rattle.dw_form.specs.StoredView.{NamesForm}
 use Rattle.dw_form.specs.Pieces.{HasSpelling, constant_in, form_in, form_known}
 
 abbrev all_short : {X : Type 0} → List (ℕ × X) → Bool

@@ -13,11 +13,11 @@ use Rattle.dw_leb.specs.Reader.{Outcome, Found, Broken}
 use Rattle.dw_leb.specs.Decide.{found, broken, found_value}
 use Rattle.dw_leb.specs.DecideNumber.{initial_length_decides, initial_within}
 use Rattle.dw_header.specs.Header.{Header, HeaderFits, fields, fields_of}
-use Rattle.dw_header.specs.HeaderLemmas.{fields_fit, header_fits, header_back}
-use Rattle.dw_header.specs.Headed.{Headed, HeaderBreaks, HeaderAt, header_bytes}
+use Rattle.dw_header.specs.FittingHeaders.{fields_fit, header_fits, header_back}
+use Rattle.dw_header.specs.HeaderPlace.{SpelledHeader, HeaderBreaks, HeaderAt, header_bytes}
 use Rattle.dw_header.specs.ReadHeader.{read_fields, header_from, Heading, head_fields, head_length, read_head}
 use Rattle.dw_header.specs.DecideHeader.{fields_decides, header_stays, headed_stays}
-use Rattle.dw_header.specs.HeadRead.{HeadSays, head_says}
+use Rattle.dw_header.specs.HeaderFound.{HeadSays, head_says}
 
 abbrev length_bytes : Order → Format → ℕ → List ℕ
 length_bytes order format n = (length_field order).spell (format, n)
@@ -139,14 +139,14 @@ no_header_begins h g m n a b e p q same =
 pub headers_are_spelled : HeadersAreSpelled
 headers_are_spelled order bytes h n (order_is, rest, headed) = (
   order_is,
-  subst (λ (o : Order). Headed o bytes h.format n (fields_of h) rest → HasHeaderBytes h n) order_is (has h n bytes rest) headed,
-  (rest, subst (λ (o : Order). Headed o bytes h.format n (fields_of h) rest → bytes ≡ header_bytes h n ++ rest) order_is (split_of h n bytes rest) headed),
+  subst (λ (o : Order). SpelledHeader o bytes h.format n (fields_of h) rest → HasHeaderBytes h n) order_is (has h n bytes rest) headed,
+  (rest, subst (λ (o : Order). SpelledHeader o bytes h.format n (fields_of h) rest → bytes ≡ header_bytes h n ++ rest) order_is (split_of h n bytes rest) headed),
 )
   where
-    has : (h : Header) (n : ℕ) (bytes rest : List ℕ) → Headed h.order bytes h.format n (fields_of h) rest → HasHeaderBytes h n
+    has : (h : Header) (n : ℕ) (bytes rest : List ℕ) → SpelledHeader h.order bytes h.format n (fields_of h) rest → HasHeaderBytes h n
     has h n bytes rest g = record { header_fits = header_fits h g.fields_fit; length_fits = g.length_fits; within = g.within }
 
-    split_of : (h : Header) (n : ℕ) (bytes rest : List ℕ) → Headed h.order bytes h.format n (fields_of h) rest → bytes ≡ header_bytes h n ++ rest
+    split_of : (h : Header) (n : ℕ) (bytes rest : List ℕ) → SpelledHeader h.order bytes h.format n (fields_of h) rest → bytes ≡ header_bytes h n ++ rest
     split_of h n bytes rest g = g.split ∙ sym (append_assoc (length_bytes h.order h.format n) (field_bytes h.order h) rest)
 
 pub one_header_break : OneHeaderBreak

@@ -2,7 +2,7 @@
 use Rattle.std.specs.Prelude.{◌≡◌, ℕ, ◌+◌, ◌≤◌, List, ◌++◌, length, ◌⊎◌}
 use Rattle.dw_leb.specs.declared.errors.Fault.{Fault}
 use Rattle.dw_leb.specs.declared.errors.Reason.{Reason}
-use Rattle.dw_leb.specs.declared.errors.Section.TheVariants.{Info}
+use Rattle.dw_leb.specs.declared.errors.SectionId.TheVariants.{Info}
 use Rattle.dw_leb.specs.declared.order.Order.{Order}
 use Rattle.dw_leb.specs.declared.order.Format.{Format}
 use Rattle.dw_leb.specs.Number.{length_field, initial_length, length_limit, length_size}
@@ -17,7 +17,7 @@ abbrev pub header_size : Header → ℕ
 header_size h = length_size h.format + length ((fields h.order h.format).spell (fields_of h))
 
 -- A header is spelled at the front: an initial length n, and the fields within it.
-pub record Headed (order : Order) (bytes : List ℕ) (format : Format) (n : ℕ) (x : Fields) (rest : List ℕ) : Type 0 where
+pub record SpelledHeader (order : Order) (bytes : List ℕ) (format : Format) (n : ℕ) (x : Fields) (rest : List ℕ) : Type 0 where
   pub length_fits : (initial_length order 0).Fits (format, n)
   pub fields_fit : (fields order format).Fits x
   pub split : bytes ≡ (length_field order).spell (format, n) ++ ((fields order format).spell x ++ rest)
@@ -31,7 +31,7 @@ HeaderBreaks order bytes offset reason = (initial_length order 0).Break bytes le
 
 -- a header in this order, and its unit_length, stand at the front of the bytes
 abbrev pub HeaderAt : Order → List ℕ → Header → ℕ → Type 0
-HeaderAt order bytes h n = (h.order ≡ order) × (rest : List ℕ) × Headed order bytes h.format n (fields_of h) rest
+HeaderAt order bytes h n = (h.order ≡ order) × (rest : List ℕ) × SpelledHeader order bytes h.format n (fields_of h) rest
 
 -- the fault of a header that can't be read
 abbrev pub HeaderFault : Order → List ℕ → Fault → Type 0
