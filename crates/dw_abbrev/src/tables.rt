@@ -57,7 +57,8 @@ impl<'a> Tables<'a> {
         if let Some(table) = self.kept.get(&offset) {
             return share(table);
         }
-        let table = place(self.alloc, Table::read(self.alloc, self.abbreviations, offset)?)?;
+        let read = Table::read(self.alloc, self.abbreviations, offset)?;
+        let table = place(self.alloc, read)?;
         let shared = share(&table)?;
         keep(&mut self.kept, offset, table)?;
         Ok(shared)

@@ -6,7 +6,7 @@ ghost use Rattle.dw_tree.specs.Flat.{IsEntry, IsNull};
 ghost use Rattle.dw_tree.specs.Lent.{entries_of};
 
 use crate::entry::EntryRef;
-use crate::row::{RowKind, Row};
+use crate::row::{Row, RowKind};
 use crate::tree::EntryTree;
 use std::marker::Model;
 
