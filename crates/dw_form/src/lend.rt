@@ -1,4 +1,4 @@
-//! Values at the front of bytes, lent from them.
+//! Values at the front of bytes, borrowed from them.
 ghost use Rattle.std.specs.Prelude.{◌≡◌, ◌==◌, ◌≤◌, ◌<◌, ◌+◌, ◌^◌, ℕ, length, min, take, IfOk, IfErr, IfSome, IsOkAnd, option_map};
 ghost use Rattle.dw_leb.specs.Part.{Taken};
 ghost use Rattle.dw_leb.specs.Number.{unended};
@@ -241,12 +241,12 @@ fn value_at(
 }
 
 /// The value of form `form` at the front of `b`, where `lim` bytes are left to the unit's end, and
-/// the count of its bytes. It is lent from `b`: no memory is taken.
+/// the count of its bytes. It is borrowed from `b`: no memory is taken.
 ///
 /// `implicit` is the constant of the declaration where the form is implicit_const; another form
 /// doesn't look at it.
 ///
-/// What is refused is told by the first reason that holds, by the order of the bytes:
+/// A refusal has the first reason that holds, in the order of the bytes:
 /// - of an indirect value, the number of its form is refused as by `Uleb::read`, or that form is
 ///   indirect or implicit_const (`BadIndirect`);
 /// - the form has no shape (`UnknownForm`), or it is implicit_const and its declaration has no
@@ -255,7 +255,7 @@ fn value_at(
 ///   (`Truncated`); a LEB128 number has more than sixteen bytes (`LebTooLong`) or is too big
 ///   (`LebTooBig`). A block's length is judged before its content.
 ///
-/// A value is one field: its fault stands at its first byte, whatever part of it is refused.
+/// A value is one field: its fault is at its first byte, whatever part of it is refused.
 pub fn lend_value(
     ctx: Ctx,
     form: u64,

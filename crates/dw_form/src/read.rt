@@ -31,7 +31,7 @@ pub enum ValueError {
 /// end, and gives it and the count of its bytes. Its text or block goes to the end of `pool`; any
 /// other value leaves the pool as it was.
 ///
-/// `implicit` and the reasons of `Bad` are those of `lend_value`. `NoMemory` is answered only for a
+/// `implicit` and the reasons of `Bad` are those of `lend_value`. `NoMemory` is returned only for a
 /// value that is there and whose text or block has no room in the pool. On an error the pool holds
 /// what it held; where the bytes are refused it isn't touched at all, so nothing grows by a length
 /// that was only announced.

@@ -11,7 +11,7 @@ use dw_leb::{Sleb, Uleb};
 use std::alloc::AllocError;
 
 /// A value whose text or block is a span of a pool of bytes. It is of use with that pool alone, to
-/// which bytes may have been added behind. It has 24 bytes, as a unit's list has one for each of
+/// which bytes may have been appended. It has 24 bytes, as a unit's list has one for each of
 /// its values.
 #[derive(Clone, Copy, Debug)]
 pub struct Stored {
@@ -67,8 +67,8 @@ impl Stored {
         Ok(Stored { kept })
     }
 
-    /// Stores a text, or a block whose length field has `width` bytes, that stands in the pool
-    /// already: its bytes are those from `start` to the pool's end.
+    /// Stores a text, or a block whose length field has `width` bytes, that is already in the
+    /// pool: its bytes are those from `start` to the pool's end.
     ///
     /// An indirect value names a form by a number of 16 bits.
     pub fn of_end(via: Option<Uleb>, width: Option<u8>, start: usize, pool: &[u8]) -> Stored
@@ -86,7 +86,7 @@ impl Stored {
         Stored { kept }
     }
 
-    /// The value, its bytes being lent from the pool in which it was stored, or from one that
+    /// The value, with its bytes borrowed from the pool in which it was stored, or from one that
     /// begins with it.
     pub fn lend<'a>(&self, pool: &'a [u8]) -> AttrValue<'a>
         requires { StoredFits (length pool.now) self.now }

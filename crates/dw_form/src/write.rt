@@ -15,7 +15,7 @@ use std::io::Write;
 /// Writes a value under form `form`, where it has a spelling: it is one of the form's shape, or
 /// under indirect one of the shape of the form in `via`, its numbers and lengths fit their bytes,
 /// and its text has no zero byte. What was read under a form has a spelling. After an error, which
-/// is the writer's, a beginning of the spelling was written. No memory is taken.
+/// is the writer's, a prefix of the spelling was written. No memory is taken.
 pub fn write_value<W: Write>(
     ctx: Ctx,
     form: u64,
@@ -71,7 +71,7 @@ fn write_via<W: Write>(value: &AttrValue<'_>, writer: &mut Watched<W>) -> Result
     write_all(writer, via_part(value).as_slice())
 }
 
-/// Writes what stands before the content.
+/// Writes what comes before the content.
 fn write_head<W: Write>(
     ctx: Ctx,
     shape: Shape,
@@ -139,7 +139,7 @@ fn via_part(value: &AttrValue<'_>) -> ArrayVec<u8, 16>
     }
 }
 
-/// What stands before the content: a number, or a block's length.
+/// What comes before the content: a number, or a block's length.
 fn head(ctx: Ctx, shape: Shape, value: &Value<'_>) -> ArrayVec<u8, 16>
     requires fits { HeadFits ctx shape (value_of value.now) }
     requires sizes { ShapeFits shape }

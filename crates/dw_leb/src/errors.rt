@@ -122,7 +122,7 @@ impl Bad {
     }
 }
 
-/// The section in which a fault stands.
+/// The section in which a fault is.
 #[derive(Clone, Copy, Debug, PartialEq, Eq, Hash)]
 pub enum SectionId {
     /// `.debug_info`
@@ -148,7 +148,7 @@ impl SectionId {
 pub struct Fault {
     /// The section of the field.
     pub section: SectionId,
-    /// Where the field's first byte stands. In `.debug_info` it counts from the unit's first byte
+    /// The offset of the field's first byte. In `.debug_info` it counts from the unit's first byte
     /// where one unit is read, and from the section's first byte where a section is read. In
     /// `.debug_abbrev` it counts from the section's first byte.
     pub offset: u64,

@@ -9,8 +9,8 @@ use std::io::Read;
 
 /// All bytes that the reader has left.
 ///
-/// `Io` is answered exactly where the reader failed, with the kind that `fault()` tells then. After
-/// that or `NoMemory` some bytes were taken. A `Fault` doesn't come.
+/// `Io` is returned exactly where the reader failed, with the kind that `fault()` then returns.
+/// After that, or after `NoMemory`, bytes may have been taken. `Fault` is never returned.
 pub(crate) fn read_all<R: Read>(
     alloc: Global,
     reader: &mut Watched<R>,
