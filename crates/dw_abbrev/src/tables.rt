@@ -69,10 +69,7 @@ fn share(table: &Rc<Table>) -> Result<Rc<Table>, ReadError>
     ensures ok { IfOk result (λ t. t.value ≡ table.now.value) }
     ensures err { IfErr result (λ e. e ≡ refused_memory) }
 {
-    match table.clone() {
-        Ok(shared) => Ok(shared),
-        Err(_) => Err(ReadError::NoMemory),
-    }
+    Ok(table.clone()?)
 }
 
 /// A table on the heap.
@@ -80,10 +77,7 @@ fn place(alloc: Global, table: Table) -> Result<Rc<Table>, ReadError>
     ensures ok { IfOk result (λ t. t.value ≡ table) }
     ensures err { IfErr result (λ e. e ≡ refused_memory) }
 {
-    match Rc::new(alloc, table) {
-        Ok(placed) => Ok(placed),
-        Err(_) => Err(ReadError::NoMemory),
-    }
+    Ok(Rc::new(alloc, table)?)
 }
 
 /// Keeps a table by an offset by which none is kept.
@@ -93,8 +87,6 @@ fn keep(kept: &mut IndexMap<u64, Rc<Table>>, offset: u64, table: Rc<Table>) -> R
     ensures unchanged { OnErr result (kept.new.entries ≡ kept.old.entries) }
     ensures err { IfErr result (λ e. e ≡ refused_memory) }
 {
-    match kept.insert(offset, table) {
-        Ok(_) => Ok(()),
-        Err(_) => Err(ReadError::NoMemory),
-    }
+    kept.insert(offset, table)?;
+    Ok(())
 }

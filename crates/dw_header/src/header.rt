@@ -65,7 +65,7 @@ impl Header {
     }
 
     /// A header of fields that fit.
-    #[tactic(auto, using(crate::specs::HeaderLemmas::header_fits, crate::specs::HeaderLemmas::header_back))]
+    #[tactic(auto, using(crate::specs::FittingHeaders::header_fits, crate::specs::FittingHeaders::header_back))]
     pub(crate) fn of(order: Order, format: Format, fields: HeaderFields) -> Header
         requires { (header_part order format).Fits (all_fields fields) }
         ensures { result ≡ header_from order format (all_fields fields) }
