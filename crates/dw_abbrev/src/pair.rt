@@ -72,7 +72,11 @@ fn refusal(name: Uleb, form: Uleb, before: usize) -> Option<Reason>
 }
 
 /// The name and the form at `at`, and where what follows begins.
-fn names_at(abbreviations: &[u8], at: usize, before: usize) -> Result<((Uleb, Uleb), usize), ReadError>
+fn names_at(
+    abbreviations: &[u8],
+    at: usize,
+    before: usize,
+) -> Result<((Uleb, Uleb), usize), ReadError>
     requires { at ≤ length abbreviations.now }
     ensures ok { IfOk result (λ x. Gives (read_names before) abbreviations.now at (uleb_of x.0.0, uleb_of x.0.1) x.1) }
     ensures forward { IfOk result (λ x. (at < x.1) × (x.1 ≤ length abbreviations.now)) }

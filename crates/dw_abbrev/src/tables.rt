@@ -57,7 +57,10 @@ impl<'a> Tables<'a> {
         if let Some(table) = self.kept.get(&offset) {
             return share(table);
         }
-        let table = place(self.alloc, Table::read(self.alloc, self.abbreviations, offset)?)?;
+        let table = place(
+            self.alloc,
+            Table::read(self.alloc, self.abbreviations, offset)?,
+        )?;
         let shared = share(&table)?;
         keep(&mut self.kept, offset, table)?;
         Ok(shared)
