@@ -53,13 +53,13 @@ module _ (abbreviations : List ℕ) (order : Order) (b : List ℕ) (fit : AreByt
     unit_broken errors.NoMemory is_error = tt
 
   -- a table that breaks
-  pub table_broken : (e : ReadError) → tables.IsUnitError abbreviations h.abbrev_offset e → IsUnitError abbreviations order b e
+  pub table_broken : (e : ReadError) → tables.IsTableError abbreviations h.abbrev_offset e → IsUnitError abbreviations order b e
   table_broken (reads.Fault f) is_error = subst (λ (s : SectionId). Fails order abbreviations b s f.offset f.reason) (sym is_error.0) (h, n, head, is_error.1)
   table_broken reads.NoMemory is_error = tt
   table_broken (reads.Io kind) is_error = is_error
 
 -- a fault of a table isn't one in the unit's own bytes
-pub table_within : (abbreviations : List ℕ) (offset n : ℕ) (e : ReadError) → tables.IsUnitError abbreviations offset e → FaultWithin n e
+pub table_within : (abbreviations : List ℕ) (offset n : ℕ) (e : ReadError) → tables.IsTableError abbreviations offset e → FaultWithin n e
 table_within abbreviations offset n (reads.Fault f) is_error = λ info. absurd (other (sym is_error.0 ∙ info))
   where
     other : Abbrev ≡ Info → ⊥

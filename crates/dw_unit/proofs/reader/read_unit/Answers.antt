@@ -25,7 +25,7 @@ pub returns-in_err-table-clause-broken : goal.returns-in_err-table-clause-broken
 returns-in_err-table-clause-broken c =
     let p = err_from_is_err_and c.from_residual.result c.from_residual.ensures.1 in
     let fit = are_bytes c.args.b.now (λ k. omega (arith, c.type_inv.b k)) in
-    let is_error = subst (λ (offset : ℕ). tables.IsUnitError c.args.tables.now offset c.in_err-table.field-0.0) c.abbrev_offset.ensures c.in_err-table.ensures.broken in
+    let is_error = subst (λ (offset : ℕ). tables.IsTableError c.args.tables.now offset c.in_err-table.field-0.0) c.abbrev_offset.ensures c.in_err-table.ensures.broken in
     rw (p.1, p.2) (table_broken c.args.tables.now c.args.order c.args.b.now fit c.in-Ok.found.0 c.in-Ok.found.1 c.in-Ok.ensures.found c.in_err-table.field-0.0 is_error)
 
 pub returns-in_err-table-clause-near : goal.returns-in_err-table-clause-near
