@@ -1,6 +1,6 @@
 //! The input of a run, read whole.
 ghost use Rattle.std.specs.Prelude.{◌≡◌, None, vec_items};
-ghost use Rattle.dw_leb.specs.Watch.{inner_of, fault_of, reader_fault, TookBytes};
+ghost use Rattle.dw_leb.specs.Watch.{inner_of, fault_of, reader_fault, KeptSome};
 ghost use Rattle.dw_tool.specs.Input.{ReadsAll};
 
 use dw_leb::{ReadError, Watched};
@@ -11,13 +11,16 @@ use std::io::Read;
 ///
 /// `Io` is answered exactly where the reader failed, with the kind that `fault()` tells then. After
 /// that or `NoMemory` some bytes were taken. A `Fault` doesn't come.
-pub(crate) fn read_all<R: Read>(alloc: Global, reader: &mut Watched<R>) -> Result<Vec<u8>, ReadError>
+pub(crate) fn read_all<R: Read>(
+    alloc: Global,
+    reader: &mut Watched<R>,
+) -> Result<Vec<u8>, ReadError>
     requires { fault_of reader.old ≡ None }
     ensures bytes { ReadsAll vec_items
         (R.remaining (inner_of reader.old))
         (R.remaining (inner_of reader.new))
         result }
-    ensures memory { TookBytes (R.remaining (inner_of reader.old)) (R.remaining (inner_of reader.new)) result }
+    ensures memory { KeptSome (R.remaining (inner_of reader.old)) (R.remaining (inner_of reader.new)) result }
     ensures fault { fault_of reader.new ≡ reader_fault result }
 {
     let mut bytes = Vec::new(alloc);
@@ -30,8 +33,6 @@ pub(crate) fn read_all<R: Read>(alloc: Global, reader: &mut Watched<R>) -> Resul
         if got == 0 {
             return Ok(bytes);
         }
-        if bytes.extend_from_slice(&chunk[..got]).is_err() {
-            return Err(ReadError::NoMemory);
-        }
+        bytes.extend_from_slice(&chunk[..got])?;
     }
 }
