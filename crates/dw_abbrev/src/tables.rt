@@ -12,7 +12,7 @@ use std::rc::Rc;
 
 /// The tables of a section `.debug_abbrev`, each read when it is first asked for and kept by its
 /// offset.
-#[derive(Drop)]
+#[derive(Debug, Drop)]
 pub struct Tables<'a> {
     alloc: Global,
     abbreviations: &'a [u8],

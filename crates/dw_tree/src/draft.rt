@@ -13,7 +13,7 @@ ghost use Rattle.dw_tree.specs.Emptiness.{is_bare};
 ghost use Rattle.dw_tree.specs.Completed.{settled_rows, settled_open, settled_unfinished};
 ghost use Rattle.dw_tree.specs.Steps.{begun_at, with_value, partial_in, partial_attribute, started, extended, ended, closed_at, undone, end_of, NextFits, next_bytes, next_pair, finished};
 
-use crate::row::{PartialValue, RowKind, Unfinished, Row};
+use crate::row::{PartialValue, Row, RowKind, Unfinished};
 use crate::tree::EntryTree;
 use dw_abbrev::{Pair, Table};
 use dw_form::{AttrValue, Ctx, Stored, Value};
@@ -27,7 +27,7 @@ use std::rc::Rc;
 ///
 /// What a call's `requires` asks for its caller has tested. So the calls answer only that memory was
 /// refused, and the draft holds then what it held.
-#[derive(Drop)]
+#[derive(Debug, Drop)]
 pub struct TreeDraft {
     context: Ctx,
     table: Rc<Table>,
@@ -101,7 +101,12 @@ impl TreeDraft {
                 pool: self.pool.len(),
             };
             self.here += code.width as u64;
-            self.unfinished = settle(&mut self.rows, &mut self.nested, self.values.len(), unfinished);
+            self.unfinished = settle(
+                &mut self.rows,
+                &mut self.nested,
+                self.values.len(),
+                unfinished,
+            );
         }
         Ok(())
     }
@@ -121,7 +126,12 @@ impl TreeDraft {
             let stored = Stored::keep(value, &mut self.pool)?;
             self.values.push_reserved(stored);
             self.here += size;
-            self.unfinished = settle(&mut self.rows, &mut self.nested, self.values.len(), unfinished);
+            self.unfinished = settle(
+                &mut self.rows,
+                &mut self.nested,
+                self.values.len(),
+                unfinished,
+            );
         }
         Ok(())
     }
@@ -162,7 +172,12 @@ impl TreeDraft {
             self.values.push_reserved(stored);
             self.here += size;
             self.partial = None;
-            self.unfinished = settle(&mut self.rows, &mut self.nested, self.values.len(), unfinished);
+            self.unfinished = settle(
+                &mut self.rows,
+                &mut self.nested,
+                self.values.len(),
+                unfinished,
+            );
         }
     }
 

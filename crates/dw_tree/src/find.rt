@@ -5,7 +5,7 @@ ghost use Rattle.dw_tree.specs.Flat.{OffsetsGrow, NoneBegins};
 ghost use Rattle.dw_tree.specs.Lent.{entries_of, find_at};
 
 use crate::entry::EntryRef;
-use crate::row::{RowKind, Row};
+use crate::row::{Row, RowKind};
 use crate::tree::EntryTree;
 
 impl EntryTree {

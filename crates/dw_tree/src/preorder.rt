@@ -6,12 +6,12 @@ ghost use Rattle.dw_tree.specs.Flat.{IsEntry, IsNull};
 ghost use Rattle.dw_tree.specs.Lent.{entries_of};
 
 use crate::entry::EntryRef;
-use crate::row::{RowKind, Row};
+use crate::row::{Row, RowKind};
 use crate::tree::EntryTree;
 use std::marker::Model;
 
 /// The entries of a tree that are left, each before those below it.
-#[derive(Drop)]
+#[derive(Debug, Drop)]
 pub struct Entries<'a> {
     tree: &'a EntryTree,
     /// The row from which on the next one is looked for.

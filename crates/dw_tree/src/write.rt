@@ -13,7 +13,7 @@ ghost use Rattle.dw_tree.specs.Flat.{contents, value_part, token_of, RowFits};
 ghost use Rattle.dw_tree.specs.DraftInvariant.{TokenFits};
 
 use crate::entry::span;
-use crate::row::{RowKind, Row};
+use crate::row::{Row, RowKind};
 use crate::tree::EntryTree;
 use dw_abbrev::{Pair, Table};
 use dw_form::{Ctx, Stored, write_value};
