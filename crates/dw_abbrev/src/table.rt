@@ -19,7 +19,7 @@ use std::io::Write;
 use std::marker::Model;
 
 /// An abbreviation table: declarations of distinct codes, and the zero that ends them.
-#[derive(Drop)]
+#[derive(Debug, Drop)]
 pub struct Table {
     decls: IndexMap<u64, Decl>,
     last_zero: Uleb,

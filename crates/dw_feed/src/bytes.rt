@@ -87,9 +87,7 @@ fn read_up_to<R: Read>(
         if got == 0 {
             return Ok(());
         }
-        if bytes.extend_from_slice(&chunk[..got]).is_err() {
-            return Err(ReadError::NoMemory);
-        }
+        bytes.extend_from_slice(&chunk[..got])?;
         left -= got as u64;
     }
     Ok(())

@@ -13,7 +13,7 @@ use crate::lend::lend_value;
 use crate::shape::Ctx;
 use crate::stored::Stored;
 use dw_leb::{Reason, Sleb};
-use std::alloc::Global;
+use std::alloc::{AllocError, Global};
 use thiserror::Error;
 
 /// Why no value was read.
@@ -25,6 +25,22 @@ pub enum ValueError {
     /// The pool could not grow by the bytes of the text or block.
     #[error("memory")]
     NoMemory,
+}
+
+impl From<Reason> for ValueError {
+    ghost from_gives = { λ reason out. out ≡ Bad reason };
+
+    fn from(reason: Reason) -> ValueError {
+        ValueError::Bad(reason)
+    }
+}
+
+impl From<AllocError> for ValueError {
+    ghost from_gives = { λ _ out. out ≡ NoMemory };
+
+    fn from(_error: AllocError) -> ValueError {
+        ValueError::NoMemory
+    }
 }
 
 /// Reads the value of form `form` at the front of `b`, where `lim` bytes are left to the unit's
@@ -68,12 +84,7 @@ pub fn read_value(
     ensures unchanged { OnErr result (pool.new.items ≡ pool.old.items) }
     ensures room { IfOk result (λ x. (x.1 ≤ length b.now) × (x.1 ≤ lim)) }
 {
-    let (value, size) = match lend_value(ctx, form, implicit, b, lim) {
-        Ok(lent) => lent,
-        Err(reason) => return Err(ValueError::Bad(reason)),
-    };
-    match Stored::keep(&value, pool) {
-        Ok(stored) => Ok((stored, size)),
-        Err(_) => Err(ValueError::NoMemory),
-    }
+    let (value, size) = lend_value(ctx, form, implicit, b, lim)?;
+    let stored = Stored::keep(&value, pool)?;
+    Ok((stored, size))
 }

@@ -8,7 +8,7 @@ use std::io::{ErrorKind, Read, Write};
 
 /// A reader or writer that passes on at most a set count of bytes a call (0 for a writer alone), and
 /// fails with a set kind at a set call.
-#[derive(Drop)]
+#[derive(Debug, Drop)]
 pub struct Stepped<T> {
     inner: T,
     step: usize,

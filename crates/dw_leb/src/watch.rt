@@ -10,7 +10,7 @@ use std::io::{ErrorKind, Read, Write};
 /// A reader or writer that is watched: it passes calls on, and keeps the kind of the first that
 /// failed. A call on it requires that it has no fault, so after a fault nothing more is read or
 /// written until its owner forgets the fault.
-#[derive(Drop)]
+#[derive(Debug, Drop)]
 pub struct Watched<T> {
     inner: T,
     first: Option<ErrorKind>,

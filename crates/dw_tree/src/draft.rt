@@ -27,7 +27,7 @@ use std::rc::Rc;
 ///
 /// What a call's `requires` asks for its caller has tested. So the calls answer only that memory was
 /// refused, and the draft holds then what it held.
-#[derive(Drop)]
+#[derive(Debug, Drop)]
 pub struct TreeDraft {
     context: Ctx,
     table: Rc<Table>,
