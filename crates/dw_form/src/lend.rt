@@ -90,6 +90,7 @@ fn number(order: Order, n: u8, b: &[u8], lim: u64) -> Result<u128, Reason>
 }
 
 /// A number of `n` bytes.
+#[inline(always)]
 fn fixed(ctx: Ctx, n: u8, b: &[u8], lim: u64) -> Result<(Value<'_>, usize), Reason>
     requires { IsFixedSize n }
     ensures exact { Lends value_of result
@@ -130,6 +131,7 @@ fn counted_uleb(b: &[u8], lim: u64) -> Result<(Value<'_>, usize), Reason>
 }
 
 /// A value of a shape; `implicit` is the constant of the declaration.
+#[inline(always)]
 fn shaped(
     ctx: Ctx,
     shape: Shape,
@@ -168,6 +170,7 @@ fn shaped(
 }
 
 /// A value of a form. The form is judged before any byte of the value.
+#[inline(always)]
 fn formed(
     ctx: Ctx,
     form: u64,
@@ -203,6 +206,7 @@ fn indirect(ctx: Ctx, b: &[u8], lim: u64) -> Result<(AttrValue<'_>, usize), Reas
 }
 
 /// A value of a form, indirect or not.
+#[inline(always)]
 fn by_form(
     ctx: Ctx,
     form: u64,
@@ -256,6 +260,7 @@ fn value_at(
 ///   (`LebTooBig`). A block's length is judged before its content.
 ///
 /// A value is one field: its fault is at its first byte, whatever part of it is refused.
+#[inline(always)]
 pub fn lend_value(
     ctx: Ctx,
     form: u64,

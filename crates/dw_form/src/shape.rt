@@ -44,6 +44,7 @@ impl Shape {
     /// The shape of a form by its number, in a unit of this address size (1 to 8) and format. None
     /// for a number that is no form of DWARF 5 and neither 0x1f20 nor 0x1f21.
     #[tactic(auto, unfolding(crate::specs::Form::shape))]
+    #[inline(always)]
     pub fn of(form: u64, address_size: u8, format: Format) -> Option<Shape>
         requires some { 1 ≤ address_size }
         requires most { address_size ≤ 8 }

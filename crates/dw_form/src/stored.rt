@@ -39,6 +39,7 @@ impl Stored {
     ///
     /// An indirect value names a form by a number of 16 bits, as every value that has a spelling
     /// does.
+    #[inline(always)]
     pub fn keep(value: &AttrValue<'_>, pool: &mut Vec<u8>) -> Result<Stored, AllocError>
         requires { NamesForm (attribute_of value.now) }
         ensures pool { IfOk result (λ _.
@@ -88,6 +89,7 @@ impl Stored {
 
     /// The value, with its bytes borrowed from the pool in which it was stored, or from one that
     /// begins with it.
+    #[inline(always)]
     pub fn lend<'a>(&self, pool: &'a [u8]) -> AttrValue<'a>
         requires { StoredFits (length pool.now) self.now }
         ensures { attribute_of result ≡ content pool.now self.now }
@@ -114,6 +116,7 @@ impl Stored {
 }
 
 /// The form that an indirect value names, as it is kept.
+#[inline(always)]
 fn named(form: Option<Uleb>) -> Option<Via>
     requires { IfSome form (λ u. u.value < 2 ^ 16) }
     ensures { option_map via_form result ≡ option_map uleb_of form }

@@ -29,6 +29,7 @@ use std::rc::Rc;
 const LEVELS: u16 = 255;
 
 /// The value of a pair at the place `at`.
+#[inline(always)]
 fn value_at<'a>(
     ctx: Ctx,
     pair: &Pair,
