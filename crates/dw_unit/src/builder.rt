@@ -21,7 +21,7 @@ use std::rc::Rc;
 
 /// A unit that is being built: its header, the entries that it has so far with the one place where
 /// the next one stands, and the nulls behind its root.
-#[derive(Drop)]
+#[derive(Debug, Drop)]
 pub struct UnitBuilder {
     draft: Draft,
 }

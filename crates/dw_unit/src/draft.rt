@@ -43,7 +43,7 @@ pub fn most_levels() -> usize
 /// What a call's `requires` asks for its caller has tested, by the draft's observers or because it
 /// knows what it did. So an error says only that memory was refused, and then the draft holds what it
 /// held. What is finished can be written.
-#[derive(Drop)]
+#[derive(Debug, Drop)]
 pub struct Draft {
     header: Header,
     tree: TreeDraft,

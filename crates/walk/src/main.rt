@@ -98,7 +98,7 @@ fn table(alloc: Global) -> Result<Rc<Table>, WalkError> {
     builder.add(root).map_err(|(refusal, _)| refusal)?;
     builder.add(base).map_err(|(refusal, _)| refusal)?;
     match builder.finish(1) {
-        Ok(table) => Ok(Rc::new(alloc, table).map_err(|_| ReadError::NoMemory)?),
+        Ok(table) => Ok(Rc::new(alloc, table).map_err(ReadError::from)?),
         Err((refusal, _builder)) => Err(WalkError::Table(refusal)),
     }
 }
