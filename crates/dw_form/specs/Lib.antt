@@ -7,3 +7,7 @@ pub mod ValueErrors
 pub mod Pieces
 pub mod NamedForms
 pub mod Fit
+pub mod Head
+pub mod HeadLent
+pub mod HeadFront
+pub mod HeadSize

@@ -62,7 +62,7 @@ fn unended_text(m: u64, lim: u64) -> Reason
 }
 
 /// An unsigned number, as the plain reader's outcome.
-fn unsigned(b: &[u8], lim: u64) -> Result<Uleb, Reason>
+pub(crate) fn unsigned(b: &[u8], lim: u64) -> Result<Uleb, Reason>
     ensures exact { read_uleb b.now lim ≡ outcome_of uleb_of (λ x. x.width) result }
     ensures room { IfOk result (λ x. (x.width ≤ length b.now) × (x.width ≤ lim)) }
 {
@@ -78,7 +78,7 @@ fn signed(b: &[u8], lim: u64) -> Result<Sleb, Reason>
 }
 
 /// A number of `n` bytes, as the plain reader's outcome.
-fn number(order: Order, n: u8, b: &[u8], lim: u64) -> Result<u128, Reason>
+pub(crate) fn number(order: Order, n: u8, b: &[u8], lim: u64) -> Result<u128, Reason>
     requires some { 1 ≤ n }
     requires most { n ≤ 16 }
     ensures exact { fixed_reader order n b.now lim ≡ outcome_of (λ x. x) (λ _. n) result }
@@ -132,7 +132,7 @@ fn counted_uleb(b: &[u8], lim: u64) -> Result<(Value<'_>, usize), Reason>
 
 /// A value of a shape; `implicit` is the constant of the declaration.
 #[inline(always)]
-fn shaped(
+pub(crate) fn shaped(
     ctx: Ctx,
     shape: Shape,
     implicit: Option<Sleb>,

@@ -16,8 +16,10 @@
 #![tactic(auto)]
 
 mod fit;
+mod head;
 pub mod laws;
 mod lend;
+mod put;
 mod read;
 mod shape;
 mod span;
@@ -27,7 +29,9 @@ mod via;
 mod write;
 
 pub use fit::fits;
+pub use head::lend_head;
 pub use lend::lend_value;
+pub use put::{front_len, put_found, put_head, value_front};
 pub use read::{ValueError, read_value};
 pub use shape::{Ctx, Shape};
 pub use stored::Stored;

@@ -1,0 +1,248 @@
+//! A value by its head: the bytes of its spelling that are no content, with what finds the content in
+//! a pool. A value without content is its spelling.
+ghost use Rattle.std.specs.Prelude.{◌≡◌, ◌≤◌, ◌<◌, ◌^◌, ◌+◌, ◌++◌, ℕ, List, length, take, drop, option_map, IfSome, IsSomeAnd, ◌==◌};
+ghost use Rattle.dw_leb.specs.declared.order.Order.TheVariants.{Little};
+ghost use Rattle.dw_leb.specs.View.{uleb_of, sleb_of};
+ghost use Rattle.dw_form.specs.Form.{Attribute, attribute, IsContext, ShapeFits, shape};
+ghost use Rattle.dw_form.specs.Pieces.{form_in};
+ghost use Rattle.dw_form.specs.StoredView.{bytes_in};
+ghost use Rattle.dw_form.specs.Lent.{value_of, attribute_of};
+ghost use Rattle.dw_form.specs.Head.{head, head_at, Lies, fixed_at, uleb_at, count_at, part_at, placed_at, spelled_at, own_constant, has_content, via_at, via_width, by_content, by_shape, by_via};
+
+use crate::lend::{number, shaped, unsigned};
+use crate::shape::{Ctx, Shape};
+use crate::value::{AttrValue, Value};
+use dw_leb::constants::form::DW_FORM_INDIRECT;
+use dw_leb::{Order, Sleb, Uleb};
+
+/// A number of `n` bytes at the front.
+fn word(order: Order, n: u8, b: &[u8]) -> Option<u64>
+    requires some { 1 ≤ n }
+    requires most { n ≤ 8 }
+    ensures exact { result ≡ fixed_at order n b.now }
+    ensures room { IfSome result (λ _. n ≤ length b.now) }
+{
+    match number(order, n, b, b.len() as u64) {
+        Ok(x) => Some(x as u64),
+        Err(_) => None,
+    }
+}
+
+/// A number in unsigned LEB128 at the front.
+fn leb(b: &[u8]) -> Option<Uleb>
+    ensures exact { option_map uleb_of result ≡ uleb_at b.now }
+    ensures room { IfSome result (λ u. u.width ≤ length b.now) }
+{
+    match unsigned(b, b.len() as u64) {
+        Ok(u) => Some(u),
+        Err(_) => None,
+    }
+}
+
+/// The length of a content, and the width in which it stands.
+#[derive(Clone, Copy)]
+struct Count {
+    value: u64,
+    width: u8,
+}
+
+/// The length of a content, at the front.
+fn counted(ctx: Ctx, shape: Shape, b: &[u8]) -> Option<Count>
+    requires { ShapeFits shape }
+    ensures exact { option_map (λ c. record { value = c.value; width = c.width }) result ≡ count_at ctx shape b.now }
+    ensures room { IfSome result (λ c. c.width ≤ length b.now) }
+{
+    match shape {
+        Shape::Counted(n) => {
+            let value = word(ctx.order, n, b)?;
+            Some(Count { value, width: n })
+        }
+        Shape::CountedUleb => {
+            let u = leb(b)?;
+            Some(Count {
+                value: u.value,
+                width: u.width,
+            })
+        }
+        Shape::Text => {
+            let value = word(Order::Little, 8, b)?;
+            Some(Count { value, width: 8 })
+        }
+        _ => None,
+    }
+}
+
+/// So many bytes of the pool from this one on.
+fn part(pool: &[u8], start: u64, n: u64) -> Option<&[u8]>
+    ensures { option_map (λ x. x.now) result ≡ part_at pool.now start n }
+{
+    let len = pool.len() as u64;
+    if len < start || len - start < n {
+        return None;
+    }
+    Some(&pool[start as usize..(start + n) as usize])
+}
+
+/// Whether the values of a shape are texts or blocks.
+fn holds(shape: Shape) -> bool
+    ensures { result ≡ has_content shape }
+{
+    matches!(shape, Shape::Counted(_) | Shape::CountedUleb | Shape::Text)
+}
+
+/// A text or block by its head.
+fn placed<'a>(ctx: Ctx, shape: Shape, b: &[u8], pool: &'a [u8]) -> Option<(Value<'a>, usize)>
+    requires { ShapeFits shape }
+    ensures exact { option_map (λ x. (value_of x.0, x.1)) result ≡ placed_at ctx shape b.now pool.now }
+    ensures room { IfSome result (λ x. x.1 ≤ length b.now) }
+{
+    let count = counted(ctx, shape, b)?;
+    let width = count.width as usize;
+    let start = word(Order::Little, 8, &b[width..])?;
+    let bytes = part(pool, start, count.value)?;
+    match shape {
+        Shape::Text => Some((Value::Text(bytes), width + 8)),
+        _ => Some((
+            Value::Block {
+                width: count.width,
+                bytes,
+            },
+            width + 8,
+        )),
+    }
+}
+
+/// The form that an indirect value names.
+fn via(form: u64, b: &[u8]) -> Option<Option<Uleb>>
+    ensures exact { option_map (option_map uleb_of) result ≡ via_at (form == 0x16) b.now }
+    ensures room { IfSome result (λ v. via_width (option_map uleb_of v) ≤ length b.now) }
+{
+    if form != DW_FORM_INDIRECT {
+        return Some(None);
+    }
+    let u = leb(b)?;
+    Some(Some(u))
+}
+
+/// A value without content, by its spelling.
+fn spelled(ctx: Ctx, shape: Shape, implicit: Option<Sleb>, b: &[u8]) -> Option<(Value<'_>, usize)>
+    requires { ShapeFits shape }
+    ensures exact { option_map (λ x. (value_of x.0, x.1)) result ≡ spelled_at ctx (option_map sleb_of implicit) shape b.now }
+    ensures room { IfSome result (λ x. x.1 ≤ length b.now) }
+{
+    match shaped(ctx, shape, implicit, b, b.len() as u64) {
+        Ok(x) => Some(x),
+        Err(_) => None,
+    }
+}
+
+/// A value of a shape, by what of its head follows the form that an indirect value names.
+fn by_shape<'a>(
+    ctx: Ctx,
+    shape: Shape,
+    implicit: Option<Sleb>,
+    b: &'a [u8],
+    pool: &'a [u8],
+) -> Option<(Value<'a>, usize)>
+    requires { ShapeFits shape }
+    ensures exact { option_map (λ x. (value_of x.0, x.1)) result ≡ by_content ctx (option_map sleb_of implicit) b.now pool.now shape (has_content shape) }
+    ensures room { IfSome result (λ x. x.1 ≤ length b.now) }
+{
+    if holds(shape) {
+        placed(ctx, shape, b, pool)
+    } else {
+        spelled(ctx, shape, implicit, b)
+    }
+}
+
+/// A value of a form.
+fn by_form<'a>(
+    ctx: Ctx,
+    form: u64,
+    implicit: Option<Sleb>,
+    b: &'a [u8],
+    pool: &'a [u8],
+) -> Option<(Value<'a>, usize)>
+    requires { IsContext ctx }
+    ensures exact { option_map (λ x. (value_of x.0, x.1)) result ≡ by_shape ctx (option_map sleb_of implicit) b.now pool.now (shape form ctx.address_size ctx.format) }
+    ensures room { IfSome result (λ x. x.1 ≤ length b.now) }
+{
+    let shape = Shape::of(form, ctx.address_size, ctx.format)?;
+    by_shape(ctx, shape, implicit, b, pool)
+}
+
+/// The same behind the form that an indirect value names.
+fn behind<'a>(
+    ctx: Ctx,
+    form: u64,
+    implicit: Option<Sleb>,
+    via: Option<Uleb>,
+    heads: &'a [u8],
+    pool: &'a [u8],
+) -> Option<(AttrValue<'a>, usize)>
+    requires context { IsContext ctx }
+    requires within { via_width (option_map uleb_of via) ≤ length heads.now }
+    ensures exact { option_map (λ x. (attribute_of x.0, x.1)) result ≡ by_via ctx form (option_map sleb_of implicit) heads.now pool.now (option_map uleb_of via) }
+    ensures room { IfSome result (λ x. x.1 ≤ length heads.now) }
+{
+    match via {
+        Some(u) => {
+            let width = u.width as usize;
+            let (value, size) = by_form(ctx, u.value, None, &heads[width..], pool)?;
+            Some((AttrValue { via, value }, width + size))
+        }
+        None => {
+            let (value, size) = by_form(ctx, form, implicit, heads, pool)?;
+            Some((AttrValue { via, value }, size))
+        }
+    }
+}
+
+#[tactic(auto, unfolding(crate::specs::Head::head_at))]
+fn by_head<'a>(
+    ctx: Ctx,
+    form: u64,
+    implicit: Option<Sleb>,
+    heads: &'a [u8],
+    pool: &'a [u8],
+) -> Option<(AttrValue<'a>, usize)>
+    requires { IsContext ctx }
+    ensures exact { option_map (λ x. (attribute_of x.0, x.1)) result ≡ head_at ctx form (option_map sleb_of implicit) heads.now pool.now }
+    ensures room { IfSome result (λ x. x.1 ≤ length heads.now) }
+{
+    let via = via(form, heads)?;
+    behind(ctx, form, implicit, via, heads, pool)
+}
+
+/// The count of bytes, which a word holds.
+fn size(b: &[u8]) -> usize
+    ensures exact { result ≡ length b.now }
+    ensures small { length b.now < 2 ^ 64 }
+{
+    b.len()
+}
+
+/// The value whose head stands at the front of `heads`, and the count of its head's bytes. A text or
+/// block is borrowed from the pool. None where no value's head stands there.
+///
+/// `form` and `implicit` are those with which the head was made, the form of the value and the constant
+/// of its declaration. Heads may follow, and the pool may have bytes before and behind the content.
+pub fn lend_head<'a>(
+    ctx: Ctx,
+    form: u64,
+    implicit: Option<Sleb>,
+    heads: &'a [u8],
+    pool: &'a [u8],
+) -> Option<(AttrValue<'a>, usize)>
+    requires { IsContext ctx }
+    ensures exact { option_map (λ x. (attribute_of x.0, x.1)) result ≡ head_at ctx form (option_map sleb_of implicit) heads.now pool.now }
+    ensures put { (a : Attribute) (start : ℕ) (rest : List ℕ) →
+        (attribute ctx form (option_map sleb_of implicit)).Fits a →
+        Lies pool.now start (bytes_in a) →
+        heads.now ≡ head ctx form start a ++ rest →
+        IsSomeAnd result (λ x. (attribute_of x.0 ≡ a) × (x.1 ≡ length (head ctx form start a))) }
+    ensures room { IfSome result (λ x. x.1 ≤ length heads.now) }
+{
+    let _bounded = size(pool);
+    by_head(ctx, form, implicit, heads, pool)
+}
