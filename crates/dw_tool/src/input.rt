@@ -1,6 +1,6 @@
 //! The input of a run, read whole.
 ghost use Rattle.std.specs.Prelude.{◌≡◌, None, vec_items};
-ghost use Rattle.dw_leb.specs.Watch.{inner_of, fault_of, reader_fault, TookBytes};
+ghost use Rattle.dw_leb.specs.Watch.{inner_of, fault_of, reader_fault, KeptSome};
 ghost use Rattle.dw_tool.specs.Input.{ReadsAll};
 
 use dw_leb::{ReadError, Watched};
@@ -20,7 +20,7 @@ pub(crate) fn read_all<R: Read>(
         (R.remaining (inner_of reader.old))
         (R.remaining (inner_of reader.new))
         result }
-    ensures memory { TookBytes (R.remaining (inner_of reader.old)) (R.remaining (inner_of reader.new)) result }
+    ensures memory { KeptSome (R.remaining (inner_of reader.old)) (R.remaining (inner_of reader.new)) result }
     ensures fault { fault_of reader.new ≡ reader_fault result }
 {
     let mut bytes = Vec::new(alloc);
