@@ -1,13 +1,13 @@
 #!/usr/bin/env python3
-"""Measures `dwarf copy` over large units that compilers write.
+"""Measures `dwarf copy` and `dwarf show` over large units that compilers write.
 
 Usage: scripts/measure.py PROGRAM [COUNT]
 
 PROGRAM is the built `dwarf` (crates/dwarf/out/dwarf). A C program of COUNT structures and as many functions
-(12,000 by default) is written, compiled as one unit by each compiler that is there, and copied. Printed are
-the size of the section, the time, the peak memory of the process, and that peak by the section's bytes. The
-status is 1 where a copy differs from the section or takes more than 24 bytes a byte, or no compiler is there,
-else 0.
+(12,000 by default) is written, compiled as one unit by each compiler that is there, copied and shown. Printed
+are the size of the section, and of each run the time, the peak memory of the process, and that peak by the
+section's bytes. The status is 1 where a copy differs from the section, a run fails or takes more than 24 bytes a
+byte, or no compiler is there, else 0.
 """
 
 import os
@@ -38,17 +38,22 @@ def source(count):
     return "\n".join(lines) + "\n"
 
 
-def copied(program, room):
-    """The seconds and the peak memory in bytes that a copy takes, and whether it has the section's bytes."""
-    words = [program, "copy", "--info", f"{room}/debug_info", "--abbrev", f"{room}/debug_abbrev"]
+def ran(program, command, room):
+    """The seconds and the peak memory in bytes that a run takes, and whether all went well."""
+    words = [program, command, "--info", f"{room}/debug_info", "--abbrev", f"{room}/debug_abbrev"]
     # (a process that Python starts begins with Python's own peak, so another counts)
     counted = ["time", "-f", "%e %M", "-o", f"{room}/counted"]
-    with open(f"{room}/copy", "wb") as out:
-        ran = subprocess.run([*counted, *words], stdout=out)
+    with open(f"{room}/written", "wb") as out:
+        status = subprocess.run([*counted, *words], stdout=out).returncode
     with open(f"{room}/counted") as it:
         seconds, kilobytes = it.read().split()[-2:]
-    with open(f"{room}/debug_info", "rb") as section, open(f"{room}/copy", "rb") as copy:
-        return float(seconds), int(kilobytes) * 1024, ran.returncode == 0 and section.read() == copy.read()
+    return float(seconds), int(kilobytes) * 1024, status == 0 and is_right(command, room)
+
+
+def is_right(command, room):
+    """Whether a copy has the section's bytes, and a text is a unit's."""
+    with open(f"{room}/debug_info", "rb") as section, open(f"{room}/written", "rb") as written:
+        return section.read() == written.read() if command == "copy" else written.read(5) == b"unit "
 
 
 def main(program, count=12000):
@@ -62,10 +67,12 @@ def main(program, count=12000):
             subprocess.run(words, check=True)
             subprocess.run(["sh", SECTIONS, f"{room}/large", room], check=True)
             size = os.path.getsize(f"{room}/debug_info")
-            seconds, peak, is_same = copied(program, room)
-        answer = "the same bytes" if is_same else "OTHER BYTES"
-        print(f"{' '.join(compiler)}: {size} bytes, {seconds:.2f} s, peak {peak} bytes, {peak / size:.1f} a byte, {answer}")
-        worst = max(worst, 0 if is_same and peak <= LIMIT * size else 1)
+            runs = {command: ran(program, command, room) for command in ("copy", "show")}
+        print(f"{' '.join(compiler)}: {size} bytes")
+        for command, (seconds, peak, is_well) in runs.items():
+            answer = "well" if is_well else "NOT WELL"
+            print(f"  {command}: {seconds:.2f} s, peak {peak} bytes, {peak / size:.1f} a byte, {answer}")
+            worst = max(worst, 0 if is_well and peak <= LIMIT * size else 1)
     return worst
 
 

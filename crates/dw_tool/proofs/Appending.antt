@@ -1,79 +1,119 @@
--- Appends, one after the other, and the last digit of a number.
-use Rattle.std.proofs.Common.{◌≡◌, ◌∙◌, ℕ, zero, suc, ◌+◌, ◌/◌, ◌%◌, ◌^◌, ◌<◌, ◌≤◌, Bool, false, List, [], ◌∷◌, ◌++◌, length, take, drop, get_or, Result, Ok, Err, is_ok, inl, inr, refl, sym, subst, ap, append_assoc, arith}
+-- Texts that are appended to an output, one after the other.
+use Rattle.std.proofs.Common.{◌≡◌, ◌∙◌, ℕ, zero, suc, ◌+◌, ◌-◌, ◌*◌, ◌/◌, ◌%◌, ◌^◌, ◌<◌, ◌≤◌, Bool, false, List, [], ◌∷◌, ◌++◌, length, take, drop, get_or, Option, Result, Ok, Err, inl, inr, refl, sym, subst, ap, append_assoc, append-nil, arith}
 use Rattle.std.proofs.Math.Seq.{take-suc}
-use Rattle.std.specs.Prelude.{cond}
+use Rattle.std.specs.Prelude.{IsErrAnd, cond}
 use Rattle.std.specs.Fmt.{digits, digits_onto, digit_glyph}
+use Rattle.std.specs.Io.KnownBytes.{Appends}
 use Rattle.std.proofs.lemmas.Bool.{cases_lt}
+use Rattle.std.proofs.lemmas.List.{drop-set, length-set}
+use Rattle.std.proofs.Math.ListN.{set}
+use native.Mathlib.Numerals.{unary_clauses}
 use borrow.Author.Tests.{eq-eqb, ne_eqb}
-use Rattle.dw_tool.specs.Text.{Appends, IsBegun, each}
+use Rattle.dw_leb.specs.declared.errors.WriteError.{WriteError}
+use Rattle.dw_leb.specs.declared.watch.Watched.{Watched}
+use Rattle.dw_leb.specs.Watch.{AppendsFront, Wrote, inner_of, writer_fault}
+use Rattle.dw_leb.specs.Transfers.{appends_more, front_behind, front_of_both}
+use Rattle.dw_tool.specs.declared.output.Output.{Output}
+use Rattle.dw_tool.specs.Output.{Passes, Puts, buffered, writer_of}
+use Rattle.dw_tool.specs.Text.{each}
+
+-- what is written of two texts
+both : (w1 w2 x y z a b : List ℕ) → w1 ++ y ≡ x ++ a → w2 ++ z ≡ y ++ b → (w1 ++ w2) ++ z ≡ x ++ (a ++ b)
+both w1 w2 x y z a b h k =
+    append_assoc w1 w2 z ∙ ap (λ (t : List ℕ). w1 ++ t) k ∙ sym (append_assoc w1 y b) ∙ ap (λ (t : List ℕ). t ++ b) h ∙ append_assoc x a b
+
+passes_after : {X : Type 0} (r : Result X WriteError) (old mid new : Option (List ℕ)) (x y z a b w : List ℕ) → Appends old mid w → w ++ y ≡ x ++ a → Passes mid new y z b r → Passes old new x z (a ++ b) r
+passes_after (Ok v) old mid new x y z a b w h e k = (w ++ k.0, appends_more old mid new w k.0 h k.1, both w k.0 x y z a b e k.2)
+passes_after (Err v) old mid new x y z a b w h e k =
+    subst (λ (t : List ℕ). AppendsFront old new t) (sym (append_assoc w y b) ∙ ap (λ (t : List ℕ). t ++ b) e ∙ append_assoc x a b) (front_behind old mid new w (y ++ b) h k)
 
 -- a text after one that stands whole
-pub begun_after : (old mid a b new : List ℕ) → mid ≡ old ++ a → IsBegun mid b new → IsBegun old (a ++ b) new
-begun_after old mid a b new whole h = record {
-  front = a ++ h.front;
-  rest = h.rest;
-  is_text = ap (λ (x : List ℕ). a ++ x) h.is_text ∙ sym (append_assoc a h.front h.rest);
-  is_new = h.is_new ∙ ap (λ (x : List ℕ). x ++ h.front) whole ∙ append_assoc old a h.front;
+pub puts_after : {W X Y : Type 0} {v : Y} (contents : W → Option (List ℕ)) (r : Result X WriteError) (old mid : Output W) (a b : List ℕ) (new : Output W)
+    → Puts contents old mid a (Ok v) → Puts contents mid new b r → Puts contents old new (a ++ b) r
+puts_after contents r old mid a b new h k = record {
+  passes = passes_after r _ _ _ _ _ _ a b h.passes.0 h.passes.1 h.passes.2 k.passes;
+  fault = k.fault;
+  same = k.same ∙ h.same;
 }
-
--- a text that more should follow
-pub begun_before : (old a b new : List ℕ) → IsBegun old a new → IsBegun old (a ++ b) new
-begun_before old a b new h = record {
-  front = h.front;
-  rest = h.rest ++ b;
-  is_text = ap (λ (x : List ℕ). x ++ b) h.is_text ∙ append_assoc h.front h.rest b;
-  is_new = h.is_new;
-}
-
-pub appends_after : {T E : Type 0} (r : Result T E) (old mid a b new : List ℕ) → mid ≡ old ++ a → Appends r mid b new → Appends r old (a ++ b) new
-appends_after (Ok x) old mid a b new whole h = h ∙ ap (λ (x : List ℕ). x ++ b) whole ∙ append_assoc old a b
-appends_after (Err e) old mid a b new whole h = begun_after old mid a b new whole h
 
 -- a text that stopped early
-pub appends_stopped : {T E : Type 0} (r : Result T E) (old a b new : List ℕ) → is_ok r ≡ false → IsBegun old a new → Appends r old (a ++ b) new
-appends_stopped (Ok x) old a b new err h = cc
-appends_stopped (Err e) old a b new err h = begun_before old a b new h
+pub puts_stopped : {W X Y : Type 0} {e : WriteError} (contents : W → Option (List ℕ)) (r : Result X WriteError) (old : Output W) (a b : List ℕ) (new : Output W)
+    → IsErrAnd r (λ f. f ≡ e) → Puts {X = Y} contents old new a (Err e) → Puts contents old new (a ++ b) r
+puts_stopped contents (Ok x) old a b new is h = absurd is
+puts_stopped {X = X} {e = e} contents (Err f) old a b new is h =
+    let before : Option (List ℕ) = contents (inner_of (writer_of old)) in
+    let after : Option (List ℕ) = contents (inner_of (writer_of new)) in
+    record {
+      passes = subst (λ (t : List ℕ). AppendsFront before after t) (append_assoc (buffered old) a b) (front_of_both before after (buffered old ++ a) b h.passes);
+      fault = h.fault ∙ ap (λ (k : WriteError). writer_fault {X = X} (Err k)) (sym is);
+      same = h.same;
+    }
 
 -- a text that stopped early, after one that stands whole
-pub stopped_after : {T E : Type 0} (r : Result T E) (old mid a b c new : List ℕ) → is_ok r ≡ false → mid ≡ old ++ a → IsBegun mid b new → Appends r old (a ++ (b ++ c)) new
-stopped_after (Ok x) old mid a b c new err whole h = cc
-stopped_after (Err e) old mid a b c new err whole h = begun_after old mid a (b ++ c) new whole (begun_before mid b c new h)
+pub stopped_after : {W X Y Z : Type 0} {v : Y} {e : WriteError} (contents : W → Option (List ℕ)) (r : Result X WriteError) (old mid : Output W) (a b c : List ℕ) (new : Output W)
+    → IsErrAnd r (λ f. f ≡ e) → Puts contents old mid a (Ok v) → Puts {X = Z} contents mid new b (Err e) → Puts contents old new (a ++ (b ++ c)) r
+stopped_after contents r old mid a b c new is h k = puts_after contents r old mid a (b ++ c) new h (puts_stopped contents r mid b c new is k)
+
+-- ---- one piece
+
+-- the buffer is written, and then the piece
+pub passes_flushed : {X : Type 0} (r : Result X WriteError) (old mid new : Option (List ℕ)) (x a z : List ℕ) → Appends old mid x → z ≡ [] → Wrote mid new a r → Passes old new x z a r
+passes_flushed (Ok v) old mid new x a z h empty k = (x ++ a, appends_more old mid new x a h k, ap (λ (t : List ℕ). (x ++ a) ++ t) empty ∙ append-nil (x ++ a))
+passes_flushed (Err v) old mid new x a z h empty k = front_behind old mid new x a h k
+
+-- ---- an output whose buffer is empty at first
+
+written_whole : {X : Type 0} (r : Result X WriteError) (old mid new : Option (List ℕ)) (y text w : List ℕ) → Appends old mid w → w ++ y ≡ text → Wrote mid new y r → Wrote old new text r
+written_whole (Ok v) old mid new y text w h e k = subst (λ (t : List ℕ). Appends old new t) e (appends_more old mid new w y h k)
+written_whole (Err v) old mid new y text w h e k = subst (λ (t : List ℕ). AppendsFront old new t) e (front_behind old mid new w y h k)
+
+-- a text is put whole, and then the buffer is written
+pub wrote_flushed : {W X Y : Type 0} {v : Y} (contents : W → Option (List ℕ)) (r : Result X WriteError) (w : Watched W) (old mid : Output W) (text : List ℕ) (new : Option (List ℕ))
+    → writer_of old ≡ w → buffered old ≡ [] → Puts contents old mid text (Ok v) → Wrote (contents (inner_of (writer_of mid))) new (buffered mid) r → Wrote (contents (inner_of w)) new text r
+wrote_flushed contents r w old mid text new same empty h k =
+    let whole : h.passes.0 ++ buffered mid ≡ text = h.passes.2 ∙ ap (λ (t : List ℕ). t ++ text) empty in
+    subst (λ (v : Watched _). Wrote (contents (inner_of v)) new text r) same (written_whole r _ _ new (buffered mid) text h.passes.0 h.passes.1 whole k)
+
+-- a text stops early
+pub wrote_stopped : {W X Y : Type 0} {e : WriteError} (contents : W → Option (List ℕ)) (r : Result X WriteError) (w : Watched W) (old new : Output W) (text : List ℕ)
+    → writer_of old ≡ w → buffered old ≡ [] → IsErrAnd r (λ f. f ≡ e) → Puts {X = Y} contents old new text (Err e) → Wrote (contents (inner_of w)) (contents (inner_of (writer_of new))) text r
+wrote_stopped contents (Ok x) w old new text same empty is h = absurd is
+wrote_stopped contents (Err f) w old new text same empty is h =
+    let after : Option (List ℕ) = contents (inner_of (writer_of new)) in
+    subst (λ (v : Watched _). AppendsFront (contents (inner_of v)) after text) same
+    (subst (λ (t : List ℕ). AppendsFront (contents (inner_of (writer_of old))) after (t ++ text)) empty h.passes)
 
 -- ---- a text for each element
 
-pub each-append : (f : ℕ → List ℕ) (xs ys : List ℕ) → each f (xs ++ ys) ≡ each f xs ++ each f ys
+each-append : (f : ℕ → List ℕ) (xs ys : List ℕ) → each f (xs ++ ys) ≡ each f xs ++ each f ys
 each-append f [] ys = refl
 each-append f (x ∷ xs) ys = ap (λ (t : List ℕ). f x ++ t) (each-append f xs ys) ∙ sym (append_assoc (f x) (each f xs) (each f ys))
 
-append-nil : (xs : List ℕ) → xs ++ [] ≡ xs
-append-nil [] = refl
-append-nil (x ∷ xs) = ap (λ (t : List ℕ). x ∷ t) (append-nil xs)
-
 -- one element more
-pub each_more : (f : ℕ → List ℕ) (xs : List ℕ) (i : ℕ) → i < length xs → each f (take (suc i) xs) ≡ each f (take i xs) ++ f (get_or xs i 0)
+each_more : (f : ℕ → List ℕ) (xs : List ℕ) (i : ℕ) → i < length xs → each f (take (suc i) xs) ≡ each f (take i xs) ++ f (get_or xs i 0)
 each_more f xs i lt =
     ap (each f) (take-suc xs i 0 lt) ∙ each-append f (take i xs) (get_or xs i 0 ∷ []) ∙ ap (λ (t : List ℕ). each f (take i xs) ++ t) (append-nil (f (get_or xs i 0)))
 
 -- the elements before, the element, and those after it
-pub each_split : (f : ℕ → List ℕ) (xs : List ℕ) (i : ℕ) → i < length xs → each f xs ≡ each f (take i xs) ++ (f (get_or xs i 0) ++ each f (drop (suc i) xs))
+each_split : (f : ℕ → List ℕ) (xs : List ℕ) (i : ℕ) → i < length xs → each f xs ≡ each f (take i xs) ++ (f (get_or xs i 0) ++ each f (drop (suc i) xs))
 each_split f [] i lt = absurd (omega arith)
 each_split f (x ∷ xs) zero lt = refl
 each_split f (x ∷ xs) (suc i) lt =
     ap (λ (t : List ℕ). f x ++ t) (each_split f xs i (omega arith)) ∙ sym (append_assoc (f x) (each f (take i xs)) (f (get_or xs i 0) ++ each f (drop (suc i) xs)))
 
 -- a list in which the text of one element is only begun
-pub each_stopped : {T E : Type 0} (r : Result T E) (f : ℕ → List ℕ) (xs : List ℕ) (i : ℕ) (old mid new : List ℕ) → is_ok r ≡ false → i < length xs → mid ≡ old ++ each f (take i xs)
-    → IsBegun mid (f (get_or xs i 0)) new → Appends r old (each f xs) new
-each_stopped r f xs i old mid new err lt before h =
-    subst (λ (t : List ℕ). Appends r old t new) (sym (each_split f xs i lt))
-    (stopped_after r old mid (each f (take i xs)) (f (get_or xs i 0)) (each f (drop (suc i) xs)) new err before h)
+pub each_stopped : {W X Y Z : Type 0} {v : Y} {e : WriteError} (contents : W → Option (List ℕ)) (r : Result X WriteError) (f : ℕ → List ℕ) (xs : List ℕ) (i : ℕ) (old mid new : Output W)
+    → IsErrAnd r (λ g. g ≡ e) → i < length xs → Puts contents old mid (each f (take i xs)) (Ok v) → Puts {X = Z} contents mid new (f (get_or xs i 0)) (Err e) → Puts contents old new (each f xs) r
+each_stopped contents r f xs i old mid new is lt before h =
+    subst (λ (t : List ℕ). Puts contents old new t r) (sym (each_split f xs i lt))
+    (stopped_after contents r old mid (each f (take i xs)) (f (get_or xs i 0)) (each f (drop (suc i) xs)) new is before h)
 
-pub each_whole : (f : ℕ → List ℕ) (xs : List ℕ) (i : ℕ) (old mid new : List ℕ) → i < length xs → mid ≡ old ++ each f (take i xs)
-    → new ≡ mid ++ f (get_or xs i 0) → new ≡ old ++ each f (take (i + 1) xs)
-each_whole f xs i old mid new lt before e =
-    let one : i + 1 ≡ suc i = omega arith in
-    e ∙ ap (λ (t : List ℕ). t ++ f (get_or xs i 0)) before ∙ append_assoc old (each f (take i xs)) (f (get_or xs i 0))
-    ∙ ap (λ (t : List ℕ). old ++ t) (sym (each_more f xs i lt)) ∙ ap (λ (k : ℕ). old ++ each f (take k xs)) (sym one)
+pub each_whole : {W X Y : Type 0} {v : Y} {u : X} (contents : W → Option (List ℕ)) (f : ℕ → List ℕ) (xs : List ℕ) (i : ℕ) (old mid new : Output W)
+    → i < length xs → Puts contents old mid (each f (take i xs)) (Ok v) → Puts contents mid new (f (get_or xs i 0)) (Ok u) → Puts contents old new (each f (take (i + 1) xs)) (Ok u)
+each_whole {u = u} contents f xs i old mid new lt before h =
+    let one : suc i ≡ i + 1 = omega arith in
+    subst (λ (t : List ℕ). Puts contents old new t (Ok u)) (sym (each_more f xs i lt) ∙ ap (λ (k : ℕ). each f (take k xs)) one)
+    (puts_after contents (Ok u) old mid (each f (take i xs)) (f (get_or xs i 0)) new before h)
 
 -- ---- hexadecimal digits
 
@@ -117,15 +157,50 @@ hexadecimal_more n h small =
 pub hexadecimal_one : (n : ℕ) → n < 16 → digits 16 false n ≡ digit_glyph false (n % 16) ∷ []
 hexadecimal_one n h = sym (digits_onto-nil n) ∙ spell_last 63 n [] h
 
+room : (k left : ℕ) → 16 ≤ left → left < 16 ^ suc k → (1 ≤ k) × (left / 16 < 16 ^ k)
+room zero left more small = absurd (omega (arith, more, small))
+room (suc k) left more small =
+    let m : ℕ = 16 ^ suc k in
+    let e : 16 ^ suc (suc k) ≡ m * 16 = simp unary_clauses refl in
+    (omega arith, omega (arith, small, e))
+
+-- where a digit is put, there is room for those that are left
+pub hexadecimal_room : (at left : ℕ) → 2 ≤ at → 16 ≤ left → left < 16 ^ (at - 1) → (3 ≤ at) × (left / 16 < 16 ^ (at - 1 - 1))
+hexadecimal_room at left two more small =
+    let k : ℕ = at - 2 in
+    let e1 : at - 1 ≡ suc k = omega (arith, two) in
+    let e2 : k ≡ at - 1 - 1 = omega (arith, two) in
+    let r = room k left more (subst (λ (x : ℕ). left < 16 ^ x) e1 small) in
+    (omega (arith, r.0), subst (λ (x : ℕ). left / 16 < 16 ^ x) e2 r.1)
+
+-- the last digit, and the mark before it
+pub hexadecimal_put : (text : List ℕ) (at digit : ℕ) → 2 ≤ at → at < length text → drop (at - 2) (set (set (set text at digit) (at - 1) 120) (at - 2) 48) ≡ 48 ∷ 120 ∷ digit ∷ drop (at + 1) text
+hexadecimal_put text at digit two short =
+    let one : List ℕ = set text at digit in
+    let e1 : at - 2 + 1 ≡ at - 1 = omega (arith, two) in
+    let e2 : at - 1 + 1 ≡ at = omega (arith, two) in
+    let n1 : length one ≡ length text = length-set text at digit in
+    let n2 : length (set one (at - 1) 120) ≡ length one = length-set one (at - 1) 120 in
+    rw (drop-set (set one (at - 1) 120) (at - 2) 48 (omega (arith, two, short, n1, n2)), e1, drop-set one (at - 1) 120 (omega (arith, two, short, n1)), e2, drop-set text at digit short) refl
+
 -- ---- a text of which a part is to come
 
--- what stands after `old` is the text without the rest
-pub record Reaches (old new rest text : List ℕ) : Type 0 where
+-- what was put is the text without the rest
+pub record Reaches {W : Type 0} (contents : W → Option (List ℕ)) (old new : Output W) (rest text : List ℕ) : Type 0 where
   pub front : List ℕ
   pub is_text : text ≡ front ++ rest
-  pub is_new : new ≡ old ++ front
+  pub puts : Puts {X = Unit {0}} contents old new front (Ok tt)
+
+-- one piece more
+pub reaches_more : {W : Type 0} {u : Unit {0}} (contents : W → Option (List ℕ)) (old mid new : Output W) (a rest text : List ℕ) → Reaches contents old mid (a ++ rest) text → Puts contents mid new a (Ok u) → Reaches contents old new rest text
+reaches_more contents old mid new a rest text h k = record {
+  front = h.front ++ a;
+  is_text = h.is_text ∙ sym (append_assoc h.front a rest);
+  puts = puts_after contents (Ok tt) old mid h.front a new h.puts k;
+}
 
 -- the next piece is only begun
-pub reaches_stopped : {T E : Type 0} (r : Result T E) (old mid new a rest text : List ℕ) → is_ok r ≡ false → Reaches old mid (a ++ rest) text → IsBegun mid a new → Appends r old text new
-reaches_stopped r old mid new a rest text err h b =
-    subst (λ (t : List ℕ). Appends r old t new) (sym h.is_text) (stopped_after r old mid h.front a rest new err h.is_new b)
+pub reaches_stopped : {W X Y : Type 0} {e : WriteError} (contents : W → Option (List ℕ)) (r : Result X WriteError) (old mid new : Output W) (a rest text : List ℕ)
+    → IsErrAnd r (λ f. f ≡ e) → Reaches contents old mid (a ++ rest) text → Puts {X = Y} contents mid new a (Err e) → Puts contents old new text r
+reaches_stopped contents r old mid new a rest text is h k =
+    subst (λ (t : List ℕ). Puts contents old new t r) (sym h.is_text) (stopped_after contents r old mid h.front a rest new is h.puts k)

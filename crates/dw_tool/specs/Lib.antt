@@ -5,3 +5,4 @@ pub mod Status
 pub mod Failure
 pub mod Run
 pub mod Input
+pub mod Output

@@ -52,15 +52,6 @@ output command bytes None = []
 output Show bytes (Some u) = unit_text u
 output Copy bytes (Some u) = bytes
 
--- what a call that writes these bytes wrote
-abbrev pub Writes : {X : Type 0} → Option (List ℕ) → Option (List ℕ) → List ℕ → Result X ToolError → Type 0
-Writes old new bytes (Ok x) = Appends old new bytes
-Writes old new bytes (Err (tool.Write kind)) = AppendsFront old new bytes
-Writes old new bytes (Err tool.Memory) = Keeps old new
-Writes old new bytes (Err (tool.Fault f)) = ⊥
-Writes old new bytes (Err (tool.Refused r)) = ⊥
-Writes old new bytes (Err (tool.Read kind)) = ⊥
-
 -- ---- a run
 
 -- all that the reader had was read, and these bytes are that

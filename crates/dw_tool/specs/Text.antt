@@ -1,5 +1,5 @@
 -- The texts of numbers, names and bytes.
-use Rattle.std.specs.Prelude.{◌≡◌, ℕ, ◌/◌, ◌%◌, ◌==◌, ◌||◌, ◌&&◌, nat_le, Bool, false, List, [], ◌∷◌, ◌++◌, length, unwrap_or, Result, MatchResult, codes, decimal, if◌then◌else◌}
+use Rattle.std.specs.Prelude.{ℕ, ◌/◌, ◌%◌, ◌==◌, ◌||◌, ◌&&◌, nat_le, Bool, false, List, [], ◌∷◌, ◌++◌, length, unwrap_or, codes, decimal, if◌then◌else◌}
 use Rattle.std.specs.Fmt.{digits, digit_glyph}
 use Rattle.dw_tool.specs.Names.{attribute_names, name_in, tag_names}
 
@@ -45,16 +45,3 @@ spaced_digits bytes = if length bytes == 0 then [] else codes " " ++ each two_di
 -- how many bytes there are, and then their digits
 abbrev pub block : List ℕ → List ℕ
 block bytes = codes "[" ++ (decimal (length bytes) ++ (codes "]" ++ spaced_digits bytes))
-
--- ---- what an append leaves
-
--- `new` is `old` and a beginning of the text
-pub record IsBegun (old text new : List ℕ) : Type 0 where
-  pub front : List ℕ
-  pub rest : List ℕ
-  pub is_text : text ≡ front ++ rest
-  pub is_new : new ≡ old ++ front
-
--- the whole text stands after what stood there, or at an error a beginning of it
-abbrev pub Appends : {T E : Type 0} → Result T E → List ℕ → List ℕ → List ℕ → Type 0
-Appends result old text new = MatchResult result (λ _. new ≡ old ++ text) (λ _. IsBegun old text new)

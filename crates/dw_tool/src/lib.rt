@@ -5,6 +5,7 @@ pub mod command;
 pub mod failure;
 mod input;
 pub mod names;
+pub mod output;
 pub mod run;
 pub mod show;
 pub mod status;

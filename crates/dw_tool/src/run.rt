@@ -1,18 +1,18 @@
 //! What the program does with the sections.
-ghost use Rattle.std.specs.Prelude.{◌≡◌, None, Some, IfOk, IfErr, IsErrOf, IsSome};
-ghost use Rattle.dw_leb.specs.Watch.{inner_of, fault_of};
+ghost use Rattle.std.specs.Prelude.{◌≡◌, None, Some, IfOk, IfErr};
+ghost use Rattle.dw_leb.specs.Watch.{inner_of, fault_of, writer_fault, Wrote};
 ghost use Rattle.dw_unit.specs.Unit.{bytes_of};
-ghost use Rattle.dw_tool.specs.Run.{IsSection, TookBytes, Runs, IsRunError, Writes, output, section_bytes};
+ghost use Rattle.dw_tool.specs.Run.{IsSection, TookBytes, Runs, IsRunError, output, section_bytes};
 ghost use Rattle.dw_tool.specs.Show.{unit_text};
 ghost use Rattle.dw_tool.specs.Status.{run_reader_fault, run_writer_fault};
-ghost use Rattle.dw_tool.specs.declared.status.ToolError.TheVariants as tool;
 
 use crate::command::Command;
 use crate::input::read_all;
+use crate::output::Output;
 use crate::show::push_unit;
 use crate::status::{Status, ToolError};
 use dw_abbrev::Tables;
-use dw_leb::{Fault, Order, Reason, SectionId, Watched, write_all};
+use dw_leb::{Fault, Order, Reason, SectionId, Watched, WriteError};
 use dw_unit::{Unit, read_unit, write_unit};
 use std::alloc::Global;
 use std::io::{Read, Write};
@@ -33,8 +33,8 @@ pub struct Inputs<'a, R> {
 /// section was read, and nothing at all where it is refused.
 ///
 /// Errors: `Fault` with the first fault, `Read` and `Write` where the reader or the writer failed,
-/// `Memory` where a growth was refused. A run over an empty section needs no growth. After `Write`
-/// a prefix of the output was written.
+/// `Memory` where a growth was refused. A run over an empty section needs no growth, and none is due
+/// once writing has begun. After `Write` a prefix of the output was written.
 pub fn run<R: Read, W: Write>(
     alloc: Global,
     command: Command,
@@ -63,7 +63,7 @@ pub fn run<R: Read, W: Write>(
     } = inputs;
     let bytes = read_all(alloc, info)?;
     let section = read_section(alloc, order, abbrev, bytes.as_slice())?;
-    write_section(alloc, command, &section, writer)?;
+    write_section(command, &section, writer)?;
     Ok(Status::Good)
 }
 
@@ -97,44 +97,41 @@ pub fn read_section(
 
 /// Writes what the command makes of what is in a section.
 fn write_section<W: Write>(
-    alloc: Global,
     command: Command,
     section: &Option<Unit>,
     writer: &mut Watched<W>,
-) -> Result<(), ToolError>
+) -> Result<(), WriteError>
     requires { fault_of writer.old ≡ None }
-    ensures written { Writes (W.contents (inner_of writer.old)) (W.contents (inner_of writer.new)) (output command (section_bytes section.now) section.now) result }
-    ensures memory { IsErrOf result tool.Memory → IsSome section.now }
-    ensures fault { fault_of writer.new ≡ run_writer_fault result }
+    ensures written { Wrote (W.contents (inner_of writer.old)) (W.contents (inner_of writer.new)) (output command (section_bytes section.now) section.now) result }
+    ensures fault { fault_of writer.new ≡ writer_fault result }
 {
     match section {
-        Some(unit) => write_one(alloc, command, unit, writer),
+        Some(unit) => write_one(command, unit, writer),
         None => Ok(()),
     }
 }
 
 fn write_one<W: Write>(
-    alloc: Global,
     command: Command,
     unit: &Unit,
     writer: &mut Watched<W>,
-) -> Result<(), ToolError>
+) -> Result<(), WriteError>
     requires { fault_of writer.old ≡ None }
-    ensures written { Writes (W.contents (inner_of writer.old)) (W.contents (inner_of writer.new)) (output command (bytes_of unit.now) (Some unit.now)) result }
-    ensures fault { fault_of writer.new ≡ run_writer_fault result }
+    ensures written { Wrote (W.contents (inner_of writer.old)) (W.contents (inner_of writer.new)) (output command (bytes_of unit.now) (Some unit.now)) result }
+    ensures fault { fault_of writer.new ≡ writer_fault result }
 {
     match command {
-        Command::Show => show(alloc, unit, writer),
-        Command::Copy => Ok(write_unit(unit, writer)?),
+        Command::Show => show(unit, writer),
+        Command::Copy => write_unit(unit, writer),
     }
 }
 
-fn show<W: Write>(alloc: Global, unit: &Unit, writer: &mut Watched<W>) -> Result<(), ToolError>
+fn show<W: Write>(unit: &Unit, writer: &mut Watched<W>) -> Result<(), WriteError>
     requires { fault_of writer.old ≡ None }
-    ensures written { Writes (W.contents (inner_of writer.old)) (W.contents (inner_of writer.new)) (unit_text unit.now) result }
-    ensures fault { fault_of writer.new ≡ run_writer_fault result }
+    ensures written { Wrote (W.contents (inner_of writer.old)) (W.contents (inner_of writer.new)) (unit_text unit.now) result }
+    ensures fault { fault_of writer.new ≡ writer_fault result }
 {
-    let mut text = Vec::new(alloc);
-    push_unit(&mut text, unit)?;
-    Ok(write_all(writer, text.as_slice())?)
+    let mut out = Output::new(writer);
+    push_unit(&mut out, unit)?;
+    out.flush()
 }

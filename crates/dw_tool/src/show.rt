@@ -1,30 +1,36 @@
-//! The text of a unit: a line for its header, one for each entry, and one for each attribute.
+//! The text of a unit: a line for its header, one for each entry, and one for each attribute. Each call
+//! answers the writer's fault where it fails, as `Output::append` does.
 ghost use Rattle.std.specs.Prelude.{◌≡◌, ◌++◌, codes, decimal};
 ghost use Rattle.dw_form.specs.Lent.{attribute_of, value_of};
 ghost use Rattle.dw_tree.specs.Lent.{attr_of};
 ghost use Rattle.dw_tool.specs.Show.{added_text, attribute_line, attribute_lines, entries_text, entry_line, entry_text, format_text, header_line, header_sizes, kind_text, labelled, labelled_decimal, unit_text, value_text};
-ghost use Rattle.dw_tool.specs.Text.{Appends};
+ghost use Rattle.dw_tool.specs.Output.{Puts, IsClear};
 
+use crate::output::Output;
 use crate::text::{
-    append, push_attribute, push_block, push_decimal, push_hexadecimal, push_quoted, push_signed,
-    push_tag,
+    push_attribute, push_block, push_decimal, push_hexadecimal, push_quoted, push_signed, push_tag,
 };
 use dw_form::Value;
-use dw_leb::Format;
+use dw_leb::{Format, WriteError};
 use dw_unit::{AttrRef, Attrs, Entries, EntryRef, Header, Kind, Unit};
-use std::alloc::AllocError;
+use std::io::Write;
 
 /// Appends the text of a unit that begins its section: the line of its header, and its entries.
-pub fn push_unit(out: &mut Vec<u8>, unit: &Unit) -> Result<(), AllocError>
-    ensures { Appends result out.old.items (unit_text unit.now) out.new.items }
+pub fn push_unit<W: Write>(out: &mut Output<'_, W>, unit: &Unit) -> Result<(), WriteError>
+    requires { IsClear out.old }
+    ensures { Puts W.contents out.old out.new (unit_text unit.now) result }
 {
     push_header(out, unit.header(), unit.size())?;
     push_entries(out, unit.entries())
 }
 
 /// Appends the texts of entries, one after the other.
-pub fn push_entries(out: &mut Vec<u8>, entries: Entries<'_>) -> Result<(), AllocError>
-    ensures { Appends result out.old.items (entries_text entries.entry) out.new.items }
+pub fn push_entries<W: Write>(
+    out: &mut Output<'_, W>,
+    entries: Entries<'_>,
+) -> Result<(), WriteError>
+    requires { IsClear out.old }
+    ensures { Puts W.contents out.old out.new (entries_text entries.entry) result }
 {
     for entry in entries {
         push_entry(out, &entry)?;
@@ -33,8 +39,9 @@ pub fn push_entries(out: &mut Vec<u8>, entries: Entries<'_>) -> Result<(), Alloc
 }
 
 /// Appends the line of an entry, and one for each of its attributes, in their order.
-pub fn push_entry(out: &mut Vec<u8>, entry: &EntryRef<'_>) -> Result<(), AllocError>
-    ensures { Appends result out.old.items (entry_text entry.now) out.new.items }
+pub fn push_entry<W: Write>(out: &mut Output<'_, W>, entry: &EntryRef<'_>) -> Result<(), WriteError>
+    requires { IsClear out.old }
+    ensures { Puts W.contents out.old out.new (entry_text entry.now) result }
 {
     push_entry_line(out, entry)?;
     push_attributes(out, entry.attrs())
@@ -42,8 +49,9 @@ pub fn push_entry(out: &mut Vec<u8>, entry: &EntryRef<'_>) -> Result<(), AllocEr
 
 /// Appends the value as text. A number is written in hexadecimal digits, or in decimal ones where
 /// it has a sign; a block as by `push_block`, a text as by `push_quoted`, a flag as `present`.
-pub fn push_value(out: &mut Vec<u8>, value: &Value<'_>) -> Result<(), AllocError>
-    ensures { Appends result out.old.items (value_text (value_of value.now)) out.new.items }
+pub fn push_value<W: Write>(out: &mut Output<'_, W>, value: &Value<'_>) -> Result<(), WriteError>
+    requires { IsClear out.old }
+    ensures { Puts W.contents out.old out.new (value_text (value_of value.now)) result }
 {
     match value {
         Value::Num(number) => push_hexadecimal(out, *number as u128),
@@ -52,45 +60,57 @@ pub fn push_value(out: &mut Vec<u8>, value: &Value<'_>) -> Result<(), AllocError
         Value::Sleb(number) => push_signed(out, number.value),
         Value::Block { bytes, .. } => push_block(out, bytes),
         Value::Text(bytes) => push_quoted(out, bytes),
-        Value::Present => append(out, b"present"),
+        Value::Present => out.append(b"present"),
         Value::Implicit(number) => push_signed(out, number.value),
     }
 }
 
 // The line of a unit's header, the unit being the first of its section.
-fn push_header(out: &mut Vec<u8>, header: Header, size: u64) -> Result<(), AllocError>
-    ensures { Appends result out.old.items (header_line header size) out.new.items }
+fn push_header<W: Write>(
+    out: &mut Output<'_, W>,
+    header: Header,
+    size: u64,
+) -> Result<(), WriteError>
+    requires { IsClear out.old }
+    ensures { Puts W.contents out.old out.new (header_line header size) result }
 {
-    append(out, b"unit 0x0 ")?;
+    out.append(b"unit 0x0 ")?;
     push_kind(out, header.kind())?;
     push_format(out, header.format())?;
     push_sizes(out, header, size)?;
     push_added(out, header.kind())?;
-    append(out, b"\n")
+    out.append(b"\n")
 }
 
-fn push_kind(out: &mut Vec<u8>, kind: Kind) -> Result<(), AllocError>
-    ensures { Appends result out.old.items (kind_text kind) out.new.items }
+fn push_kind<W: Write>(out: &mut Output<'_, W>, kind: Kind) -> Result<(), WriteError>
+    requires { IsClear out.old }
+    ensures { Puts W.contents out.old out.new (kind_text kind) result }
 {
     match kind {
-        Kind::Compile => append(out, b"compile"),
-        Kind::Partial => append(out, b"partial"),
-        Kind::TypeUnit { .. } => append(out, b"type"),
-        Kind::Skeleton { .. } => append(out, b"skeleton"),
+        Kind::Compile => out.append(b"compile"),
+        Kind::Partial => out.append(b"partial"),
+        Kind::TypeUnit { .. } => out.append(b"type"),
+        Kind::Skeleton { .. } => out.append(b"skeleton"),
     }
 }
 
-fn push_format(out: &mut Vec<u8>, format: Format) -> Result<(), AllocError>
-    ensures { Appends result out.old.items (format_text format) out.new.items }
+fn push_format<W: Write>(out: &mut Output<'_, W>, format: Format) -> Result<(), WriteError>
+    requires { IsClear out.old }
+    ensures { Puts W.contents out.old out.new (format_text format) result }
 {
     match format {
-        Format::Dwarf32 => append(out, b" 32"),
-        Format::Dwarf64 => append(out, b" 64"),
+        Format::Dwarf32 => out.append(b" 32"),
+        Format::Dwarf64 => out.append(b" 64"),
     }
 }
 
-fn push_sizes(out: &mut Vec<u8>, header: Header, size: u64) -> Result<(), AllocError>
-    ensures { Appends result out.old.items (header_sizes header size) out.new.items }
+fn push_sizes<W: Write>(
+    out: &mut Output<'_, W>,
+    header: Header,
+    size: u64,
+) -> Result<(), WriteError>
+    requires { IsClear out.old }
+    ensures { Puts W.contents out.old out.new (header_sizes header size) result }
 {
     push_labelled_decimal(out, b" size ", size)?;
     push_labelled(out, b" abbrev ", header.abbrev_offset())?;
@@ -98,8 +118,9 @@ fn push_sizes(out: &mut Vec<u8>, header: Header, size: u64) -> Result<(), AllocE
 }
 
 // What a kind of unit adds to the line of its header.
-fn push_added(out: &mut Vec<u8>, kind: Kind) -> Result<(), AllocError>
-    ensures { Appends result out.old.items (added_text kind) out.new.items }
+fn push_added<W: Write>(out: &mut Output<'_, W>, kind: Kind) -> Result<(), WriteError>
+    requires { IsClear out.old }
+    ensures { Puts W.contents out.old out.new (added_text kind) result }
 {
     match kind {
         Kind::Compile | Kind::Partial => Ok(()),
@@ -111,39 +132,62 @@ fn push_added(out: &mut Vec<u8>, kind: Kind) -> Result<(), AllocError>
     }
 }
 
-fn push_type(out: &mut Vec<u8>, signature: u64, type_offset: u64) -> Result<(), AllocError>
-    ensures { Appends result out.old.items (labelled (codes " signature ") signature ++ labelled (codes " type ") type_offset) out.new.items }
+fn push_type<W: Write>(
+    out: &mut Output<'_, W>,
+    signature: u64,
+    type_offset: u64,
+) -> Result<(), WriteError>
+    requires { IsClear out.old }
+    ensures { Puts W.contents out.old out.new (labelled (codes " signature ") signature ++ labelled (codes " type ") type_offset) result }
 {
     push_labelled(out, b" signature ", signature)?;
     push_labelled(out, b" type ", type_offset)
 }
 
-fn push_labelled(out: &mut Vec<u8>, label: &[u8], number: u64) -> Result<(), AllocError>
-    ensures { Appends result out.old.items (labelled label.now number) out.new.items }
+fn push_labelled<W: Write>(
+    out: &mut Output<'_, W>,
+    label: &[u8],
+    number: u64,
+) -> Result<(), WriteError>
+    requires { IsClear out.old }
+    ensures { Puts W.contents out.old out.new (labelled label.now number) result }
 {
-    append(out, label)?;
+    out.append(label)?;
     push_hexadecimal(out, number as u128)
 }
 
-fn push_labelled_decimal(out: &mut Vec<u8>, label: &[u8], number: u64) -> Result<(), AllocError>
-    ensures { Appends result out.old.items (labelled_decimal label.now number) out.new.items }
+fn push_labelled_decimal<W: Write>(
+    out: &mut Output<'_, W>,
+    label: &[u8],
+    number: u64,
+) -> Result<(), WriteError>
+    requires { IsClear out.old }
+    ensures { Puts W.contents out.old out.new (labelled_decimal label.now number) result }
 {
-    append(out, label)?;
+    out.append(label)?;
     push_decimal(out, number)
 }
 
-fn push_entry_line(out: &mut Vec<u8>, entry: &EntryRef<'_>) -> Result<(), AllocError>
-    ensures { Appends result out.old.items (entry_line entry.now) out.new.items }
+fn push_entry_line<W: Write>(
+    out: &mut Output<'_, W>,
+    entry: &EntryRef<'_>,
+) -> Result<(), WriteError>
+    requires { IsClear out.old }
+    ensures { Puts W.contents out.old out.new (entry_line entry.now) result }
 {
     push_labelled_decimal(out, b"<", entry.depth())?;
     push_labelled(out, b"> ", entry.offset())?;
-    append(out, b" ")?;
+    out.append(b" ")?;
     push_tag(out, entry.tag())?;
-    append(out, b"\n")
+    out.append(b"\n")
 }
 
-fn push_attributes(out: &mut Vec<u8>, attributes: Attrs<'_>) -> Result<(), AllocError>
-    ensures { Appends result out.old.items (attribute_lines attributes.entry) out.new.items }
+fn push_attributes<W: Write>(
+    out: &mut Output<'_, W>,
+    attributes: Attrs<'_>,
+) -> Result<(), WriteError>
+    requires { IsClear out.old }
+    ensures { Puts W.contents out.old out.new (attribute_lines attributes.entry) result }
 {
     let mut left = attributes;
     while let Some(attribute) = left.next() {
@@ -152,12 +196,16 @@ fn push_attributes(out: &mut Vec<u8>, attributes: Attrs<'_>) -> Result<(), Alloc
     Ok(())
 }
 
-fn push_attribute_line(out: &mut Vec<u8>, attribute: &AttrRef<'_>) -> Result<(), AllocError>
-    ensures { Appends result out.old.items (attribute_line (attr_of attribute.now)) out.new.items }
+fn push_attribute_line<W: Write>(
+    out: &mut Output<'_, W>,
+    attribute: &AttrRef<'_>,
+) -> Result<(), WriteError>
+    requires { IsClear out.old }
+    ensures { Puts W.contents out.old out.new (attribute_line (attr_of attribute.now)) result }
 {
-    append(out, b"  ")?;
+    out.append(b"  ")?;
     push_attribute(out, attribute.name)?;
-    append(out, b" ")?;
+    out.append(b" ")?;
     push_value(out, &attribute.attr.value)?;
-    append(out, b"\n")
+    out.append(b"\n")
 }

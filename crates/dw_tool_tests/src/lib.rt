@@ -15,6 +15,8 @@ mod large;
 #[cfg(test)]
 mod lines;
 #[cfg(test)]
+mod outputs;
+#[cfg(test)]
 mod runs;
 #[cfg(test)]
 mod texts;

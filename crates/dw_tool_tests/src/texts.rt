@@ -1,10 +1,14 @@
 //! Names and numbers as the program spells them: those of the standard's tables 7.3 and 7.5, and others
 //! as numbers.
+ghost use Rattle.dw_tool.specs.Output.{IsClear};
+
+use dw_leb::{Watched, WriteError};
 use dw_tool::names::{attribute_name, tag_name};
+use dw_tool::output::Output;
 use dw_tool::text::{
-    append, push_attribute, push_block, push_decimal, push_hexadecimal, push_quoted, push_signed,
-    push_tag,
+    push_attribute, push_block, push_decimal, push_hexadecimal, push_quoted, push_signed, push_tag,
 };
+use std::io::Write;
 use std::test::Fail;
 
 #[test]
@@ -31,51 +35,79 @@ fn names_tags_and_attributes(rt: HostRuntime) {
     }
 }
 
+// What is appended, behind a flush.
+fn put_numbers<W: Write>(out: &mut Output<'_, W>) -> Result<(), WriteError>
+    requires { IsClear out.old }
+{
+    push_hexadecimal(out, 0x1122334455667788)?;
+    out.append(b" ")?;
+    push_hexadecimal(out, 0)?;
+    out.append(b" ")?;
+    push_hexadecimal(out, u128::MAX)?;
+    out.append(b" ")?;
+    push_decimal(out, 18446744073709551615)?;
+    out.append(b" ")?;
+    push_signed(out, -1)?;
+    out.append(b" ")?;
+    push_signed(out, -9223372036854775808)?;
+    out.flush()
+}
+
 #[test]
 fn spells_numbers(rt: HostRuntime) -> Result<(), Fail> {
-    let mut out = Vec::new(rt.alloc());
-    push_hexadecimal(&mut out, 0x1122334455667788)?;
-    append(&mut out, b" ")?;
-    push_hexadecimal(&mut out, 0)?;
-    append(&mut out, b" ")?;
-    push_hexadecimal(&mut out, u128::MAX)?;
-    append(&mut out, b" ")?;
-    push_decimal(&mut out, 18446744073709551615)?;
-    append(&mut out, b" ")?;
-    push_signed(&mut out, -1)?;
-    append(&mut out, b" ")?;
-    push_signed(&mut out, -9223372036854775808)?;
+    let mut writer = Watched::new(Vec::new(rt.alloc()));
+    put_numbers(&mut Output::new(&mut writer))?;
     assert!(rt;
-        out.as_slice()
+        writer.into_inner().as_slice()
             == "0x1122334455667788 0x0 0xffffffffffffffffffffffffffffffff 18446744073709551615 -1 -9223372036854775808".as_bytes()
     );
     Ok(())
 }
 
+fn put_names<W: Write>(out: &mut Output<'_, W>) -> Result<(), WriteError>
+    requires { IsClear out.old }
+{
+    push_tag(out, 0x11)?;
+    out.append(b" ")?;
+    push_tag(out, 0x4109)?;
+    out.append(b" ")?;
+    push_attribute(out, 0x03)?;
+    out.append(b" ")?;
+    push_attribute(out, 0x2117)?;
+    out.flush()
+}
+
 #[test]
 fn spells_names(rt: HostRuntime) -> Result<(), Fail> {
-    let mut out = Vec::new(rt.alloc());
-    push_tag(&mut out, 0x11)?;
-    append(&mut out, b" ")?;
-    push_tag(&mut out, 0x4109)?;
-    append(&mut out, b" ")?;
-    push_attribute(&mut out, 0x03)?;
-    append(&mut out, b" ")?;
-    push_attribute(&mut out, 0x2117)?;
+    let mut writer = Watched::new(Vec::new(rt.alloc()));
+    put_names(&mut Output::new(&mut writer))?;
     assert!(rt;
-        out.as_slice() == "DW_TAG_compile_unit DW_TAG_0x4109 DW_AT_name DW_AT_0x2117".as_bytes()
+        writer.into_inner().as_slice()
+            == "DW_TAG_compile_unit DW_TAG_0x4109 DW_AT_name DW_AT_0x2117".as_bytes()
     );
     Ok(())
 }
 
+fn put_bytes<W: Write>(out: &mut Output<'_, W>) -> Result<(), WriteError>
+    requires { IsClear out.old }
+{
+    push_quoted(out, b"a \"\\~\x7f\x00\xff")?;
+    out.append(b" ")?;
+    push_quoted(out, b"")?;
+    out.append(b" ")?;
+    push_block(out, b"")?;
+    out.append(b" ")?;
+    push_block(out, b"\x03\xa0\xff")?;
+    out.flush()
+}
+
 #[test]
 fn spells_bytes(rt: HostRuntime) -> Result<(), Fail> {
-    let mut out = Vec::new(rt.alloc());
-    push_quoted(&mut out, b"a \"\\~\x7f\x00\xff")?;
-    append(&mut out, b" ")?;
-    push_block(&mut out, b"")?;
-    append(&mut out, b" ")?;
-    push_block(&mut out, b"\x03\xa0\xff")?;
-    assert!(rt; out.as_slice() == "\"a \\\"\\\\~\\x7f\\x00\\xff\" [0] [3] 03a0ff".as_bytes());
+    let mut writer = Watched::new(Vec::new(rt.alloc()));
+    put_bytes(&mut Output::new(&mut writer))?;
+    assert!(rt;
+        writer.into_inner().as_slice()
+            == "\"a \\\"\\\\~\\x7f\\x00\\xff\" \"\" [0] [3] 03a0ff".as_bytes()
+    );
     Ok(())
 }

@@ -1,18 +1,18 @@
-use Rattle.std.proofs.Common.{rules, length}
+use Rattle.std.proofs.Common.{length}
 use Rattle.dw_tree.specs.Lent.{entries_of}
 use Rattle.dw_unit.specs.Unit.{bytes_of, tree_of}
 use Rattle.dw_tool.specs.Show.{entries_text, header_line}
-use Rattle.dw_tool.proofs.Appending.{appends_after, appends_stopped}
+use Rattle.dw_tool.proofs.Appending.{puts_after, puts_stopped}
 use Rattle.dw_tool.proofs.show.push_unit.Goals as goal
 
 pub returns-in_err-push_header : goal.returns-in_err-push_header
-returns-in_err-push_header c =
+returns-in_err-push_header g c =
     let u = c.args.unit.now in
-    appends_stopped c.from_residual.result _ (header_line u.header (length (bytes_of u))) (entries_text (entries_of (tree_of u))) _ (search rules)
+    puts_stopped g.W.Write.contents c.from_residual.result _ (header_line u.header (length (bytes_of u))) (entries_text (entries_of (tree_of u))) _ c.from_residual.ensures.1
     (rw (c.header.ensures, c.size.ensures.size) at c.in_err-push_header.ensures)
 
 pub returns : goal.returns
-returns c =
+returns g c =
     let u = c.args.unit.now in
-    appends_after c.push_entries.result _ _ (header_line u.header (length (bytes_of u))) (entries_text (entries_of (tree_of u))) _
+    puts_after g.W.Write.contents c.push_entries.result _ _ (header_line u.header (length (bytes_of u))) (entries_text (entries_of (tree_of u))) _
     (rw (c.header.ensures, c.size.ensures.size) at c.in_ok-push_header.ensures) (rw c.entries.ensures at c.push_entries.ensures)

@@ -1,6 +1,8 @@
-use Rattle.std.proofs.Common.{◌≡◌, ◌++◌, take}
+use Rattle.std.proofs.Common.{Ok, take}
+use Rattle.dw_tool.specs.Output.{Puts}
 use Rattle.dw_tool.specs.Text.{each, two_digits}
 use Rattle.dw_tool.proofs.text.push_each_digits.Given as goal
 
+-- the texts of the bytes before this one are there
 abbrev pub invariant-loop-byte : goal.invariant-loop-byte
-invariant-loop-byte l = l.out.items ≡ l.fn.out.items ++ each two_digits (take l.byte-index l.bytes)
+invariant-loop-byte g l = Puts {X = Unit {0}} g.W.Write.contents l.fn.out l.out (each two_digits (take l.byte-index l.bytes)) (Ok tt)
