@@ -165,13 +165,36 @@ room (suc k) left more small =
     (omega arith, omega (arith, small, e))
 
 -- where a digit is put, there is room for those that are left
-pub hexadecimal_room : (at left : ℕ) → 2 ≤ at → 16 ≤ left → left < 16 ^ (at - 1) → (3 ≤ at) × (left / 16 < 16 ^ (at - 1 - 1))
-hexadecimal_room at left two more small =
-    let k : ℕ = at - 2 in
-    let e1 : at - 1 ≡ suc k = omega (arith, two) in
-    let e2 : k ≡ at - 1 - 1 = omega (arith, two) in
+pub hexadecimal_room : (at last left : ℕ) → 17 ≤ last → last ≤ at + 15 → 16 ≤ left → left < 16 ^ (at + 16 - last) → (last ≤ at - 1 + 15) × (left / 16 < 16 ^ (at - 1 + 16 - last))
+hexadecimal_room at last left most within more small =
+    let k : ℕ = at + 15 - last in
+    let e1 : at + 16 - last ≡ suc k = omega (arith, within) in
+    let e2 : k ≡ at - 1 + 16 - last = omega (arith, most, within) in
     let r = room k left more (subst (λ (x : ℕ). left < 16 ^ x) e1 small) in
-    (omega (arith, r.0), subst (λ (x : ℕ). left / 16 < 16 ^ x) e2 r.1)
+    (omega (arith, r.0, most, within), subst (λ (x : ℕ). left / 16 < 16 ^ x) e2 r.1)
+
+room_wide : (k left : ℕ) → 2 ^ 64 ≤ left → left < 2 ^ 64 * 16 ^ k → (j : ℕ) × (k ≡ suc j) × (left / 16 < 2 ^ 64 * 16 ^ j)
+room_wide zero left more small = absurd (omega (arith, more, small))
+room_wide (suc k) left more small =
+    let e : 16 ^ suc k ≡ 16 ^ k * 16 = simp unary_clauses refl in
+    (k, refl, omega (arith, small, e))
+
+-- the same where more than sixteen are left
+pub hexadecimal_room_wide : (at left : ℕ) → 17 ≤ at → 2 ^ 64 ≤ left → left < 2 ^ 64 * 16 ^ (at - 17) → (17 ≤ at - 1) × (left / 16 < 2 ^ 64 * 16 ^ (at - 1 - 17))
+hexadecimal_room_wide at left most more small =
+    let r = room_wide (at - 17) left more small in
+    let e : r.0 ≡ at - 1 - 17 = omega (arith, r.1) in
+    (omega (arith, r.1), subst (λ (x : ℕ). left / 16 < 2 ^ 64 * 16 ^ x) e r.2)
+
+-- a digit is put before those that are there
+pub hexadecimal_next : (text : List ℕ) (at left digit : ℕ) (all : List ℕ) → 1 ≤ at → at < length text → 16 ≤ left → left < 2 ^ 128 → digit ≡ digit_glyph false (left % 16)
+    → digits 16 false left ++ drop (at + 1) text ≡ all → digits 16 false (left / 16) ++ drop (at - 1 + 1) (set text at digit) ≡ all
+hexadecimal_next text at left digit all one short more small is split =
+    let back : at - 1 + 1 ≡ at = omega (arith, one) in
+    let last : List ℕ = digit_glyph false (left % 16) ∷ [] in
+    let e : digits 16 false left ≡ digits 16 false (left / 16) ++ last = hexadecimal_more left more small in
+    rw (back, drop-set text at digit short, is)
+    (sym (append_assoc (digits 16 false (left / 16)) last (drop (at + 1) text)) ∙ ap (λ (t : List ℕ). t ++ drop (at + 1) text) (sym e) ∙ split)
 
 -- the last digit, and the mark before it
 pub hexadecimal_put : (text : List ℕ) (at digit : ℕ) → 2 ≤ at → at < length text → drop (at - 2) (set (set (set text at digit) (at - 1) 120) (at - 2) 48) ≡ 48 ∷ 120 ∷ digit ∷ drop (at + 1) text

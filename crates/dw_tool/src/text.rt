@@ -1,6 +1,6 @@
 //! The texts of numbers, names and bytes, each appended to an output. Each call returns the writer's fault
 //! where there is one, as `Output::append` does.
-ghost use Rattle.std.specs.Prelude.{◌≡◌, ◌<◌, ◌≤◌, ◌++◌, ℕ, codes, decimal, drop, false, unwrap_or, option_map};
+ghost use Rattle.std.specs.Prelude.{◌≡◌, ◌<◌, ◌≤◌, ◌+◌, ◌++◌, ℕ, codes, decimal, drop, false, unwrap_or, option_map};
 ghost use Rattle.std.specs.Fmt.{digit_glyph, signed_decimal};
 ghost use Rattle.dw_tool.specs.Output.{Puts, IsClear};
 ghost use Rattle.dw_tool.specs.Text.{attribute_text, block, each, escaped, hexadecimal, quoted, spaced_digits, tag_text, two_digits};
@@ -100,6 +100,23 @@ fn put_hexadecimal(text: &mut [u8; 34], number: u128) -> usize
     ensures text { drop result text.new ≡ hexadecimal number }
 {
     let mut at = 33;
+    let mut left = number;
+    while left > u64::MAX as u128 {
+        text[at] = hexadecimal_digit((left % 16) as u8);
+        at -= 1;
+        left /= 16;
+    }
+    put_short(text, at, left as u64)
+}
+
+// The same of a number whose last digit is put at this place.
+fn put_short(text: &mut [u8; 34], last: usize, number: u64) -> usize
+    requires within { last ≤ 33 }
+    requires room { 17 ≤ last }
+    ensures within { result ≤ 34 }
+    ensures text { drop result text.new ≡ hexadecimal number ++ drop (last + 1) text.old }
+{
+    let mut at = last;
     let mut left = number;
     while left >= 16 {
         text[at] = hexadecimal_digit((left % 16) as u8);

@@ -1,4 +1,4 @@
-use Rattle.std.proofs.Common.{◌≡◌, ◌+◌, ◌-◌, ◌^◌, ◌<◌, ◌≤◌, ◌++◌, drop, false, length}
+use Rattle.std.proofs.Common.{◌≡◌, ◌+◌, ◌-◌, ◌*◌, ◌^◌, ◌<◌, ◌≤◌, ◌++◌, drop, false, length}
 use Rattle.std.specs.Fmt.{digits}
 use Rattle.dw_tool.proofs.text.put_hexadecimal.Given as goal
 
@@ -8,8 +8,8 @@ invariant-loop-left l =
     record {
       within : l.at ≤ 33;
       long : length l.text ≡ 34;
-      room : 2 ≤ l.at;
-      small : l.left < 16 ^ (l.at - 1);
+      room : 17 ≤ l.at;
+      small : l.left < 2 ^ 64 * 16 ^ (l.at - 17);
       split : digits 16 false l.left ++ drop (l.at + 1) l.text ≡ digits 16 false l.number;
     }
 
