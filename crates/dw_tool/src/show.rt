@@ -77,6 +77,7 @@ fn push_kind(out: &mut Vec<u8>, kind: Kind) -> Result<(), AllocError>
         Kind::Partial => append(out, b"partial"),
         Kind::TypeUnit { .. } => append(out, b"type"),
         Kind::Skeleton { .. } => append(out, b"skeleton"),
+        Kind::Four => append(out, b"four"),
     }
 }
 
@@ -102,7 +103,7 @@ fn push_added(out: &mut Vec<u8>, kind: Kind) -> Result<(), AllocError>
     ensures { Appends result out.old.items (added_text kind) out.new.items }
 {
     match kind {
-        Kind::Compile | Kind::Partial => Ok(()),
+        Kind::Compile | Kind::Partial | Kind::Four => Ok(()),
         Kind::TypeUnit {
             signature,
             type_offset,
