@@ -18,9 +18,10 @@ use Rattle.dw_leb.specs.PartLaws.{one_front, no_break}
 use Rattle.dw_leb.specs.Digits.{fixed_decides, length-fixed}
 use Rattle.dw_leb.specs.DecideNumber.{initial_length_decides, initial-size, initial_within}
 use Rattle.dw_leb.specs.ReadNumber.{read_length, read_fixed}
+use Rattle.dw_header.specs.declared.versions.Versions.{Versions}
 use Rattle.dw_header.specs.Header.{fields, fields_of, context_of}
 use Rattle.dw_header.specs.HeaderFound.{head_size}
-use Rattle.dw_unit.specs.Unit.{WholeUnit, body_bytes, bytes_of, UnitAt, Fails, left_behind}
+use Rattle.dw_unit.specs.Unit.{WholeUnit, body_bytes, bytes_of, UnitAtUnder, FailsUnder, left_behind}
 use Rattle.dw_unit.specs.DecideUnit.{unit_fault, fault_stays}
 use Rattle.dw_unit.specs.ReadUnit.{Fault}
 use Rattle.dw_feed.specs.Feed.{escape, InField, IsField, FieldRefused, UnitHeld}
@@ -35,7 +36,7 @@ length_bytes order x = (length_field order).spell x
 pub same_length : (order : Order) (x y : Format × ℕ) (a b : List ℕ) → (initial_length order 0).Fits x → (initial_length order 0).Fits y → length_bytes order x ++ a ≡ length_bytes order y ++ b → (x ≡ y) × (a ≡ b)
 same_length order x y a b p q e = one_front (initial_length order 0) (read_length order 0) (initial_length_decides order 0) x y a b p q e
 
-module _ (order : Order) (bytes : List ℕ) (h : HoldsUnit order bytes) where
+module _ (versions : Versions) (order : Order) (bytes : List ℕ) (h : HoldsUnit order bytes) where
   -- what stands behind a length field is at least as long as it tells
   behind_length : (format : Format) (n : ℕ) (rest : List ℕ) → (initial_length order 0).Fits (format, n) → bytes ≡ length_bytes order (format, n) ++ rest → n ≤ length rest
   behind_length format n rest fits split =
@@ -47,44 +48,44 @@ module _ (order : Order) (bytes : List ℕ) (h : HoldsUnit order bytes) where
       omega (arith, h.2, h.1.is_size)
 
   -- bytes that hold the whole unit are never cut
-  pub whole_never_truncated : (abbreviations : List ℕ) (offset : ℕ) (reason : Reason) → Fails order abbreviations bytes Info offset reason → reason ≢ Truncated
+  pub whole_never_truncated : (abbreviations : List ℕ) (offset : ℕ) (reason : Reason) → FailsUnder versions order abbreviations bytes Info offset reason → reason ≢ Truncated
   whole_never_truncated abbreviations offset reason (inl (inl one)) =
       absurd (no_break (initial_length order 0) (read_length order 0) (initial_length_decides order 0) h.0 h.1.rest length_limit offset reason h.1.fits (initial_within order 0 h.0.0 h.0.1) (rw h.1.split at one))
   whole_never_truncated abbreviations offset reason (inl (inr (format, n, rest, own, fits, split, sum, breaks))) =
-      fields_never_truncated order format rest n own reason (behind_length format n rest fits split) breaks
+      fields_never_truncated versions order format rest n own reason (behind_length format n rest fits split) breaks
   whole_never_truncated abbreviations offset reason (inr b) =
       let head = b.stands.2 in
       let f : List ℕ = (fields order b.header.format).spell (fields_of b.header) in
       let left : b.count ≤ length (f ++ b.stands.1) = behind_length b.header.format b.count (f ++ b.stands.1) head.length_fits head.split in
-      let sized = head_size order bytes b.header b.count b.stands in
+      let sized = head_size versions order bytes b.header b.count b.stands in
       let enough : left_behind b.header b.count ≤ length b.stands.1 = omega (arith, left, sized, length-append f b.stands.1, initial-size order 0 b.header.format b.count) in
       entries_never_truncated (context_of b.header) b.table b.stands.1 (left_behind b.header b.count) b.own reason enough b.breaks
 
-  pub whole_fault : (abbreviations tail : List ℕ) (s : SectionId) (offset : ℕ) (reason : Reason) → Fails order abbreviations bytes s offset reason → Fails order abbreviations (bytes ++ tail) s offset reason
+  pub whole_fault : (abbreviations tail : List ℕ) (s : SectionId) (offset : ℕ) (reason : Reason) → FailsUnder versions order abbreviations bytes s offset reason → FailsUnder versions order abbreviations (bytes ++ tail) s offset reason
   whole_fault abbreviations tail s offset reason fails =
-      fault_stays order abbreviations bytes tail s offset reason (λ info. whole_never_truncated abbreviations offset reason (subst (λ (z : SectionId). Fails order abbreviations bytes z offset reason) info fails)) fails
+      fault_stays versions order abbreviations bytes tail s offset reason (λ info. whole_never_truncated abbreviations offset reason (subst (λ (z : SectionId). FailsUnder versions order abbreviations bytes z offset reason) info fails)) fails
 
 same_reason : (s z : SectionId) (m n : ℕ) (r q : Reason) → Fault s m r ≡ Fault z n q → r ≡ q
 same_reason s z m n r q e = cc
 
 -- a fault of what is held is that of all
-pub held_fault : (order : Order) (abbreviations bytes rest : List ℕ) (new : Option (List ℕ)) (s : SectionId) (offset : ℕ) (reason : Reason)
-    → FieldRefused order bytes new ⊎ UnitHeld order bytes new → (IsAtEnd new → rest ≡ []) → Fails order abbreviations bytes s offset reason → Fails order abbreviations (bytes ++ rest) s offset reason
-held_fault order abbreviations bytes rest new s offset reason held done fails = by held
+pub held_fault : (versions : Versions) (order : Order) (abbreviations bytes rest : List ℕ) (new : Option (List ℕ)) (s : SectionId) (offset : ℕ) (reason : Reason)
+    → FieldRefused order bytes new ⊎ UnitHeld order bytes new → (IsAtEnd new → rest ≡ []) → FailsUnder versions order abbreviations bytes s offset reason → FailsUnder versions order abbreviations (bytes ++ rest) s offset reason
+held_fault versions order abbreviations bytes rest new s offset reason held done fails = by held
   where
-    at_end : IsAtEnd new → Fails order abbreviations (bytes ++ rest) s offset reason
-    at_end e = subst (λ (b : List ℕ). Fails order abbreviations b s offset reason) (sym (ap (λ (x : List ℕ). bytes ++ x) (done e) ∙ append-nil bytes)) fails
+    at_end : IsAtEnd new → FailsUnder versions order abbreviations (bytes ++ rest) s offset reason
+    at_end e = subst (λ (b : List ℕ). FailsUnder versions order abbreviations b s offset reason) (sym (ap (λ (x : List ℕ). bytes ++ x) (done e) ∙ append-nil bytes)) fails
 
     refused : (reason' : Reason) → (initial_length order 0).Break bytes length_limit 0 reason' → reason' ≢ Truncated → s ≡ Info → reason ≢ Truncated
-    refused reason' breaks ne info = λ e. ne (same_reason Info s 0 offset reason' reason (sym (unit_fault order abbreviations bytes Info 0 reason' (inl (inl breaks))) ∙ unit_fault order abbreviations bytes s offset reason fails) ∙ e)
+    refused reason' breaks ne info = λ e. ne (same_reason Info s 0 offset reason' reason (sym (unit_fault versions order abbreviations bytes Info 0 reason' (inl (inl breaks))) ∙ unit_fault versions order abbreviations bytes s offset reason fails) ∙ e)
 
-    by : FieldRefused order bytes new ⊎ UnitHeld order bytes new → Fails order abbreviations (bytes ++ rest) s offset reason
+    by : FieldRefused order bytes new ⊎ UnitHeld order bytes new → FailsUnder versions order abbreviations (bytes ++ rest) s offset reason
     by (inl h) = elim h.why [
-      | inl ne ↦ fault_stays order abbreviations bytes rest s offset reason (refused h.reason h.breaks ne) fails
+      | inl ne ↦ fault_stays versions order abbreviations bytes rest s offset reason (refused h.reason h.breaks ne) fails
       | inr e ↦ at_end e
     ]
     by (inr h) = elim h.whole [
-      | inl w ↦ whole_fault order bytes ((h.format, h.count), h.field, omega (arith, w)) abbreviations rest s offset reason fails
+      | inl w ↦ whole_fault versions order bytes ((h.format, h.count), h.field, omega (arith, w)) abbreviations rest s offset reason fails
       | inr e ↦ at_end e
     ]
 
@@ -93,9 +94,9 @@ no_rest b s [] e le = e ∙ append-nil s
 no_rest b s (x ∷ rest) e le = absurd (omega (arith, le, ap length e, length-append s (x ∷ rest)))
 
 -- a unit that stands in what is held is all of it
-pub held_unit : (order : Order) (abbreviations bytes : List ℕ) (new : Option (List ℕ)) (u : WholeUnit) (size : ℕ)
-    → FieldRefused order bytes new ⊎ UnitHeld order bytes new → UnitAt abbreviations order bytes u size → bytes ≡ bytes_of u
-held_unit order abbreviations bytes new u size held h = by held
+pub held_unit : (versions : Versions) (order : Order) (abbreviations bytes : List ℕ) (new : Option (List ℕ)) (u : WholeUnit) (size : ℕ)
+    → FieldRefused order bytes new ⊎ UnitHeld order bytes new → UnitAtUnder versions abbreviations order bytes u size → bytes ≡ bytes_of u
+held_unit versions order abbreviations bytes new u size held h = by held
   where
     own : List ℕ
     own = body_bytes u

@@ -11,11 +11,12 @@ use Rattle.dw_leb.specs.Part.{Taken}
 use Rattle.dw_leb.specs.Number.{length_field, initial_length, length_limit, length_size}
 use Rattle.dw_leb.specs.Watch.{ConsumesUpTo, KeptSome}
 use Rattle.dw_leb.specs.Transfers.{consumes_more}
-use Rattle.dw_unit.specs.Unit.{WholeUnit, bytes_of, UnitAt}
+use Rattle.dw_header.specs.declared.versions.Versions.{Versions}
+use Rattle.dw_unit.specs.Unit.{WholeUnit, bytes_of, UnitAtUnder}
 use Rattle.dw_abbrev.specs.TableErrors.{refused_memory}
 use Rattle.dw_header.specs.HeaderFound.{head_room}
-use Rattle.dw_unit.specs.UnitView.{IsUnitError, NamesTable}
-use Rattle.dw_feed.specs.Feed.{Had, escape, InField, InUnit, Takes, TakesInUnit, TakesUnit, IsFeedError, TakesNoUnit, FieldRefused, UnitHeld, FailsUpTo, FailsInField, FailsInUnit}
+use Rattle.dw_unit.specs.UnitView.{IsUnitErrorUnder, NamesTableUnder}
+use Rattle.dw_feed.specs.Feed.{Had, escape, InField, InUnit, Takes, TakesInUnit, TakesUnitUnder, IsFeedErrorUnder, TakesNoUnitUnder, FieldRefused, UnitHeld, FailsUpTo, FailsInField, FailsInUnit}
 use Rattle.dw_feed.proofs.Cut.{held_fault, held_unit}
 
 -- what a reader has left, where it tells
@@ -53,21 +54,21 @@ held_inside order bytes rest new (inr h) = inr ((h.format, h.count), taken_longe
 
 -- ---- a unit, and its fault
 
-module _ (abbreviations : List ℕ) (order : Order) (old new : Option (List ℕ)) (bytes : List ℕ) (took : Consumes old new bytes) (held : FieldRefused order bytes new ⊎ UnitHeld order bytes new) where
-  tells_first : (e : ReadError) → IsUnitError abbreviations order bytes e → IsFeedError abbreviations order (bytes ++ left_of new) e
-  tells_first (reads.Fault f) h = held_fault order abbreviations bytes (left_of new) new f.section f.offset f.reason held (left_at_end new) h
+module _ (versions : Versions) (abbreviations : List ℕ) (order : Order) (old new : Option (List ℕ)) (bytes : List ℕ) (took : Consumes old new bytes) (held : FieldRefused order bytes new ⊎ UnitHeld order bytes new) where
+  tells_first : (e : ReadError) → IsUnitErrorUnder versions abbreviations order bytes e → IsFeedErrorUnder versions abbreviations order (bytes ++ left_of new) e
+  tells_first (reads.Fault f) h = held_fault versions order abbreviations bytes (left_of new) new f.section f.offset f.reason held (left_at_end new) h
   tells_first reads.NoMemory h = tt
   tells_first (reads.Io kind) h = tt
 
-  pub takes_no_unit : (e : ReadError) → IsUnitError abbreviations order bytes e → TakesNoUnit abbreviations order old new e
+  pub takes_no_unit : (e : ReadError) → IsUnitErrorUnder versions abbreviations order bytes e → TakesNoUnitUnder versions abbreviations order old new e
   takes_no_unit e h = (bytes ++ left_of new, takes_of old new bytes took, tells_first e h, held_inside order bytes (left_of new) new held)
 
-  pub takes_unit : (u : WholeUnit) (size : ℕ) → UnitAt abbreviations order bytes u size → TakesUnit abbreviations order old new u
+  pub takes_unit : (u : WholeUnit) (size : ℕ) → UnitAtUnder versions abbreviations order bytes u size → TakesUnitUnder versions abbreviations order old new u
   takes_unit u size h =
-      let same : bytes ≡ bytes_of u = held_unit order abbreviations bytes new u size held h in (
+      let same : bytes ≡ bytes_of u = held_unit versions order abbreviations bytes new u size held h in (
         bytes ++ left_of new,
         had_before old new bytes took,
-        record { table_at = h.table_at; front = record { order_is = h.front.order_is; fits = h.front.fits; rest = left_of new; split = ap (λ (b : List ℕ). b ++ left_of new) same; is_size = refl } },
+        record { table_at = h.table_at; front = record { order_is = h.front.order_is; accepted = h.front.accepted; fits = h.front.fits; rest = left_of new; split = ap (λ (b : List ℕ). b ++ left_of new) same; is_size = refl } },
         subst (λ (b : List ℕ). Consumes old new b) same took,
       )
 
@@ -131,10 +132,10 @@ rest_error order old mid new bytes x (reads.Fault f) took size field h = h
 rest_error order old mid new bytes x reads.NoMemory took size field h = unit_fails order old mid new bytes x took size field h
 rest_error order old mid new bytes x (reads.Io kind) took size field h = unit_fails order old mid new bytes x took size field h
 
-pub unit_error : (abbreviations : List ℕ) (order : Order) (old new : Option (List ℕ)) (e : ReadError) → FailsInUnit order old new e → TakesNoUnit abbreviations order old new e
-unit_error abbreviations order old new (reads.Fault f) h = absurd h
-unit_error abbreviations order old new reads.NoMemory h = (h.0, h.1, tt, h.2)
-unit_error abbreviations order old new (reads.Io kind) h = (h.0, h.1, tt, h.2)
+pub unit_error : (versions : Versions) (abbreviations : List ℕ) (order : Order) (old new : Option (List ℕ)) (e : ReadError) → FailsInUnit order old new e → TakesNoUnitUnder versions abbreviations order old new e
+unit_error versions abbreviations order old new (reads.Fault f) h = absurd h
+unit_error versions abbreviations order old new reads.NoMemory h = (h.0, h.1, tt, h.2)
+unit_error versions abbreviations order old new (reads.Io kind) h = (h.0, h.1, tt, h.2)
 
 -- ---- want of memory
 
@@ -149,9 +150,9 @@ length_some Dwarf32 = omega arith
 length_some Dwarf64 = omega arith
 
 -- a header was taken where a unit's table or its entries need memory
-pub kept_unit : (abbreviations : List ℕ) (order : Order) (old new : Option (List ℕ)) (bytes : List ℕ) (e : ReadError) → Consumes old new bytes → (e ≡ refused_memory → NamesTable abbreviations order bytes) → KeptSome {X = Unit {0}} old new (Err e)
-kept_unit abbreviations order old new bytes (reads.Fault f) took names = tt
-kept_unit abbreviations order old new bytes (reads.Io kind) took names = tt
-kept_unit abbreviations order old new bytes reads.NoMemory took names =
+pub kept_unit : (versions : Versions) (abbreviations : List ℕ) (order : Order) (old new : Option (List ℕ)) (bytes : List ℕ) (e : ReadError) → Consumes old new bytes → (e ≡ refused_memory → NamesTableUnder versions abbreviations order bytes) → KeptSome {X = Unit {0}} old new (Err e)
+kept_unit versions abbreviations order old new bytes (reads.Fault f) took names = tt
+kept_unit versions abbreviations order old new bytes (reads.Io kind) took names = tt
+kept_unit versions abbreviations order old new bytes reads.NoMemory took names =
     let h = names refl in
-    (bytes, omega (arith, head_room order bytes h.header h.count h.stands, length_some h.header.format), took)
+    (bytes, omega (arith, head_room versions order bytes h.header h.count h.stands, length_some h.header.format), took)

@@ -10,7 +10,9 @@ use Rattle.dw_leb.specs.declared.order.Format.{Format}
 use Rattle.dw_leb.specs.Part.{Taken}
 use Rattle.dw_leb.specs.Number.{initial_length, length_limit, length_size}
 use Rattle.dw_leb.specs.Watch.{ConsumesUpTo}
-use Rattle.dw_unit.specs.Unit.{WholeUnit, bytes_of, UnitAt, Fails}
+use Rattle.dw_header.specs.declared.versions.Versions.{Versions}
+use Rattle.dw_header.specs.declared.versions.Versions.TheVariants.{Five}
+use Rattle.dw_unit.specs.Unit.{WholeUnit, bytes_of, UnitAtUnder, FailsUnder}
 
 -- All that a reader had left. A reader that doesn't tell its bytes had some.
 abbrev pub Had : Option (List ℕ) → List ℕ → Type 0
@@ -42,18 +44,29 @@ abbrev pub TakesInUnit : Order → Option (List ℕ) → Option (List ℕ) → T
 TakesInUnit order old new = (all : List ℕ) × (h : Takes old new all) × InUnit order all (length h.taken)
 
 -- the unit stands at the front of all that the reader had left, and exactly its bytes were taken
-abbrev pub TakesUnit : List ℕ → Order → Option (List ℕ) → Option (List ℕ) → WholeUnit → Type 0
-TakesUnit abbreviations order old new u = (all : List ℕ) × Had old all × UnitAt abbreviations order all u (length (bytes_of u)) × Consumes old new (bytes_of u)
+abbrev pub TakesUnitUnder : Versions → List ℕ → Order → Option (List ℕ) → Option (List ℕ) → WholeUnit → Type 0
+TakesUnitUnder versions abbreviations order old new u = (all : List ℕ) × Had old all × UnitAtUnder versions abbreviations order all u (length (bytes_of u)) × Consumes old new (bytes_of u)
 
 -- a fault is the first one of all that the reader had left
-abbrev pub IsFeedError : List ℕ → Order → List ℕ → ReadError → Type 0
-IsFeedError abbreviations order all (reads.Fault f) = Fails order abbreviations all f.section f.offset f.reason
-IsFeedError abbreviations order all reads.NoMemory = Unit {0}
-IsFeedError abbreviations order all (reads.Io kind) = Unit {0}
+abbrev pub IsFeedErrorUnder : Versions → List ℕ → Order → List ℕ → ReadError → Type 0
+IsFeedErrorUnder versions abbreviations order all (reads.Fault f) = FailsUnder versions order abbreviations all f.section f.offset f.reason
+IsFeedErrorUnder versions abbreviations order all reads.NoMemory = Unit {0}
+IsFeedErrorUnder versions abbreviations order all (reads.Io kind) = Unit {0}
 
 -- no unit is read: what the error tells, and that no byte was taken past the unit's end
+abbrev pub TakesNoUnitUnder : Versions → List ℕ → Order → Option (List ℕ) → Option (List ℕ) → ReadError → Type 0
+TakesNoUnitUnder versions abbreviations order old new e = (all : List ℕ) × (h : Takes old new all) × IsFeedErrorUnder versions abbreviations order all e × InUnit order all (length h.taken)
+
+-- ---- where version 5 alone is accepted
+
+abbrev pub TakesUnit : List ℕ → Order → Option (List ℕ) → Option (List ℕ) → WholeUnit → Type 0
+TakesUnit = TakesUnitUnder Five
+
+abbrev pub IsFeedError : List ℕ → Order → List ℕ → ReadError → Type 0
+IsFeedError = IsFeedErrorUnder Five
+
 abbrev pub TakesNoUnit : List ℕ → Order → Option (List ℕ) → Option (List ℕ) → ReadError → Type 0
-TakesNoUnit abbreviations order old new e = (all : List ℕ) × (h : Takes old new all) × IsFeedError abbreviations order all e × InUnit order all (length h.taken)
+TakesNoUnit = TakesNoUnitUnder Five
 
 -- ---- how it is read
 

@@ -9,21 +9,34 @@ use Rattle.dw_leb.specs.declared.order.Order.{Order}
 use Rattle.dw_leb.specs.declared.order.Format.{Format}
 use Rattle.dw_leb.specs.Part.{Taken}
 use Rattle.dw_leb.specs.Number.{initial_length, length_limit, length_size}
-use Rattle.dw_unit.specs.Unit.{Fails}
+use Rattle.dw_header.specs.declared.versions.Versions.{Versions}
+use Rattle.dw_header.specs.declared.versions.Versions.TheVariants.{Five}
+use Rattle.dw_unit.specs.Unit.{FailsUnder}
 
 -- the bytes begin with a length field, and hold all that it tells
 abbrev pub HoldsUnit : Order → List ℕ → Type 0
 HoldsUnit order bytes = (x : Format × ℕ) × Taken (initial_length order 0) bytes length_limit x (length_size x.0) × (length_size x.0 + x.1 ≤ length bytes)
 
 -- they have no fault of an input that ends too early
-abbrev pub NoneIsCut : Type 0
-NoneIsCut = (order : Order) (abbreviations bytes : List ℕ) (offset : ℕ) → HoldsUnit order bytes → Fails order abbreviations bytes Info offset Truncated → ⊥
+abbrev pub NoneIsCutUnder : Versions → Type 0
+NoneIsCutUnder versions = (order : Order) (abbreviations bytes : List ℕ) (offset : ℕ) → HoldsUnit order bytes → FailsUnder versions order abbreviations bytes Info offset Truncated → ⊥
 
 -- their fault is that of the bytes with whatever follows
-abbrev pub FaultsStayInside : Type 0
-FaultsStayInside = (order : Order) (abbreviations bytes tail : List ℕ) (s : SectionId) (offset : ℕ) (reason : Reason) → HoldsUnit order bytes → Fails order abbreviations bytes s offset reason → Fails order abbreviations (bytes ++ tail) s offset reason
+abbrev pub FaultsStayInsideUnder : Versions → Type 0
+FaultsStayInsideUnder versions = (order : Order) (abbreviations bytes tail : List ℕ) (s : SectionId) (offset : ℕ) (reason : Reason) → HoldsUnit order bytes → FailsUnder versions order abbreviations bytes s offset reason → FailsUnder versions order abbreviations (bytes ++ tail) s offset reason
 
 -- and where something follows, the fault is one of the bytes without it
+abbrev pub FaultsComeFromInsideUnder : Versions → Type 0
+FaultsComeFromInsideUnder versions = (order : Order) (abbreviations bytes tail : List ℕ) (s : SectionId) (offset : ℕ) (reason : Reason) → AllByRecursion (λ b. b < 256) abbreviations → AllByRecursion (λ b. b < 256) bytes
+    → HoldsUnit order bytes → FailsUnder versions order abbreviations (bytes ++ tail) s offset reason → FailsUnder versions order abbreviations bytes s offset reason
+
+-- ---- where version 5 alone is accepted
+
+abbrev pub NoneIsCut : Type 0
+NoneIsCut = NoneIsCutUnder Five
+
+abbrev pub FaultsStayInside : Type 0
+FaultsStayInside = FaultsStayInsideUnder Five
+
 abbrev pub FaultsComeFromInside : Type 0
-FaultsComeFromInside = (order : Order) (abbreviations bytes tail : List ℕ) (s : SectionId) (offset : ℕ) (reason : Reason) → AllByRecursion (λ b. b < 256) abbreviations → AllByRecursion (λ b. b < 256) bytes
-    → HoldsUnit order bytes → Fails order abbreviations (bytes ++ tail) s offset reason → Fails order abbreviations bytes s offset reason
+FaultsComeFromInside = FaultsComeFromInsideUnder Five

@@ -10,7 +10,9 @@ use Rattle.dw_form.specs.declared.shape.Ctx.{Ctx}
 use Rattle.dw_form.specs.Form.{attribute}
 use Rattle.dw_abbrev.specs.Table.{Pair, Table, is_null, declared}
 use Rattle.dw_tree.specs.Tree.{Forest, Body, values, declared_pairs, declares_children, unless_declared, bad_root, bad_child, body, children, tree, nesting, nulls, not_null, MoreBreaks, PaddingBreaks}
-use Rattle.dw_header.specs.Header.{added_sizes, numbers, bad_version, bad_type, bad_address_size, fields}
+use Rattle.dw_header.specs.declared.versions.Versions.{Versions}
+use Rattle.dw_header.specs.declared.versions.Versions.TheVariants.{Five, FourAndFive}
+use Rattle.dw_header.specs.Header.{added_sizes, numbers, bad_version_under, bad_type, bad_address_size, five_part, four_part, fields_behind, fields_under}
 use Rattle.dw_unit.specs.Unit.{EntriesBreak}
 use Rattle.dw_feed.specs.NeverTruncated.{NeverTruncated, Judges, After_never_truncated, then_never_truncated, judged_never_truncated, nothing_never_truncated, refused_never_truncated, optional_never_truncated, repeated_never_truncated, Short_never_truncated, uleb_never_truncated, attribute_never_truncated, refuses_unless}
 
@@ -26,16 +28,35 @@ fields4 order format kind = fixed order (offset_size format) then λ _. numbers 
 abbrev fields3 : Order → Format → ℕ → Part (ℕ × (ℕ × List ℕ))
 fields3 order format kind = judged (fixed order 1) bad_address_size then λ _. fields4 order format kind
 
-abbrev fields2 : Order → Format → Part (ℕ × (ℕ × (ℕ × List ℕ)))
-fields2 order format = judged (fixed order 1) bad_type then λ kind. fields3 order format kind
-
-pub fields_never_truncated : (order : Order) (format : Format) → NeverTruncated (fields order format).Break
-fields_never_truncated order format =
-    then_never_truncated (judged (fixed order 2) bad_version) (λ _. fields2 order format) (judged_never_truncated (fixed order 2) bad_version (Short_never_truncated 2) (λ v. refuses_unless (v == 5) BadVersion (λ e. cc))) λ _.
+five_never_truncated : (order : Order) (format : Format) → NeverTruncated (five_part order format).Break
+five_never_truncated order format =
     then_never_truncated (judged (fixed order 1) bad_type) (fields3 order format) (judged_never_truncated (fixed order 1) bad_type (Short_never_truncated 1) (λ v. refuses_unless (nat_lt 0 v && nat_lt v 5) BadUnitType (λ e. cc))) λ kind.
     then_never_truncated (judged (fixed order 1) bad_address_size) (λ _. fields4 order format kind) (judged_never_truncated (fixed order 1) bad_address_size (Short_never_truncated 1) (λ v. refuses_unless (nat_lt 0 v && nat_lt v 9) BadAddressSize (λ e. cc))) λ _.
     then_never_truncated (fixed order (offset_size format)) (λ _. numbers order (added_sizes format kind)) (Short_never_truncated (offset_size format)) λ _.
     numbers_never_truncated order (added_sizes format kind)
+
+four_never_truncated : (order : Order) (format : Format) → NeverTruncated (four_part order format).Break
+four_never_truncated order format =
+    then_never_truncated (fixed order (offset_size format)) (λ _. judged (fixed order 1) bad_address_size) (Short_never_truncated (offset_size format)) λ _.
+    judged_never_truncated (fixed order 1) bad_address_size (Short_never_truncated 1) (λ v. refuses_unless (nat_lt 0 v && nat_lt v 9) BadAddressSize (λ e. cc))
+
+behind_never_truncated : (order : Order) (format : Format) (four : Bool) → NeverTruncated (fields_behind order format four).Break
+behind_never_truncated order format true = four_never_truncated order format
+behind_never_truncated order format false = five_never_truncated order format
+
+version_judges : (versions : Versions) → Judges (bad_version_under versions)
+version_judges Five v = refuses_unless (v == 5) BadVersion (λ e. cc)
+version_judges FourAndFive v = by (v == 5) (v == 4)
+  where
+    by : (b c : Bool) → (if b then None else (if c then None else Some BadVersion)) ≡ Some Truncated → ⊥
+    by true c h = cc
+    by false true h = cc
+    by false false h = cc
+
+pub fields_never_truncated : (versions : Versions) (order : Order) (format : Format) → NeverTruncated (fields_under versions order format).Break
+fields_never_truncated versions order format =
+    then_never_truncated (judged (fixed order 2) (bad_version_under versions)) (λ version. fields_behind order format (version == 4)) (judged_never_truncated (fixed order 2) (bad_version_under versions) (Short_never_truncated 2) (version_judges versions)) λ version.
+    behind_never_truncated order format (version == 4)
 
 -- ---- entries
 

@@ -1,5 +1,6 @@
-//! The law of the unit's end. It calls nothing.
-ghost use Rattle.dw_feed.specs.Laws.{NoneIsCut, FaultsStayInside, FaultsComeFromInside};
+//! The law of the unit's end. It calls nothing. A clause that names no versions speaks of version 5 alone.
+ghost use Rattle.dw_header.specs.declared.versions.Versions.{Versions};
+ghost use Rattle.dw_feed.specs.Laws.{NoneIsCut, NoneIsCutUnder, FaultsStayInside, FaultsStayInsideUnder, FaultsComeFromInside, FaultsComeFromInsideUnder};
 
 /// Bytes that begin with an initial length and hold all that it announces (sections 7.2.2 and
 /// 7.5.1) have no fault `Truncated` in `.debug_info`, and the same fault whatever bytes follow. A
@@ -9,4 +10,7 @@ pub fn units_end_as_their_length_says()
     ensures none_is_cut { NoneIsCut }
     ensures faults_stay { FaultsStayInside }
     ensures faults_come { FaultsComeFromInside }
+    ensures none_is_cut_under { (versions : Versions) → NoneIsCutUnder versions }
+    ensures faults_stay_under { (versions : Versions) → FaultsStayInsideUnder versions }
+    ensures faults_come_under { (versions : Versions) → FaultsComeFromInsideUnder versions }
 {}

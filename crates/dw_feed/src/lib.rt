@@ -1,4 +1,5 @@
-//! Units of DWARF 5 from any reader, in whatever pieces their bytes come (section 7.5).
+//! Units of DWARF 5, and of DWARF 4 where a caller asks for them, from any reader, in whatever pieces
+//! their bytes come (section 7.5).
 #![tactic(auto)]
 
 mod bytes;
@@ -6,4 +7,4 @@ pub mod laws;
 mod reader;
 
 pub use bytes::unit_bytes;
-pub use reader::read_unit_from;
+pub use reader::{read_unit_from, read_unit_from_as};

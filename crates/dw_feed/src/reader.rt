@@ -1,16 +1,16 @@
 //! Reading a unit from a reader.
 ghost use Rattle.std.specs.Prelude.{◌≡◌, None, IfOk, IfErr};
 ghost use Rattle.dw_leb.specs.Watch.{inner_of, fault_of, reader_fault, KeptSome};
-ghost use Rattle.dw_feed.specs.Feed.{TakesUnit, TakesNoUnit};
+ghost use Rattle.dw_feed.specs.Feed.{TakesUnit, TakesUnitUnder, TakesNoUnit, TakesNoUnitUnder};
 
 use crate::bytes::unit_bytes;
 use dw_abbrev::Tables;
 use dw_leb::{Order, ReadError, Watched};
-use dw_unit::{Unit, read_unit};
+use dw_unit::{Unit, Versions, read_unit_as};
 use std::alloc::Global;
 use std::io::Read;
 
-/// The unit at the front of what the reader has left, in whatever pieces its bytes come. At `Ok`
+/// The unit of version 5 at the front of what the reader has left, in whatever pieces its bytes come. At `Ok`
 /// exactly the unit's bytes were taken.
 ///
 /// A fault is the first one of all that the reader had left, as `read_unit` of `dw_unit` returns
@@ -38,7 +38,34 @@ pub fn read_unit_from<R: Read>(
     ensures tables { tables.new ≡ tables.old }
     ensures fault { fault_of reader.new ≡ reader_fault result }
 {
+    read_unit_from_as(alloc, order, Versions::Five, tables, reader)
+}
+
+/// The unit of one of these versions at the front of what the reader has left, in whatever pieces its
+/// bytes come, as `read_unit_from` gives it for version 5. At `Ok` exactly the unit's bytes were taken.
+///
+/// A fault is the first one of all that the reader had left, as `read_unit_as` of `dw_unit` returns it.
+/// `Truncated`, `Io` and `NoMemory` come, and bytes are taken, as `read_unit_from` says. Memory grows by the
+/// bytes that came, never by a length that was only announced.
+pub fn read_unit_from_as<R: Read>(
+    alloc: Global,
+    order: Order,
+    versions: Versions,
+    tables: &mut Tables<'_>,
+    reader: &mut Watched<R>,
+) -> Result<Unit, ReadError>
+    requires { fault_of reader.old ≡ None }
+    ensures found { IfOk result (TakesUnitUnder versions tables.old order
+        (R.remaining (inner_of reader.old))
+        (R.remaining (inner_of reader.new))) }
+    ensures broken { IfErr result (TakesNoUnitUnder versions tables.old order
+        (R.remaining (inner_of reader.old))
+        (R.remaining (inner_of reader.new))) }
+    ensures memory { KeptSome (R.remaining (inner_of reader.old)) (R.remaining (inner_of reader.new)) result }
+    ensures tables { tables.new ≡ tables.old }
+    ensures fault { fault_of reader.new ≡ reader_fault result }
+{
     let bytes = unit_bytes(alloc, order, reader)?;
-    let (unit, _) = read_unit(alloc, order, tables, bytes.as_slice())?;
+    let (unit, _) = read_unit_as(alloc, order, versions, tables, bytes.as_slice())?;
     Ok(unit)
 }

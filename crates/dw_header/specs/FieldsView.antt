@@ -10,4 +10,4 @@ abbrev pub after_version : HeaderFields → ℕ × (ℕ × (ℕ × List ℕ))
 after_version f = (kind_number f.kind, after_type f)
 
 abbrev pub all_fields : HeaderFields → Fields
-all_fields f = (5, after_version f)
+all_fields f = record { kind = f.kind; address_size = f.address_size; abbrev_offset = f.abbrev_offset }

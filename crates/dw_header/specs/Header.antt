@@ -1,5 +1,5 @@
--- Unit headers (section 7.5.1).
-use Rattle.std.specs.Prelude.{◌≤◌, ◌<◌, ◌^◌, ℕ, List, [], ◌∷◌, Option, Some, None, nat_lt, ◌==◌, if◌then◌else◌, ◌&&◌}
+-- Unit headers (section 7.5.1; of version 4, section 7.5.1.1 of DWARF 4).
+use Rattle.std.specs.Prelude.{◌≤◌, ◌<◌, ◌^◌, ℕ, List, [], ◌∷◌, Option, Some, None, Bool, true, false, nat_lt, ◌==◌, if◌then◌else◌, ◌&&◌}
 use Rattle.dw_leb.specs.declared.errors.Reason.{Reason}
 use Rattle.dw_leb.specs.declared.errors.Reason.TheVariants.{BadVersion, BadUnitType, BadAddressSize}
 use Rattle.dw_leb.specs.Part.{Part, ◌then◌, judged, seen, nothing}
@@ -8,7 +8,9 @@ use Rattle.dw_leb.specs.declared.order.Format.{Format}
 use Rattle.dw_leb.specs.Number.{offset_size, fixed}
 use Rattle.dw_form.specs.declared.shape.Ctx.{Ctx}
 use Rattle.dw_header.specs.declared.kind.Kind.{Kind}
-use Rattle.dw_header.specs.declared.kind.Kind.TheVariants.{Compile, Partial, TypeUnit, Skeleton}
+use Rattle.dw_header.specs.declared.kind.Kind.TheVariants.{Compile, Partial, TypeUnit, Skeleton, Four}
+use Rattle.dw_header.specs.declared.versions.Versions.{Versions}
+use Rattle.dw_header.specs.declared.versions.Versions.TheVariants.{Five, FourAndFive}
 
 pub record Header : Type 0 where
   pub order : Order
@@ -17,17 +19,45 @@ pub record Header : Type 0 where
   pub address_size : ℕ
   pub abbrev_offset : ℕ
 
+-- the version of a unit of this kind
+abbrev pub version_of : Kind → ℕ
+version_of Compile = 5
+version_of (TypeUnit signature offset) = 5
+version_of Partial = 5
+version_of (Skeleton id) = 5
+version_of Four = 4
+
+-- a unit of this kind is of a version that is accepted
+abbrev pub Accepts : Versions → Kind → Type 0
+Accepts FourAndFive kind = Unit {0}
+Accepts Five Compile = Unit {0}
+Accepts Five (TypeUnit signature offset) = Unit {0}
+Accepts Five Partial = Unit {0}
+Accepts Five (Skeleton id) = Unit {0}
+Accepts Five Four = ⊥
+
+-- the fewest versions that accept a unit of this kind
+abbrev pub versions_for : Kind → Versions
+versions_for Compile = Five
+versions_for (TypeUnit signature offset) = Five
+versions_for Partial = Five
+versions_for (Skeleton id) = Five
+versions_for Four = FourAndFive
+
+-- the unit type; version 4 has none
 abbrev pub kind_number : Kind → ℕ
 kind_number Compile = 1
 kind_number (TypeUnit signature offset) = 2
 kind_number Partial = 3
 kind_number (Skeleton id) = 4
+kind_number Four = 0
 
 abbrev pub kind_fields : Kind → List ℕ
 kind_fields Compile = []
 kind_fields (TypeUnit signature offset) = signature ∷ offset ∷ []
 kind_fields Partial = []
 kind_fields (Skeleton id) = id ∷ []
+kind_fields Four = []
 
 -- the sizes of the fields that a unit type adds
 abbrev pub added_sizes : Format → ℕ → List ℕ
@@ -46,8 +76,10 @@ abbrev pub numbers : Order → List ℕ → Part (List ℕ)
 numbers order [] = seen no_more nothing
 numbers order (n ∷ ns) = seen first_and_rest (fixed order n then λ _. numbers order ns)
 
-abbrev pub bad_version : ℕ → Option Reason
-bad_version x = if x == 5 then None else Some BadVersion
+-- versions that are accepted
+abbrev pub bad_version_under : Versions → ℕ → Option Reason
+bad_version_under Five x = if x == 5 then None else Some BadVersion
+bad_version_under FourAndFive x = if x == 5 then None else (if x == 4 then None else Some BadVersion)
 
 abbrev pub bad_type : ℕ → Option Reason
 bad_type x = if nat_lt 0 x && nat_lt x 5 then None else Some BadUnitType
@@ -55,20 +87,68 @@ bad_type x = if nat_lt 0 x && nat_lt x 5 then None else Some BadUnitType
 abbrev pub bad_address_size : ℕ → Option Reason
 bad_address_size x = if nat_lt 0 x && nat_lt x 9 then None else Some BadAddressSize
 
-abbrev pub Fields : Type 0
-Fields = ℕ × (ℕ × (ℕ × (ℕ × List ℕ)))
+-- what the fields of a header say; the kind tells which fields there are
+pub record Fields : Type 0 where
+  pub kind : Kind
+  pub address_size : ℕ
+  pub abbrev_offset : ℕ
 
--- version, unit type, address size, abbreviation offset, and what the type adds
-abbrev pub fields : Order → Format → Part Fields
-fields order format =
-    judged (fixed order 2) bad_version
-    then λ _. judged (fixed order 1) bad_type
+-- what follows version 5: unit type, address size, abbreviation offset, and what the type adds
+abbrev pub FiveFields : Type 0
+FiveFields = ℕ × (ℕ × (ℕ × List ℕ))
+
+abbrev pub five_part : Order → Format → Part FiveFields
+five_part order format =
+    judged (fixed order 1) bad_type
     then λ kind. judged (fixed order 1) bad_address_size
     then λ _. fixed order (offset_size format)
     then λ _. numbers order (added_sizes format kind)
 
+abbrev pub five_values : ℕ → ℕ → ℕ → List ℕ → Option FiveFields
+five_values number address_size abbrev_offset added = Some (number, (address_size, (abbrev_offset, added)))
+
+abbrev pub five_view : Kind → ℕ → ℕ → Option FiveFields
+five_view Compile a o = five_values 1 a o []
+five_view (TypeUnit signature offset) a o = five_values 2 a o (signature ∷ offset ∷ [])
+five_view Partial a o = five_values 3 a o []
+five_view (Skeleton id) a o = five_values 4 a o (id ∷ [])
+five_view Four a o = None
+
+-- what follows version 4: abbreviation offset and address size
+abbrev pub FourFields : Type 0
+FourFields = ℕ × ℕ
+
+abbrev pub four_part : Order → Format → Part FourFields
+four_part order format = fixed order (offset_size format) then λ _. judged (fixed order 1) bad_address_size
+
+abbrev pub four_values : ℕ → ℕ → Option FourFields
+four_values abbrev_offset address_size = Some (abbrev_offset, address_size)
+
+abbrev pub four_view : Kind → ℕ → ℕ → Option FourFields
+four_view Compile a o = None
+four_view (TypeUnit signature offset) a o = None
+four_view Partial a o = None
+four_view (Skeleton id) a o = None
+four_view Four a o = four_values o a
+
+-- what follows a version that is 4, or isn't
+abbrev pub fields_behind : Order → Format → Bool → Part Fields
+fields_behind order format true = seen (λ f. four_view f.kind f.address_size f.abbrev_offset) (four_part order format)
+fields_behind order format false = seen (λ f. five_view f.kind f.address_size f.abbrev_offset) (five_part order format)
+
+abbrev pub with_version : Fields → Option (ℕ × Fields)
+with_version f = Some (version_of f.kind, f)
+
+-- The version, and what follows it. What is accepted says nothing of how the fields are spelled.
+abbrev pub fields_under : Versions → Order → Format → Part Fields
+fields_under versions order format = seen with_version (judged (fixed order 2) (bad_version_under versions) then λ version. fields_behind order format (version == 4))
+
+-- the same where version 5 alone is accepted
+abbrev pub fields : Order → Format → Part Fields
+fields = fields_under Five
+
 abbrev pub fields_of : Header → Fields
-fields_of h = (5, (kind_number h.kind, (h.address_size, (h.abbrev_offset, kind_fields h.kind))))
+fields_of h = record { kind = h.kind; address_size = h.address_size; abbrev_offset = h.abbrev_offset }
 
 abbrev pub context_of : Header → Ctx
 context_of h = record { order = h.order; format = h.format; address_size = h.address_size }

@@ -9,45 +9,44 @@ use Rattle.dw_leb.specs.Reader.{Outcome, Found, Broken}
 use Rattle.dw_leb.specs.ReadNumber.{read_length}
 use Rattle.dw_leb.specs.Decide.{Says, AreBytes, AreBytes-behind}
 use Rattle.dw_leb.specs.DecideNumber.{initial_length_decides, initial-size, initial_end}
-use Rattle.dw_header.specs.Header.{Header, Fields, fields, fields_of}
-use Rattle.dw_header.specs.HeaderPlace.{HeaderBreaks, HeaderAt, header_size}
+use Rattle.dw_header.specs.declared.versions.Versions.{Versions}
+use Rattle.dw_header.specs.Header.{Header, Fields, fields, fields_under, fields_of}
+use Rattle.dw_header.specs.HeaderPlace.{HeaderBreaksUnder, HeaderAtUnder, header_size}
 use Rattle.dw_header.specs.ReadHeader.{read_fields, header_from, Heading, head_fields, head_length, read_head}
 use Rattle.dw_header.specs.DecideHeader.{fields_decides}
-use Rattle.dw_header.specs.FittingHeaders.{kind_there}
 
-abbrev pub HeadSays : Order → List ℕ → Outcome Heading → Type 0
-HeadSays order bytes (Found x size) = HeaderAt order bytes x.0 x.1
-HeadSays order bytes (Broken offset reason) = HeaderBreaks order bytes offset reason
+abbrev pub HeadSays : Versions → Order → List ℕ → Outcome Heading → Type 0
+HeadSays versions order bytes (Found x size) = HeaderAtUnder versions order bytes x.0 x.1
+HeadSays versions order bytes (Broken offset reason) = HeaderBreaksUnder versions order bytes offset reason
 
-fields_say : (order : Order) (bytes : List ℕ) (format : Format) (n : ℕ) (after : List ℕ) (size : ℕ) → (initial_length order 0).Fits (format, n) → bytes ≡ (length_field order).spell (format, n) ++ after → length ((length_field order).spell (format, n)) ≡ size
-    → (o : Outcome Fields) → Says (fields order format) after n o → HeadSays order bytes (head_fields order format n size o)
-fields_say order bytes format n after size fits split sized (Broken own reason) h = inr (format, n, after, own, fits, split, ap (λ (k : ℕ). k + own) (sym sized), h)
-fields_say order bytes format n after size fits split sized (Found x more) h =
-    let same : fields_of (header_from order format x) ≡ x = kind_there format order x h.fits in (
-      refl,
-      h.rest,
-      record {
-        length_fits = fits;
-        fields_fit = subst (λ (z : Fields). (fields order format).Fits z) (sym same) h.fits;
-        split = split ∙ ap (λ (b : List ℕ). (length_field order).spell (format, n) ++ b) (h.split ∙ ap (λ (z : Fields). (fields order format).spell z ++ h.rest) (sym same));
-        within = subst (λ (z : Fields). length ((fields order format).spell z) ≤ n) (sym same) (omega (arith, h.is_size, h.within));
-      },
-    )
+fields_say : (versions : Versions) (order : Order) (bytes : List ℕ) (format : Format) (n : ℕ) (after : List ℕ) (size : ℕ) → (initial_length order 0).Fits (format, n) → bytes ≡ (length_field order).spell (format, n) ++ after → length ((length_field order).spell (format, n)) ≡ size
+    → (o : Outcome Fields) → Says (fields_under versions order format) after n o → HeadSays versions order bytes (head_fields order format n size o)
+fields_say versions order bytes format n after size fits split sized (Broken own reason) h = inr (format, n, after, own, fits, split, ap (λ (k : ℕ). k + own) (sym sized), h)
+fields_say versions order bytes format n after size fits split sized (Found x more) h = (
+  refl,
+  h.rest,
+  record {
+    length_fits = fits;
+    fields_fit = h.fits;
+    split = split ∙ ap (λ (b : List ℕ). (length_field order).spell (format, n) ++ b) h.split;
+    within = omega (arith, h.is_size, h.within);
+  },
+)
 
-length_say : (order : Order) (bytes : List ℕ) → AreBytes bytes → (o : Outcome (Format × ℕ)) → Says (initial_length order 0) bytes length_limit o → HeadSays order bytes (head_length order bytes o)
-length_say order bytes fit (Broken offset reason) h = inl h
-length_say order bytes fit (Found x size) h =
+length_say : (versions : Versions) (order : Order) (bytes : List ℕ) → AreBytes bytes → (o : Outcome (Format × ℕ)) → Says (initial_length order 0) bytes length_limit o → HeadSays versions order bytes (head_length versions order bytes o)
+length_say versions order bytes fit (Broken offset reason) h = inl h
+length_say versions order bytes fit (Found x size) h =
     let s : List ℕ = (length_field order).spell x in
     let d : drop size bytes ≡ h.rest = ap (λ (t : List ℕ). drop size t) h.split ∙ drop_at s h.rest size h.is_size in
     let fit2 : AreBytes h.rest = AreBytes-behind s h.rest (rw h.split at fit) in
-    rw d (fields_say order bytes x.0 x.1 h.rest size h.fits h.split h.is_size (read_fields order x.0 h.rest x.1) ((fields_decides order x.0).says h.rest x.1 fit2))
+    rw d (fields_say versions order bytes x.0 x.1 h.rest size h.fits h.split h.is_size (read_fields versions order x.0 h.rest x.1) ((fields_decides versions order x.0).says h.rest x.1 fit2))
 
-pub head_says : (order : Order) (bytes : List ℕ) → AreBytes bytes → HeadSays order bytes (read_head order bytes)
-head_says order bytes fit = length_say order bytes fit (read_length order 0 bytes length_limit) ((initial_length_decides order 0).says bytes length_limit fit)
+pub head_says : (versions : Versions) (order : Order) (bytes : List ℕ) → AreBytes bytes → HeadSays versions order bytes (read_head versions order bytes)
+head_says versions order bytes fit = length_say versions order bytes fit (read_length order 0 bytes length_limit) ((initial_length_decides order 0).says bytes length_limit fit)
 
 -- ---- a header that stands at the front
 
-module _ (order : Order) (bytes : List ℕ) (h : Header) (n : ℕ) (stands : HeaderAt order bytes h n) where
+module _ (versions : Versions) (order : Order) (bytes : List ℕ) (h : Header) (n : ℕ) (stands : HeaderAtUnder versions order bytes h n) where
   same_fields : length ((fields order h.format).spell (fields_of h)) ≡ length ((fields h.order h.format).spell (fields_of h))
   same_fields = ap (λ (q : Order). length ((fields q h.format).spell (fields_of h))) (sym stands.0)
 

@@ -3,7 +3,7 @@ ghost use Rattle.std.specs.Prelude.{◌≡◌, ◌≤◌, ◌<◌, ◌+◌, ◌^
 ghost use Rattle.dw_leb.specs.Number.{offset_size};
 ghost use Rattle.dw_header.specs.FieldsView.{all_fields};
 ghost use Rattle.dw_header.specs.ReadHeader.{header_from};
-ghost use Rattle.dw_header.specs.Header.{HeaderFits, KindFits, context_of, fields as header_part};
+ghost use Rattle.dw_header.specs.Header.{HeaderFits, KindFits, context_of};
 ghost use Rattle.dw_header.specs.HeaderPlace.{header_size};
 
 use crate::fields::HeaderFields;
@@ -37,8 +37,9 @@ impl Model for Header {
 }
 
 impl Header {
-    /// A header of these fields. None exactly where the address size isn't 1 to 8, or an offset
-    /// (the abbreviation offset, and a type unit's type offset) doesn't fit the format's size.
+    /// A header of these fields, of version 4 where the kind is `Four`, and else of version 5. None exactly
+    /// where the address size isn't 1 to 8, or an offset (the abbreviation offset, and a type unit's type
+    /// offset) doesn't fit the format's size.
     pub fn new(
         order: Order,
         format: Format,
@@ -65,9 +66,8 @@ impl Header {
     }
 
     /// A header of fields that fit.
-    #[tactic(auto, using(crate::specs::FittingHeaders::header_fits, crate::specs::FittingHeaders::header_back))]
     pub(crate) fn of(order: Order, format: Format, fields: HeaderFields) -> Header
-        requires { (header_part order format).Fits (all_fields fields) }
+        requires { HeaderFits (header_from order format (all_fields fields)) }
         ensures { result ≡ header_from order format (all_fields fields) }
     {
         Header {

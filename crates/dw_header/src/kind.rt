@@ -1,6 +1,7 @@
 //! Kinds of units.
 
-/// What kind of unit a header begins (section 7.5.1), with the fields that the kind adds.
+/// What kind of unit a header begins (section 7.5.1), with the fields that the kind adds. All kinds but
+/// `Four` are of version 5.
 #[derive(Clone, Copy, Debug, PartialEq, Eq, Hash)]
 pub enum Kind {
     /// A full compilation unit (`DW_UT_compile`).
@@ -19,4 +20,6 @@ pub enum Kind {
         /// The identifier of the split unit.
         dwo_id: u64,
     },
+    /// A unit of version 4, which has no unit type (section 7.5.1.1 of DWARF 4).
+    Four,
 }

@@ -1,5 +1,5 @@
-//! Unit headers of DWARF 5 with their initial lengths: read, made and written (sections 7.2.2, 7.4 and
-//! 7.5.1). No call takes memory.
+//! Unit headers of DWARF 5, and of DWARF 4 where a caller asks for them, with their initial lengths:
+//! read, made and written (sections 7.2.2, 7.4 and 7.5.1). No call takes memory.
 #![tactic(auto)]
 
 mod fields;
@@ -7,9 +7,11 @@ mod head;
 mod header;
 mod kind;
 pub mod laws;
+mod versions;
 mod writer;
 
-pub use head::read_header;
+pub use head::{read_header, read_header_as};
 pub use header::Header;
 pub use kind::Kind;
+pub use versions::Versions;
 pub use writer::write_header;

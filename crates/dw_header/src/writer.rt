@@ -1,8 +1,8 @@
 //! Writing a header and its unit_length.
 ghost use Rattle.std.specs.Prelude.{◌≡◌, ◌≤◌, ◌++◌, None};
 ghost use Rattle.dw_leb.specs.Watch.{inner_of, fault_of, writer_fault, Wrote};
-ghost use Rattle.dw_leb.specs.Number.{FitsLength};
-ghost use Rattle.dw_header.specs.Header.{fields, fields_of, numbers, added_sizes, kind_number, kind_fields, KindFits};
+ghost use Rattle.dw_leb.specs.Number.{FitsLength, fixed};
+ghost use Rattle.dw_header.specs.Header.{fields, fields_of, five_part, four_part, numbers, added_sizes, kind_number, kind_fields, KindFits};
 ghost use Rattle.dw_header.specs.HeaderPlace.{header_bytes};
 
 use crate::header::Header;
@@ -39,6 +39,18 @@ pub fn write_header<W: Write>(
 pub(crate) fn field_bytes(header: Header) -> ArrayVec<u8, 32>
     ensures spelling { result.items ≡ (fields header.order header.format).spell (fields_of header) }
 {
+    match header.kind() {
+        Kind::Four => four_bytes(header),
+        Kind::Compile | Kind::Partial | Kind::TypeUnit { .. } | Kind::Skeleton { .. } => five_bytes(
+            header,
+        ),
+    }
+}
+
+/// The fields of a header of version 5.
+fn five_bytes(header: Header) -> ArrayVec<u8, 32>
+    ensures spelling { result.items ≡ (fixed header.order 2).spell 5 ++ (five_part header.order header.format).spell (kind_number header.kind, (header.address_size, (header.abbrev_offset, kind_fields header.kind))) }
+{
     let (order, format) = (header.order(), header.format());
     let context = header.context();
     let mut bytes = ArrayVec::new();
@@ -50,7 +62,21 @@ pub(crate) fn field_bytes(header: Header) -> ArrayVec<u8, 32>
     bytes
 }
 
-/// The number of a kind (section 7.5.1).
+/// The fields of a header of version 4 (section 7.5.1.1 of DWARF 4).
+fn four_bytes(header: Header) -> ArrayVec<u8, 32>
+    ensures spelling { result.items ≡ (fixed header.order 2).spell 4 ++ (four_part header.order header.format).spell (header.abbrev_offset, header.address_size) }
+{
+    let (order, format) = (header.order(), header.format());
+    let context = header.context();
+    let mut bytes = ArrayVec::new();
+    let _fits = bytes.try_extend_from_slice(write_fixed(order, 2, 4).as_slice());
+    let offset = write_fixed(order, format.offset_size(), header.abbrev_offset() as u128);
+    let _fits = bytes.try_extend_from_slice(offset.as_slice());
+    let _fits = bytes.try_extend_from_slice(&[context.address_size]);
+    bytes
+}
+
+/// The number of a kind (section 7.5.1). A unit of version 4 has none: 0.
 fn unit_type(kind: Kind) -> u8
     ensures number { result ≡ kind_number kind }
     ensures small { result ≤ 4 }
@@ -60,6 +86,7 @@ fn unit_type(kind: Kind) -> u8
         Kind::TypeUnit { .. } => 2,
         Kind::Partial => 3,
         Kind::Skeleton { .. } => 4,
+        Kind::Four => 0,
     }
 }
 
@@ -69,7 +96,7 @@ fn added_bytes(order: Order, format: Format, kind: Kind) -> ArrayVec<u8, 16>
     ensures spelling { result.items ≡ (numbers order (added_sizes format (kind_number kind))).spell (kind_fields kind) }
 {
     match kind {
-        Kind::Compile | Kind::Partial => ArrayVec::new(),
+        Kind::Compile | Kind::Partial | Kind::Four => ArrayVec::new(),
         Kind::TypeUnit {
             signature,
             type_offset,

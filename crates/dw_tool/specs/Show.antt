@@ -7,7 +7,7 @@ use Rattle.dw_form.specs.Form.{Value, Num, Wide, Uleb, Sleb, Block, Text, Presen
 use Rattle.dw_abbrev.specs.Table.{declared}
 use Rattle.dw_tree.specs.Lent.{LentAttribute, EntryAt, attributes_of, code_of, entries_of, tag_of}
 use Rattle.dw_header.specs.declared.kind.Kind.{Kind}
-use Rattle.dw_header.specs.declared.kind.Kind.TheVariants.{Compile, Partial, TypeUnit, Skeleton}
+use Rattle.dw_header.specs.declared.kind.Kind.TheVariants.{Compile, Partial, TypeUnit, Skeleton, Four}
 use Rattle.dw_header.specs.Header.{Header}
 use Rattle.dw_unit.specs.Unit.{WholeUnit, bytes_of, tree_of}
 use Rattle.dw_tool.specs.Text.{attribute_text, block, hexadecimal, quoted, tag_text}
@@ -60,6 +60,7 @@ kind_text Compile = codes "compile"
 kind_text Partial = codes "partial"
 kind_text (TypeUnit signature offset) = codes "type"
 kind_text (Skeleton id) = codes "skeleton"
+kind_text Four = codes "four"
 
 abbrev pub format_text : Format → List ℕ
 format_text Dwarf32 = codes " 32"
@@ -71,6 +72,7 @@ added_text Compile = []
 added_text Partial = []
 added_text (TypeUnit signature offset) = labelled (codes " signature ") signature ++ labelled (codes " type ") offset
 added_text (Skeleton id) = labelled (codes " dwo ") id
+added_text Four = []
 
 -- the unit's size, the offset of its abbreviation table, and the size of an address
 abbrev pub header_sizes : Header → ℕ → List ℕ

@@ -91,6 +91,7 @@ fn push_kind<W: Write>(out: &mut Output<'_, W>, kind: Kind) -> Result<(), WriteE
         Kind::Partial => out.append(b"partial"),
         Kind::TypeUnit { .. } => out.append(b"type"),
         Kind::Skeleton { .. } => out.append(b"skeleton"),
+        Kind::Four => out.append(b"four"),
     }
 }
 
@@ -123,7 +124,7 @@ fn push_added<W: Write>(out: &mut Output<'_, W>, kind: Kind) -> Result<(), Write
     ensures { Puts W.contents out.old out.new (added_text kind) result }
 {
     match kind {
-        Kind::Compile | Kind::Partial => Ok(()),
+        Kind::Compile | Kind::Partial | Kind::Four => Ok(()),
         Kind::TypeUnit {
             signature,
             type_offset,

@@ -21,7 +21,6 @@ use Rattle.dw_tree.specs.Steps.{Growing, TreeAt, settled, settle_by, settle, beg
 use Rattle.dw_tree.specs.Next.{next_is}
 use Rattle.dw_tree.specs.Ends.{begun_end, value_end, closed_end}
 use Rattle.dw_header.specs.Header.{fields, fields_of, context_of}
-use Rattle.dw_header.specs.FittingHeaders.{fields_fit}
 use Rattle.dw_unit.specs.Unit.{WholeUnit, body_bytes}
 use Rattle.dw_unit.specs.UnitView.{IsUnit}
 use Rattle.dw_header.specs.HeaderPlace.{header_size}
@@ -333,7 +332,7 @@ module _ (d : Drafted) (tree : Growing) (padded_by size : ℕ) (i : IsDrafted d 
         record {
           fits = record {
             length_fits = length_fits d.header.order d.header.format (length body) (omega (arith, body_size, sized, i.short));
-            fields_fit = fields_fit d.header i.header_fits;
+            header_fits = i.header_fits;
             tree_fits = tree_fits;
             padding_fits = i.nulls_fit;
           };

@@ -6,90 +6,93 @@ use Rattle.dw_leb.specs.declared.errors.Reason.TheVariants.{Truncated}
 use Rattle.dw_leb.specs.declared.order.Order.{Order}
 use Rattle.dw_abbrev.specs.Table.{Table, TableAt}
 use Rattle.dw_form.specs.declared.shape.Ctx.{Ctx}
-use Rattle.dw_header.specs.Header.{Header}
-use Rattle.dw_header.specs.HeaderPlace.{HeaderAt}
+use Rattle.dw_header.specs.declared.versions.Versions.{Versions}
+use Rattle.dw_header.specs.declared.versions.Versions.TheVariants.{Five}
+use Rattle.dw_header.specs.Header.{Header, Accepts}
+use Rattle.dw_header.specs.HeaderPlace.{HeaderAtUnder}
 use Rattle.dw_tree.specs.Offset.{offset_at}
 use Rattle.dw_tree.specs.Tree.{Tree, tree}
 use Rattle.dw_tree.specs.Spelling.{tree_bytes}
 use Rattle.dw_tree.specs.Steps.{TreeAt}
 use Rattle.dw_tree.specs.Lent.{EntryAt, entries_of, end_offset_of, LeadsTo}
-use Rattle.dw_unit.specs.Unit.{WholeUnit, bytes_of, tree_of, UnitFits, UnitFront, UnitBreaks, UnitAt, Fails, ReadAs}
+use Rattle.dw_unit.specs.Unit.{WholeUnit, bytes_of, tree_of, UnitFits, UnitFrontUnder, UnitBreaksUnder, UnitAtUnder, FailsUnder, ReadAs, ReadAsUnder}
 use Rattle.dw_leb.specs.declared.errors.SectionId.{SectionId}
 use Rattle.dw_leb.specs.declared.errors.SectionId.TheVariants.{Info}
 
--- ---- units over a table that is handed in
+-- ---- units over a table that is handed in; the versions that are accepted are told
 
 -- bytes have at most one unit at the front, of one size
-abbrev pub OneUnitOver : Type 0
-OneUnitOver = (order : Order) (bytes : List ℕ) (u v : WholeUnit) (m n : ℕ) → u.table ≡ v.table → UnitFront order bytes u m → UnitFront order bytes v n → (u ≡ v) × (m ≡ n)
+abbrev pub OneUnitOverUnder : Versions → Type 0
+OneUnitOverUnder versions = (order : Order) (bytes : List ℕ) (u v : WholeUnit) (m n : ℕ) → u.table ≡ v.table → UnitFrontUnder versions order bytes u m → UnitFrontUnder versions order bytes v n → (u ≡ v) × (m ≡ n)
 
 -- they break at one place, for one reason
-abbrev pub OneBreak : Type 0
-OneBreak = (order : Order) (t : Table) (bytes : List ℕ) (m n : ℕ) (r q : Reason) → UnitBreaks order t bytes m r → UnitBreaks order t bytes n q → (m ≡ n) × (r ≡ q)
+abbrev pub OneBreakUnder : Versions → Type 0
+OneBreakUnder versions = (order : Order) (t : Table) (bytes : List ℕ) (m n : ℕ) (r q : Reason) → UnitBreaksUnder versions order t bytes m r → UnitBreaksUnder versions order t bytes n q → (m ≡ n) × (r ≡ q)
 
 -- they have at most one of a unit at the front and a break
-abbrev pub NotUnitAndBreak : Type 0
-NotUnitAndBreak = (order : Order) (bytes : List ℕ) (u : WholeUnit) (size offset : ℕ) (reason : Reason) → UnitFront order bytes u size → UnitBreaks order u.table bytes offset reason → ⊥
+abbrev pub NotUnitAndBreakUnder : Versions → Type 0
+NotUnitAndBreakUnder versions = (order : Order) (bytes : List ℕ) (u : WholeUnit) (size offset : ℕ) (reason : Reason) → UnitFrontUnder versions order bytes u size → UnitBreaksUnder versions order u.table bytes offset reason → ⊥
 
 -- every list of bytes has one
-abbrev pub UnitOrBreak : Type 0
-UnitOrBreak = (order : Order) (t : Table) (bytes : List ℕ) → AllByRecursion (λ b. b < 256) bytes
-    → ((u : WholeUnit) × (size : ℕ) × (u.table ≡ t) × UnitFront order bytes u size) ⊎ ((offset : ℕ) × (reason : Reason) × UnitBreaks order t bytes offset reason)
+abbrev pub UnitOrBreakUnder : Versions → Type 0
+UnitOrBreakUnder versions = (order : Order) (t : Table) (bytes : List ℕ) → AllByRecursion (λ b. b < 256) bytes
+    → ((u : WholeUnit) × (size : ℕ) × (u.table ≡ t) × UnitFrontUnder versions order bytes u size) ⊎ ((offset : ℕ) × (reason : Reason) × UnitBreaksUnder versions order t bytes offset reason)
 
 -- a unit at the front stays there whatever bytes follow
-abbrev pub FrontsStay : Type 0
-FrontsStay = (order : Order) (bytes tail : List ℕ) (u : WholeUnit) (size : ℕ) → UnitFront order bytes u size → UnitFront order (bytes ++ tail) u size
+abbrev pub FrontsStayUnder : Versions → Type 0
+FrontsStayUnder versions = (order : Order) (bytes tail : List ℕ) (u : WholeUnit) (size : ℕ) → UnitFrontUnder versions order bytes u size → UnitFrontUnder versions order (bytes ++ tail) u size
 
 -- and so does a break other than Truncated
-abbrev pub BreaksStay : Type 0
-BreaksStay = (order : Order) (t : Table) (bytes tail : List ℕ) (offset : ℕ) (reason : Reason) → reason ≢ Truncated → UnitBreaks order t bytes offset reason → UnitBreaks order t (bytes ++ tail) offset reason
+abbrev pub BreaksStayUnder : Versions → Type 0
+BreaksStayUnder versions = (order : Order) (t : Table) (bytes tail : List ℕ) (offset : ℕ) (reason : Reason) → reason ≢ Truncated → UnitBreaksUnder versions order t bytes offset reason → UnitBreaksUnder versions order t (bytes ++ tail) offset reason
 
--- a proper front of a unit's bytes is cut off, and nothing else
-abbrev pub FrontsAreCut : Type 0
-FrontsAreCut = (u : WholeUnit) (front : List ℕ) (b : ℕ) (more : List ℕ) → AllByRecursion (λ b. b < 256) front → UnitFits u → bytes_of u ≡ front ++ b ∷ more
-    → (offset : ℕ) × UnitBreaks u.header.order u.table front offset Truncated
+-- a proper front of a unit's bytes is cut off, and nothing else, where the unit's version is accepted
+abbrev pub FrontsAreCutUnder : Versions → Type 0
+FrontsAreCutUnder versions = (u : WholeUnit) (front : List ℕ) (b : ℕ) (more : List ℕ) → AllByRecursion (λ b. b < 256) front → Accepts versions u.header.kind → UnitFits u → bytes_of u ≡ front ++ b ∷ more
+    → (offset : ℕ) × UnitBreaksUnder versions u.header.order u.table front offset Truncated
 
 -- ---- units over an abbreviation section
 
 -- over the table that stands in the section at the header's offset, a unit is one over the section ..
-abbrev pub UnitsOverSections : Type 0
-UnitsOverSections = (order : Order) (abbreviations bytes : List ℕ) (h : Header) (n : ℕ) (t : Table) → HeaderAt order bytes h n → TableAt abbreviations h.abbrev_offset t
-    → (u : WholeUnit) (size : ℕ) → u.table ≡ t → UnitFront order bytes u size → UnitAt abbreviations order bytes u size
+abbrev pub UnitsOverSectionsUnder : Versions → Type 0
+UnitsOverSectionsUnder versions = (order : Order) (abbreviations bytes : List ℕ) (h : Header) (n : ℕ) (t : Table) → HeaderAtUnder versions order bytes h n → TableAt abbreviations h.abbrev_offset t
+    → (u : WholeUnit) (size : ℕ) → u.table ≡ t → UnitFrontUnder versions order bytes u size → UnitAtUnder versions abbreviations order bytes u size
 
 -- .. and a break is the fault over the section
-abbrev pub BreaksAreFaults : Type 0
-BreaksAreFaults = (order : Order) (abbreviations bytes : List ℕ) (h : Header) (n : ℕ) (t : Table) → HeaderAt order bytes h n → TableAt abbreviations h.abbrev_offset t
-    → (offset : ℕ) (reason : Reason) → UnitBreaks order t bytes offset reason ↔ Fails order abbreviations bytes Info offset reason
+abbrev pub BreaksAreFaultsUnder : Versions → Type 0
+BreaksAreFaultsUnder versions = (order : Order) (abbreviations bytes : List ℕ) (h : Header) (n : ℕ) (t : Table) → HeaderAtUnder versions order bytes h n → TableAt abbreviations h.abbrev_offset t
+    → (offset : ℕ) (reason : Reason) → UnitBreaksUnder versions order t bytes offset reason ↔ FailsUnder versions order abbreviations bytes Info offset reason
 
 -- bytes have at most one unit at the front, of one size
-abbrev pub OneUnit : Type 0
-OneUnit = (abbreviations : List ℕ) (order : Order) (bytes : List ℕ) (u v : WholeUnit) (m n : ℕ) → UnitAt abbreviations order bytes u m → UnitAt abbreviations order bytes v n → (u ≡ v) × (m ≡ n)
+abbrev pub OneUnitUnder : Versions → Type 0
+OneUnitUnder versions = (abbreviations : List ℕ) (order : Order) (bytes : List ℕ) (u v : WholeUnit) (m n : ℕ) → UnitAtUnder versions abbreviations order bytes u m → UnitAtUnder versions abbreviations order bytes v n → (u ≡ v) × (m ≡ n)
 
 -- a unit that can't be read has one fault
-abbrev pub OneFault : Type 0
-OneFault = (order : Order) (abbreviations bytes : List ℕ) (s z : SectionId) (m n : ℕ) (r q : Reason) → Fails order abbreviations bytes s m r → Fails order abbreviations bytes z n q → (s ≡ z) × (m ≡ n) × (r ≡ q)
+abbrev pub OneFaultUnder : Versions → Type 0
+OneFaultUnder versions = (order : Order) (abbreviations bytes : List ℕ) (s z : SectionId) (m n : ℕ) (r q : Reason) → FailsUnder versions order abbreviations bytes s m r → FailsUnder versions order abbreviations bytes z n q → (s ≡ z) × (m ≡ n) × (r ≡ q)
 
 -- bytes have at most one of a unit at the front and a fault
-abbrev pub NotBoth : Type 0
-NotBoth = (abbreviations : List ℕ) (order : Order) (bytes : List ℕ) (u : WholeUnit) (size : ℕ) (s : SectionId) (n : ℕ) (r : Reason) → UnitAt abbreviations order bytes u size → Fails order abbreviations bytes s n r → ⊥
+abbrev pub NotBothUnder : Versions → Type 0
+NotBothUnder versions = (abbreviations : List ℕ) (order : Order) (bytes : List ℕ) (u : WholeUnit) (size : ℕ) (s : SectionId) (n : ℕ) (r : Reason) → UnitAtUnder versions abbreviations order bytes u size → FailsUnder versions order abbreviations bytes s n r → ⊥
 
 -- every list of bytes has one
-abbrev pub SomeAnswer : Type 0
-SomeAnswer = (order : Order) (abbreviations bytes : List ℕ) → AllByRecursion (λ b. b < 256) abbreviations → AllByRecursion (λ b. b < 256) bytes
-    → ((u : WholeUnit) × (size : ℕ) × UnitAt abbreviations order bytes u size) ⊎ ((s : SectionId) × (n : ℕ) × (r : Reason) × Fails order abbreviations bytes s n r)
+abbrev pub SomeAnswerUnder : Versions → Type 0
+SomeAnswerUnder versions = (order : Order) (abbreviations bytes : List ℕ) → AllByRecursion (λ b. b < 256) abbreviations → AllByRecursion (λ b. b < 256) bytes
+    → ((u : WholeUnit) × (size : ℕ) × UnitAtUnder versions abbreviations order bytes u size) ⊎ ((s : SectionId) × (n : ℕ) × (r : Reason) × FailsUnder versions order abbreviations bytes s n r)
 
 -- a unit at the front stays there whatever bytes follow
-abbrev pub UnitsStay : Type 0
-UnitsStay = (abbreviations : List ℕ) (order : Order) (bytes tail : List ℕ) (u : WholeUnit) (size : ℕ) → UnitAt abbreviations order bytes u size → UnitAt abbreviations order (bytes ++ tail) u size
+abbrev pub UnitsStayUnder : Versions → Type 0
+UnitsStayUnder versions = (abbreviations : List ℕ) (order : Order) (bytes tail : List ℕ) (u : WholeUnit) (size : ℕ) → UnitAtUnder versions abbreviations order bytes u size → UnitAtUnder versions abbreviations order (bytes ++ tail) u size
 
 -- and so does a fault other than Truncated in the unit's own bytes
-abbrev pub FaultsStay : Type 0
-FaultsStay = (order : Order) (abbreviations bytes tail : List ℕ) (s : SectionId) (offset : ℕ) (reason : Reason) → (s ≡ Info → reason ≢ Truncated) → Fails order abbreviations bytes s offset reason → Fails order abbreviations (bytes ++ tail) s offset reason
+abbrev pub FaultsStayUnder : Versions → Type 0
+FaultsStayUnder versions = (order : Order) (abbreviations bytes tail : List ℕ) (s : SectionId) (offset : ℕ) (reason : Reason) → (s ≡ Info → reason ≢ Truncated) → FailsUnder versions order abbreviations bytes s offset reason → FailsUnder versions order abbreviations (bytes ++ tail) s offset reason
 
--- a proper front of a unit's bytes has a fault of an input that ends too early, and no other
-abbrev pub FrontsAreTruncated : Type 0
-FrontsAreTruncated = (abbreviations : List ℕ) (u : WholeUnit) (front : List ℕ) (b : ℕ) (more : List ℕ) → AllByRecursion (λ b. b < 256) front → TableAt abbreviations u.header.abbrev_offset u.table → UnitFits u → bytes_of u ≡ front ++ b ∷ more
-    → (offset : ℕ) × Fails u.header.order abbreviations front Info offset Truncated
+-- a proper front of a unit's bytes has a fault of an input that ends too early, and no other, where the unit's version
+-- is accepted
+abbrev pub FrontsAreTruncatedUnder : Versions → Type 0
+FrontsAreTruncatedUnder versions = (abbreviations : List ℕ) (u : WholeUnit) (front : List ℕ) (b : ℕ) (more : List ℕ) → AllByRecursion (λ b. b < 256) front → Accepts versions u.header.kind → TableAt abbreviations u.header.abbrev_offset u.table → UnitFits u → bytes_of u ≡ front ++ b ∷ more
+    → (offset : ℕ) × FailsUnder versions u.header.order abbreviations front Info offset Truncated
 
 -- ---- the round trip
 
@@ -97,9 +100,67 @@ FrontsAreTruncated = (abbreviations : List ℕ) (u : WholeUnit) (front : List �
 abbrev pub WrittenIsRead : Type 0
 WrittenIsRead = (abbreviations rest : List ℕ) (u : WholeUnit) → UnitFits u → TableAt abbreviations u.header.abbrev_offset u.table → ReadAs abbreviations u.header.order (bytes_of u ++ rest) u (length (bytes_of u))
 
+-- the same under all versions that accept the unit's
+abbrev pub WrittenIsReadUnder : Versions → Type 0
+WrittenIsReadUnder versions = (abbreviations rest : List ℕ) (u : WholeUnit) → Accepts versions u.header.kind → UnitFits u → TableAt abbreviations u.header.abbrev_offset u.table
+    → ReadAsUnder versions abbreviations u.header.order (bytes_of u ++ rest) u (length (bytes_of u))
+
 -- the bytes that a unit was read from are its one spelling
+abbrev pub ReadIsWrittenUnder : Versions → Type 0
+ReadIsWrittenUnder versions = (abbreviations : List ℕ) (order : Order) (bytes : List ℕ) (u : WholeUnit) (size : ℕ) → UnitAtUnder versions abbreviations order bytes u size → take size bytes ≡ bytes_of u
+
+-- ---- where version 5 alone is accepted
+
+abbrev pub OneUnitOver : Type 0
+OneUnitOver = OneUnitOverUnder Five
+
+abbrev pub OneBreak : Type 0
+OneBreak = OneBreakUnder Five
+
+abbrev pub NotUnitAndBreak : Type 0
+NotUnitAndBreak = NotUnitAndBreakUnder Five
+
+abbrev pub UnitOrBreak : Type 0
+UnitOrBreak = UnitOrBreakUnder Five
+
+abbrev pub FrontsStay : Type 0
+FrontsStay = FrontsStayUnder Five
+
+abbrev pub BreaksStay : Type 0
+BreaksStay = BreaksStayUnder Five
+
+abbrev pub FrontsAreCut : Type 0
+FrontsAreCut = FrontsAreCutUnder Five
+
+abbrev pub UnitsOverSections : Type 0
+UnitsOverSections = UnitsOverSectionsUnder Five
+
+abbrev pub BreaksAreFaults : Type 0
+BreaksAreFaults = BreaksAreFaultsUnder Five
+
+abbrev pub OneUnit : Type 0
+OneUnit = OneUnitUnder Five
+
+abbrev pub OneFault : Type 0
+OneFault = OneFaultUnder Five
+
+abbrev pub NotBoth : Type 0
+NotBoth = NotBothUnder Five
+
+abbrev pub SomeAnswer : Type 0
+SomeAnswer = SomeAnswerUnder Five
+
+abbrev pub UnitsStay : Type 0
+UnitsStay = UnitsStayUnder Five
+
+abbrev pub FaultsStay : Type 0
+FaultsStay = FaultsStayUnder Five
+
+abbrev pub FrontsAreTruncated : Type 0
+FrontsAreTruncated = FrontsAreTruncatedUnder Five
+
 abbrev pub ReadIsWritten : Type 0
-ReadIsWritten = (abbreviations : List ℕ) (order : Order) (bytes : List ℕ) (u : WholeUnit) (size : ℕ) → UnitAt abbreviations order bytes u size → take size bytes ≡ bytes_of u
+ReadIsWritten = ReadIsWrittenUnder Five
 
 -- ---- offsets
 

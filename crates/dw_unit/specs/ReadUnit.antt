@@ -8,6 +8,8 @@ use Rattle.dw_leb.specs.Reader.{Outcome, Found, Broken, Reader, ◌and_then◌}
 use Rattle.dw_form.specs.declared.shape.Ctx.{Ctx}
 use Rattle.dw_abbrev.specs.Table.{Table}
 use Rattle.dw_abbrev.specs.ReadTable.{read_table_at}
+use Rattle.dw_header.specs.declared.versions.Versions.{Versions}
+use Rattle.dw_header.specs.declared.versions.Versions.TheVariants.{Five}
 use Rattle.dw_header.specs.Header.{Header, context_of}
 use Rattle.dw_header.specs.HeaderPlace.{header_size}
 use Rattle.dw_header.specs.ReadHeader.{Heading, read_head}
@@ -32,8 +34,8 @@ abbrev pub body_over : Table → List ℕ → Outcome Heading → Outcome WholeU
 body_over t bytes (Found x size) = read_body t bytes x
 body_over t bytes (Broken offset reason) = Broken offset reason
 
-abbrev pub read_over : Order → Table → List ℕ → Outcome WholeUnit
-read_over order t bytes = body_over t bytes (read_head order bytes)
+abbrev pub read_over : Versions → Order → Table → List ℕ → Outcome WholeUnit
+read_over versions order t bytes = body_over t bytes (read_head versions order bytes)
 
 -- ---- over an abbreviation section
 
@@ -54,5 +56,9 @@ abbrev pub answer_head : List ℕ → List ℕ → Outcome Heading → Answer
 answer_head abbreviations bytes (Found x size) = answer_table bytes x (read_table_at abbreviations x.0.abbrev_offset)
 answer_head abbreviations bytes (Broken offset reason) = Fault Info offset reason
 
-unfoldable pub read_unit : Order → List ℕ → List ℕ → Answer
-read_unit order abbreviations bytes = answer_head abbreviations bytes (read_head order bytes)
+unfoldable pub read_unit_under : Versions → Order → List ℕ → List ℕ → Answer
+read_unit_under versions order abbreviations bytes = answer_head abbreviations bytes (read_head versions order bytes)
+
+-- where version 5 alone is accepted
+abbrev pub read_unit : Order → List ℕ → List ℕ → Answer
+read_unit = read_unit_under Five

@@ -8,8 +8,10 @@ use Rattle.dw_leb.specs.declared.errors.SectionId.{SectionId}
 use Rattle.dw_leb.specs.declared.errors.SectionId.TheVariants.{Info, Abbrev}
 use Rattle.dw_form.specs.declared.shape.Ctx.{Ctx}
 use Rattle.dw_abbrev.specs.Table.{Table, TableAt, TableBreaks}
-use Rattle.dw_header.specs.Header.{Header, fields, fields_of, context_of}
-use Rattle.dw_header.specs.HeaderPlace.{HeaderAt, HeaderBreaks, header_size}
+use Rattle.dw_header.specs.declared.versions.Versions.{Versions}
+use Rattle.dw_header.specs.declared.versions.Versions.TheVariants.{Five}
+use Rattle.dw_header.specs.Header.{Header, Accepts, versions_for, HeaderFits, fields, fields_of, context_of}
+use Rattle.dw_header.specs.HeaderPlace.{HeaderAtUnder, HeaderBreaksUnder, header_size}
 use Rattle.dw_tree.specs.Tree.{Tree, tree, nesting, nulls, AreNulls, PaddingBreaks}
 use Rattle.dw_tree.specs.Steps.{TreeAt}
 
@@ -31,7 +33,7 @@ bytes_of u = (length_field u.header.order).spell (u.header.format, length (body_
 -- the units that have one
 pub record UnitFits (u : WholeUnit) : Type 0 where
   pub length_fits : (initial_length u.header.order 0).Fits (u.header.format, length (body_bytes u))
-  pub fields_fit : (fields u.header.order u.header.format).Fits (fields_of u.header)
+  pub header_fits : HeaderFits u.header
   pub tree_fits : (tree (context_of u.header) u.table (nesting - 1)).Fits u.root
   pub padding_fits : AreNulls u.padding
 
@@ -39,11 +41,12 @@ pub record UnitFits (u : WholeUnit) : Type 0 where
 abbrev pub tree_of : WholeUnit → TreeAt
 tree_of u = record { context = context_of u.header; table = u.table; start = header_size u.header; root = u.root }
 
--- ---- over a table that is handed in
+-- ---- over a table that is handed in; the versions that are accepted are told
 
 -- the unit, of so many bytes, stands at the front of the bytes
-pub record UnitFront (order : Order) (bytes : List ℕ) (u : WholeUnit) (size : ℕ) : Type 0 where
+pub record UnitFrontUnder (versions : Versions) (order : Order) (bytes : List ℕ) (u : WholeUnit) (size : ℕ) : Type 0 where
   pub order_is : u.header.order ≡ order
+  pub accepted : Accepts versions u.header.kind
   pub fits : UnitFits u
   pub rest : List ℕ
   pub split : bytes ≡ bytes_of u ++ rest
@@ -59,10 +62,10 @@ EntriesBreak k t bytes lim offset reason = (tree k t (nesting - 1)).Break bytes 
     ⊎ ((root : Tree) × (tree k t (nesting - 1)).Fits root × After ((tree k t (nesting - 1)).spell root) PaddingBreaks bytes lim offset reason)
 
 -- the entries break, behind a header that is spelled; the table is one that goes with the header's offset
-pub record BodyBreaks (order : Order) (IsTable : ℕ → Table → Type 0) (bytes : List ℕ) (offset : ℕ) (reason : Reason) : Type 0 where
+pub record BodyBreaksUnder (versions : Versions) (order : Order) (IsTable : ℕ → Table → Type 0) (bytes : List ℕ) (offset : ℕ) (reason : Reason) : Type 0 where
   pub header : Header
   pub count : ℕ
-  pub stands : HeaderAt order bytes header count
+  pub stands : HeaderAtUnder versions order bytes header count
   pub table : Table
   pub is_table : IsTable header.abbrev_offset table
   pub own : ℕ
@@ -70,23 +73,45 @@ pub record BodyBreaks (order : Order) (IsTable : ℕ → Table → Type 0) (byte
   pub breaks : EntriesBreak (context_of header) table stands.1 (left_behind header count) own reason
 
 -- a unit with the table t breaks
-abbrev pub UnitBreaks : Order → Table → List ℕ → ℕ → Reason → Type 0
-UnitBreaks order t bytes offset reason = HeaderBreaks order bytes offset reason ⊎ BodyBreaks order (λ _ s. s ≡ t) bytes offset reason
+abbrev pub UnitBreaksUnder : Versions → Order → Table → List ℕ → ℕ → Reason → Type 0
+UnitBreaksUnder versions order t bytes offset reason = HeaderBreaksUnder versions order bytes offset reason ⊎ BodyBreaksUnder versions order (λ _ s. s ≡ t) bytes offset reason
 
 -- ---- over an abbreviation section
 
 -- the unit, of so many bytes, stands at the front of the bytes, and its table in the section at its header's offset
-pub record UnitAt (abbreviations : List ℕ) (order : Order) (bytes : List ℕ) (u : WholeUnit) (size : ℕ) : Type 0 where
+pub record UnitAtUnder (versions : Versions) (abbreviations : List ℕ) (order : Order) (bytes : List ℕ) (u : WholeUnit) (size : ℕ) : Type 0 where
   pub table_at : TableAt abbreviations u.header.abbrev_offset u.table
-  pub front : UnitFront order bytes u size
+  pub front : UnitFrontUnder versions order bytes u size
 
 -- the one fault of a unit that can't be read: the header's, else the table's, else the body's
-abbrev pub Fails : Order → List ℕ → List ℕ → SectionId → ℕ → Reason → Type 0
-Fails order abbreviations bytes Info offset reason = HeaderBreaks order bytes offset reason ⊎ BodyBreaks order (TableAt abbreviations) bytes offset reason
-Fails order abbreviations bytes Abbrev offset reason = (h : Header) × (n : ℕ) × HeaderAt order bytes h n × TableBreaks abbreviations h.abbrev_offset offset reason
+abbrev pub FailsUnder : Versions → Order → List ℕ → List ℕ → SectionId → ℕ → Reason → Type 0
+FailsUnder versions order abbreviations bytes Info offset reason = HeaderBreaksUnder versions order bytes offset reason ⊎ BodyBreaksUnder versions order (TableAt abbreviations) bytes offset reason
+FailsUnder versions order abbreviations bytes Abbrev offset reason = (h : Header) × (n : ℕ) × HeaderAtUnder versions order bytes h n × TableBreaks abbreviations h.abbrev_offset offset reason
 
 -- These bytes are read as this unit: it stands at their front, no other unit does, and they have no fault.
-pub record ReadAs (abbreviations : List ℕ) (order : Order) (bytes : List ℕ) (u : WholeUnit) (size : ℕ) : Type 0 where
-  pub there : UnitAt abbreviations order bytes u size
-  pub only : (v : WholeUnit) (n : ℕ) → UnitAt abbreviations order bytes v n → (v ≡ u) × (n ≡ size)
-  pub no_fault : (s : SectionId) (offset : ℕ) (reason : Reason) → Fails order abbreviations bytes s offset reason → ⊥
+pub record ReadAsUnder (versions : Versions) (abbreviations : List ℕ) (order : Order) (bytes : List ℕ) (u : WholeUnit) (size : ℕ) : Type 0 where
+  pub there : UnitAtUnder versions abbreviations order bytes u size
+  pub only : (v : WholeUnit) (n : ℕ) → UnitAtUnder versions abbreviations order bytes v n → (v ≡ u) × (n ≡ size)
+  pub no_fault : (s : SectionId) (offset : ℕ) (reason : Reason) → FailsUnder versions order abbreviations bytes s offset reason → ⊥
+
+-- ---- where version 5 alone is accepted
+
+abbrev pub UnitFront : Order → List ℕ → WholeUnit → ℕ → Type 0
+UnitFront = UnitFrontUnder Five
+
+abbrev pub BodyBreaks : Order → (ℕ → Table → Type 0) → List ℕ → ℕ → Reason → Type 0
+BodyBreaks = BodyBreaksUnder Five
+
+abbrev pub UnitBreaks : Order → Table → List ℕ → ℕ → Reason → Type 0
+UnitBreaks = UnitBreaksUnder Five
+
+abbrev pub UnitAt : List ℕ → Order → List ℕ → WholeUnit → ℕ → Type 0
+UnitAt = UnitAtUnder Five
+
+abbrev pub Fails : Order → List ℕ → List ℕ → SectionId → ℕ → Reason → Type 0
+Fails = FailsUnder Five
+
+-- ---- where the version of the unit is accepted: version 5 alone, or version 4 too for a unit of that version
+
+abbrev pub ReadAs : List ℕ → Order → List ℕ → WholeUnit → ℕ → Type 0
+ReadAs abbreviations order bytes u size = ReadAsUnder (versions_for u.header.kind) abbreviations order bytes u size

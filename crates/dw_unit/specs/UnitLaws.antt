@@ -9,52 +9,54 @@ use Rattle.dw_leb.specs.declared.order.Order.{Order}
 use Rattle.dw_leb.specs.Reader.{Outcome, Found, Broken}
 use Rattle.dw_leb.specs.Decide.{found_value, broken_value, found_broken}
 use Rattle.dw_abbrev.specs.Table.{Table, TableAt}
-use Rattle.dw_header.specs.Header.{Header}
+use Rattle.dw_header.specs.declared.versions.Versions.{Versions}
+use Rattle.dw_header.specs.Header.{Header, Accepts, versions_for}
+use Rattle.dw_header.specs.FittingHeaders.{accepted}
 use Rattle.dw_header.specs.Laws.{one_header, headers_stay}
-use Rattle.dw_unit.specs.Unit.{WholeUnit, body_bytes, bytes_of, UnitFits, UnitFront, UnitBreaks, UnitAt, Fails}
-use Rattle.dw_unit.specs.ReadUnit.{Answer, Unit, Fault, read_over, read_unit}
+use Rattle.dw_unit.specs.Unit.{WholeUnit, body_bytes, bytes_of, UnitFits, UnitFrontUnder, UnitBreaksUnder, UnitAtUnder, FailsUnder, ReadAsUnder}
+use Rattle.dw_unit.specs.ReadUnit.{Answer, Unit, Fault, read_over, read_unit_under}
 use Rattle.dw_unit.specs.DecideUnit.{OverSays, over_take, over_fault, over_says, unit_header, unit_take, unit_fault, unit_says, AnswerSays, break_fails, front_stays, break_stays}
-use Rattle.dw_unit.specs.Laws.{OneUnitOver, OneBreak, NotUnitAndBreak, UnitOrBreak, FrontsAreCut, OneUnit, OneFault, NotBoth, SomeAnswer, FrontsAreTruncated, WrittenIsRead, ReadIsWritten}
+use Rattle.dw_unit.specs.Laws.{OneUnitOverUnder, OneBreakUnder, NotUnitAndBreakUnder, UnitOrBreakUnder, FrontsAreCutUnder, OneUnitUnder, OneFaultUnder, NotBothUnder, SomeAnswerUnder, FrontsAreTruncatedUnder, WrittenIsRead, WrittenIsReadUnder, ReadIsWrittenUnder}
 
 -- ---- over a table
 
-pub one_unit_over : OneUnitOver
-one_unit_over order bytes u v m n is h g = found_value u v m n (sym (over_take order bytes u m h) ∙ ap (λ (t : Table). read_over order t bytes) is ∙ over_take order bytes v n g)
+pub one_unit_over : (versions : Versions) → OneUnitOverUnder versions
+one_unit_over versions order bytes u v m n is h g = found_value u v m n (sym (over_take versions order bytes u m h) ∙ ap (λ (t : Table). read_over versions order t bytes) is ∙ over_take versions order bytes v n g)
 
-pub one_break : OneBreak
-one_break order t bytes m n r q h g = broken_value WholeUnit m n r q (sym (over_fault order t bytes m r h) ∙ over_fault order t bytes n q g)
+pub one_break : (versions : Versions) → OneBreakUnder versions
+one_break versions order t bytes m n r q h g = broken_value WholeUnit m n r q (sym (over_fault versions order t bytes m r h) ∙ over_fault versions order t bytes n q g)
 
-pub not_unit_and_break : NotUnitAndBreak
-not_unit_and_break order bytes u size offset reason h g = found_broken WholeUnit u size offset reason (sym (over_take order bytes u size h) ∙ over_fault order u.table bytes offset reason g)
+pub not_unit_and_break : (versions : Versions) → NotUnitAndBreakUnder versions
+not_unit_and_break versions order bytes u size offset reason h g = found_broken WholeUnit u size offset reason (sym (over_take versions order bytes u size h) ∙ over_fault versions order u.table bytes offset reason g)
 
-unit_or_break_by : (order : Order) (t : Table) (bytes : List ℕ) (o : Outcome WholeUnit) → OverSays order t bytes o
-    → ((u : WholeUnit) × (size : ℕ) × (u.table ≡ t) × UnitFront order bytes u size) ⊎ ((offset : ℕ) × (reason : Reason) × UnitBreaks order t bytes offset reason)
-unit_or_break_by order t bytes (Found u size) h = inl (u, size, h.0, h.1)
-unit_or_break_by order t bytes (Broken offset reason) h = inr (offset, reason, h)
+unit_or_break_by : (versions : Versions) (order : Order) (t : Table) (bytes : List ℕ) (o : Outcome WholeUnit) → OverSays versions order t bytes o
+    → ((u : WholeUnit) × (size : ℕ) × (u.table ≡ t) × UnitFrontUnder versions order bytes u size) ⊎ ((offset : ℕ) × (reason : Reason) × UnitBreaksUnder versions order t bytes offset reason)
+unit_or_break_by versions order t bytes (Found u size) h = inl (u, size, h.0, h.1)
+unit_or_break_by versions order t bytes (Broken offset reason) h = inr (offset, reason, h)
 
-pub unit_or_break : UnitOrBreak
-unit_or_break order t bytes fit = unit_or_break_by order t bytes (read_over order t bytes) (over_says order t bytes fit)
+pub unit_or_break : (versions : Versions) → UnitOrBreakUnder versions
+unit_or_break versions order t bytes fit = unit_or_break_by versions order t bytes (read_over versions order t bytes) (over_says versions order t bytes fit)
 
 is_truncated : (r : Reason) → (r ≡ Truncated) ⊎ (r ≢ Truncated)
 is_truncated Truncated = inl refl
 is_truncated _ = inr (λ e. cc)
 
 -- no outcome but Truncated is left for a front
-front_cut : (u : WholeUnit) (front : List ℕ) (b : ℕ) (more : List ℕ) → UnitFront u.header.order (front ++ b ∷ more) u (length (front ++ b ∷ more)) → (o : Outcome WholeUnit) → OverSays u.header.order u.table front o
-    → (offset : ℕ) × UnitBreaks u.header.order u.table front offset Truncated
-front_cut u front b more whole (Found v size) h =
-    let same = one_unit_over u.header.order (front ++ b ∷ more) v u size (length (front ++ b ∷ more)) h.0 (front_stays u.header.order front (b ∷ more) v size h.1) whole in
+front_cut : (versions : Versions) (u : WholeUnit) (front : List ℕ) (b : ℕ) (more : List ℕ) → UnitFrontUnder versions u.header.order (front ++ b ∷ more) u (length (front ++ b ∷ more)) → (o : Outcome WholeUnit) → OverSays versions u.header.order u.table front o
+    → (offset : ℕ) × UnitBreaksUnder versions u.header.order u.table front offset Truncated
+front_cut versions u front b more whole (Found v size) h =
+    let same = one_unit_over versions u.header.order (front ++ b ∷ more) v u size (length (front ++ b ∷ more)) h.0 (front_stays versions u.header.order front (b ∷ more) v size h.1) whole in
     absurd (omega (arith, same.1, h.1.is_size, length-append front (b ∷ more), ap length h.1.split, length-append (bytes_of v) h.1.rest))
-front_cut u front b more whole (Broken n r) h = elim (is_truncated r) [
-  | inl e ↦ (n, subst (λ (q : Reason). UnitBreaks u.header.order u.table front n q) e h)
-  | inr ne ↦ absurd (not_unit_and_break u.header.order (front ++ b ∷ more) u (length (front ++ b ∷ more)) n r whole (break_stays u.header.order u.table front (b ∷ more) n r ne h))
+front_cut versions u front b more whole (Broken n r) h = elim (is_truncated r) [
+  | inl e ↦ (n, subst (λ (q : Reason). UnitBreaksUnder versions u.header.order u.table front n q) e h)
+  | inr ne ↦ absurd (not_unit_and_break versions u.header.order (front ++ b ∷ more) u (length (front ++ b ∷ more)) n r whole (break_stays versions u.header.order u.table front (b ∷ more) n r ne h))
 ]
 
-whole_front : (u : WholeUnit) (bytes : List ℕ) → UnitFits u → bytes_of u ≡ bytes → UnitFront u.header.order bytes u (length bytes)
-whole_front u bytes fits is = record { order_is = refl; fits = fits; rest = []; split = sym is ∙ sym (append-nil (bytes_of u)); is_size = ap length is }
+whole_front : (versions : Versions) (u : WholeUnit) (bytes : List ℕ) → Accepts versions u.header.kind → UnitFits u → bytes_of u ≡ bytes → UnitFrontUnder versions u.header.order bytes u (length bytes)
+whole_front versions u bytes accepts fits is = record { order_is = refl; accepted = accepts; fits = fits; rest = []; split = sym is ∙ sym (append-nil (bytes_of u)); is_size = ap length is }
 
-pub fronts_are_cut : FrontsAreCut
-fronts_are_cut u front b more fit fits is = front_cut u front b more (whole_front u (front ++ b ∷ more) fits is) (read_over u.header.order u.table front) (over_says u.header.order u.table front fit)
+pub fronts_are_cut : (versions : Versions) → FrontsAreCutUnder versions
+fronts_are_cut versions u front b more fit accepts fits is = front_cut versions u front b more (whole_front versions u (front ++ b ∷ more) accepts fits is) (read_over versions u.header.order u.table front) (over_says versions u.header.order u.table front fit)
 
 -- ---- over a section
 
@@ -67,49 +69,52 @@ same_fault s z m n r q e = (cc, cc, cc)
 apart : (u : WholeUnit) (size : ℕ) (s : SectionId) (n : ℕ) (r : Reason) → Unit u size ≡ Fault s n r → ⊥
 apart u size s n r e = cc
 
-pub one_unit : OneUnit
-one_unit abbreviations order bytes u v m n h g = same_answer u v m n (sym (unit_take abbreviations order bytes u m h) ∙ unit_take abbreviations order bytes v n g)
+pub one_unit : (versions : Versions) → OneUnitUnder versions
+one_unit versions abbreviations order bytes u v m n h g = same_answer u v m n (sym (unit_take versions abbreviations order bytes u m h) ∙ unit_take versions abbreviations order bytes v n g)
 
-pub one_fault : OneFault
-one_fault order abbreviations bytes s z m n r q h g = same_fault s z m n r q (sym (unit_fault order abbreviations bytes s m r h) ∙ unit_fault order abbreviations bytes z n q g)
+pub one_fault : (versions : Versions) → OneFaultUnder versions
+one_fault versions order abbreviations bytes s z m n r q h g = same_fault s z m n r q (sym (unit_fault versions order abbreviations bytes s m r h) ∙ unit_fault versions order abbreviations bytes z n q g)
 
-pub not_both : NotBoth
-not_both abbreviations order bytes u size s n r h g = apart u size s n r (sym (unit_take abbreviations order bytes u size h) ∙ unit_fault order abbreviations bytes s n r g)
+pub not_both : (versions : Versions) → NotBothUnder versions
+not_both versions abbreviations order bytes u size s n r h g = apart u size s n r (sym (unit_take versions abbreviations order bytes u size h) ∙ unit_fault versions order abbreviations bytes s n r g)
 
-some_answer_by : (order : Order) (abbreviations bytes : List ℕ) (a : Answer) → AnswerSays order abbreviations bytes a
-    → ((u : WholeUnit) × (size : ℕ) × UnitAt abbreviations order bytes u size) ⊎ ((s : SectionId) × (n : ℕ) × (r : Reason) × Fails order abbreviations bytes s n r)
-some_answer_by order abbreviations bytes (Unit u size) h = inl (u, size, h)
-some_answer_by order abbreviations bytes (Fault s n r) h = inr (s, n, r, h)
+some_answer_by : (versions : Versions) (order : Order) (abbreviations bytes : List ℕ) (a : Answer) → AnswerSays versions order abbreviations bytes a
+    → ((u : WholeUnit) × (size : ℕ) × UnitAtUnder versions abbreviations order bytes u size) ⊎ ((s : SectionId) × (n : ℕ) × (r : Reason) × FailsUnder versions order abbreviations bytes s n r)
+some_answer_by versions order abbreviations bytes (Unit u size) h = inl (u, size, h)
+some_answer_by versions order abbreviations bytes (Fault s n r) h = inr (s, n, r, h)
 
-pub some_answer : SomeAnswer
-some_answer order abbreviations bytes fit_s fit = some_answer_by order abbreviations bytes (read_unit order abbreviations bytes) (unit_says order abbreviations bytes fit_s fit)
+pub some_answer : (versions : Versions) → SomeAnswerUnder versions
+some_answer versions order abbreviations bytes fit_s fit = some_answer_by versions order abbreviations bytes (read_unit_under versions order abbreviations bytes) (unit_says versions order abbreviations bytes fit_s fit)
 
 -- the header that is spelled in a front is the unit's
-truncated_by : (abbreviations : List ℕ) (u : WholeUnit) (front tail : List ℕ) (size : ℕ) → UnitFront u.header.order (front ++ tail) u size → TableAt abbreviations u.header.abbrev_offset u.table
-    → (offset : ℕ) (reason : Reason) → UnitBreaks u.header.order u.table front offset reason → Fails u.header.order abbreviations front Info offset reason
-truncated_by abbreviations u front tail size whole place offset reason (inl one) = inl one
-truncated_by abbreviations u front tail size whole place offset reason (inr b) =
-    let same = one_header u.header.order (front ++ tail) u.header b.header (length (body_bytes u)) b.count (unit_header u.header.order (front ++ tail) u size whole) (headers_stay u.header.order front tail b.header b.count b.stands) in
-    break_fails u.header.order abbreviations front b.header b.count b.stands u.table (subst (λ (g : Header). TableAt abbreviations g.abbrev_offset u.table) same.0 place) offset reason (inr b)
+truncated_by : (versions : Versions) (abbreviations : List ℕ) (u : WholeUnit) (front tail : List ℕ) (size : ℕ) → UnitFrontUnder versions u.header.order (front ++ tail) u size → TableAt abbreviations u.header.abbrev_offset u.table
+    → (offset : ℕ) (reason : Reason) → UnitBreaksUnder versions u.header.order u.table front offset reason → FailsUnder versions u.header.order abbreviations front Info offset reason
+truncated_by versions abbreviations u front tail size whole place offset reason (inl one) = inl one
+truncated_by versions abbreviations u front tail size whole place offset reason (inr b) =
+    let same = one_header versions u.header.order (front ++ tail) u.header b.header (length (body_bytes u)) b.count (unit_header versions u.header.order (front ++ tail) u size whole) (headers_stay versions u.header.order front tail b.header b.count b.stands) in
+    break_fails versions u.header.order abbreviations front b.header b.count b.stands u.table (subst (λ (g : Header). TableAt abbreviations g.abbrev_offset u.table) same.0 place) offset reason (inr b)
 
-pub fronts_are_truncated : FrontsAreTruncated
-fronts_are_truncated abbreviations u front b more fit place fits is =
-    let whole = whole_front u (front ++ b ∷ more) fits is in
-    let cut = front_cut u front b more whole (read_over u.header.order u.table front) (over_says u.header.order u.table front fit) in
-    (cut.0, truncated_by abbreviations u front (b ∷ more) (length (front ++ b ∷ more)) whole place cut.0 Truncated cut.1)
+pub fronts_are_truncated : (versions : Versions) → FrontsAreTruncatedUnder versions
+fronts_are_truncated versions abbreviations u front b more fit accepts place fits is =
+    let whole = whole_front versions u (front ++ b ∷ more) accepts fits is in
+    let cut = front_cut versions u front b more whole (read_over versions u.header.order u.table front) (over_says versions u.header.order u.table front fit) in
+    (cut.0, truncated_by versions abbreviations u front (b ∷ more) (length (front ++ b ∷ more)) whole place cut.0 Truncated cut.1)
 
 -- ---- the round trip
 
-pub written_is_read : WrittenIsRead
-written_is_read abbreviations rest u fits place =
+pub written_is_read_under : (versions : Versions) → WrittenIsReadUnder versions
+written_is_read_under versions abbreviations rest u accepts fits place =
     let order = u.header.order in
     let bytes = bytes_of u ++ rest in
-    let there : UnitAt abbreviations order bytes u (length (bytes_of u)) = record { table_at = place; front = record { order_is = refl; fits = fits; rest = rest; split = refl; is_size = refl } } in
+    let there : UnitAtUnder versions abbreviations order bytes u (length (bytes_of u)) = record { table_at = place; front = record { order_is = refl; accepted = accepts; fits = fits; rest = rest; split = refl; is_size = refl } } in
     record {
       there = there;
-      only = λ v n h. one_unit abbreviations order bytes v u n (length (bytes_of u)) h there;
-      no_fault = λ s offset reason h. not_both abbreviations order bytes u (length (bytes_of u)) s offset reason there h;
+      only = λ v n h. one_unit versions abbreviations order bytes v u n (length (bytes_of u)) h there;
+      no_fault = λ s offset reason h. not_both versions abbreviations order bytes u (length (bytes_of u)) s offset reason there h;
     }
 
-pub read_is_written : ReadIsWritten
-read_is_written abbreviations order bytes u size h = ap (take size) h.front.split ∙ take_at (bytes_of u) h.front.rest size h.front.is_size
+pub written_is_read : WrittenIsRead
+written_is_read abbreviations rest u fits place = written_is_read_under (versions_for u.header.kind) abbreviations rest u (accepted u.header.kind) fits place
+
+pub read_is_written : (versions : Versions) → ReadIsWrittenUnder versions
+read_is_written versions abbreviations order bytes u size h = ap (take size) h.front.split ∙ take_at (bytes_of u) h.front.rest size h.front.is_size

@@ -1,11 +1,13 @@
-//! Laws of the definitions of trees and units. They call nothing.
+//! Laws of the definitions of trees and units. They call nothing. A clause on units that names no versions
+//! speaks of version 5 alone, but for the round trip.
 ghost use Rattle.std.specs.Prelude.{ℕ};
 ghost use Rattle.dw_leb.specs.Laws.{NoneBegins, OneAnswer};
 ghost use Rattle.dw_leb.specs.PartLaws.{Stays};
 ghost use Rattle.dw_form.specs.declared.shape.Ctx.{Ctx};
+ghost use Rattle.dw_header.specs.declared.versions.Versions.{Versions};
 ghost use Rattle.dw_abbrev.specs.Table.{Table};
 ghost use Rattle.dw_tree.specs.Tree.{tree};
-ghost use Rattle.dw_unit.specs.Laws.{OneUnitOver, OneBreak, NotUnitAndBreak, UnitOrBreak, FrontsStay, BreaksStay, FrontsAreCut, UnitsOverSections, BreaksAreFaults, OneUnit, OneFault, NotBoth, SomeAnswer, UnitsStay, FaultsStay, FrontsAreTruncated, WrittenIsRead, ReadIsWritten, LentByPaths, LentAreSpelled, OneOffset, OffsetsRise, OnePath};
+ghost use Rattle.dw_unit.specs.Laws.{OneUnitOver, OneUnitOverUnder, OneBreak, OneBreakUnder, NotUnitAndBreak, NotUnitAndBreakUnder, UnitOrBreak, UnitOrBreakUnder, FrontsStay, FrontsStayUnder, BreaksStay, BreaksStayUnder, FrontsAreCut, FrontsAreCutUnder, UnitsOverSections, UnitsOverSectionsUnder, BreaksAreFaults, BreaksAreFaultsUnder, OneUnit, OneUnitUnder, OneFault, OneFaultUnder, NotBoth, NotBothUnder, SomeAnswer, SomeAnswerUnder, UnitsStay, UnitsStayUnder, FaultsStay, FaultsStayUnder, FrontsAreTruncated, FrontsAreTruncatedUnder, WrittenIsRead, WrittenIsReadUnder, ReadIsWritten, ReadIsWrittenUnder, LentByPaths, LentAreSpelled, OneOffset, OffsetsRise, OnePath};
 
 /// One spelling: no spelling of a tree of entries begins another, and bytes have at most one unit at
 /// the front, of one size: over a table that is handed in, and over an abbreviation section.
@@ -13,6 +15,8 @@ pub fn one_spelling()
     ensures trees { (k : Ctx) (t : Table) (room : ℕ) → NoneBegins (tree k t room) }
     ensures over_a_table { OneUnitOver }
     ensures units { OneUnit }
+    ensures over_a_table_under { (versions : Versions) → OneUnitOverUnder versions }
+    ensures units_under { (versions : Versions) → OneUnitUnder versions }
 {}
 
 /// One outcome: over a table that is handed in, bytes have exactly one of a unit at the front and a
@@ -26,6 +30,12 @@ pub fn one_outcome()
     ensures fault { OneFault }
     ensures not_both { NotBoth }
     ensures some { SomeAnswer }
+    ensures one_break_under { (versions : Versions) → OneBreakUnder versions }
+    ensures not_unit_and_break_under { (versions : Versions) → NotUnitAndBreakUnder versions }
+    ensures unit_or_break_under { (versions : Versions) → UnitOrBreakUnder versions }
+    ensures fault_under { (versions : Versions) → OneFaultUnder versions }
+    ensures not_both_under { (versions : Versions) → NotBothUnder versions }
+    ensures some_under { (versions : Versions) → SomeAnswerUnder versions }
 {}
 
 /// Outcomes are stable: a unit at the front stays whatever bytes follow, and so does a break or a fault
@@ -38,6 +48,12 @@ pub fn outcomes_are_stable()
     ensures units { UnitsStay }
     ensures faults { FaultsStay }
     ensures truncated { FrontsAreTruncated }
+    ensures fronts_stay_under { (versions : Versions) → FrontsStayUnder versions }
+    ensures breaks_under { (versions : Versions) → BreaksStayUnder versions }
+    ensures fronts_under { (versions : Versions) → FrontsAreCutUnder versions }
+    ensures units_under { (versions : Versions) → UnitsStayUnder versions }
+    ensures faults_under { (versions : Versions) → FaultsStayUnder versions }
+    ensures truncated_under { (versions : Versions) → FrontsAreTruncatedUnder versions }
 {}
 
 /// Where a header's table stands in the abbreviation section at the header's offset, a unit over that
@@ -45,6 +61,8 @@ pub fn outcomes_are_stable()
 pub fn tables_of_sections()
     ensures units { UnitsOverSections }
     ensures breaks { BreaksAreFaults }
+    ensures units_under { (versions : Versions) → UnitsOverSectionsUnder versions }
+    ensures breaks_under { (versions : Versions) → BreaksAreFaultsUnder versions }
 {}
 
 /// The round trip: the bytes of a unit are read as that unit with every width, whatever follows, where
@@ -53,6 +71,8 @@ pub fn tables_of_sections()
 pub fn round_trip()
     ensures written_is_read { WrittenIsRead }
     ensures read_is_written { ReadIsWritten }
+    ensures written_is_read_under { (versions : Versions) → WrittenIsReadUnder versions }
+    ensures read_is_written_under { (versions : Versions) → ReadIsWrittenUnder versions }
 {}
 
 /// Offsets: an entry is lent exactly where a path of child numbers leads to it from the root, at that

@@ -1,4 +1,4 @@
-//! Units of DWARF 5, read, built and written (section 7.5).
+//! Units of DWARF 5, and of DWARF 4 where a caller asks for them, read, built and written (section 7.5).
 #![tactic(auto)]
 
 mod bad;
@@ -16,9 +16,9 @@ mod writer;
 
 pub use builder::UnitBuilder;
 pub use draft::{Draft, most_levels};
-pub use dw_header::{Header, Kind, read_header};
+pub use dw_header::{Header, Kind, Versions, read_header, read_header_as};
 pub use dw_tree::{AttrRef, Attrs, Children, Entries, EntryRef};
-pub use reader::read_unit;
+pub use reader::{read_unit, read_unit_as};
 pub use refusal::Refusal;
 pub use unit::Unit;
 pub use writer::write_unit;

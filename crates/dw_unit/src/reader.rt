@@ -1,19 +1,19 @@
 //! Reading a unit.
 ghost use Rattle.std.specs.Prelude.{◌≡◌, ◌≤◌, ◌-◌, ◌^◌, length, ℕ, IfOk, IfErr};
-ghost use Rattle.dw_unit.specs.Unit.{WholeUnit, UnitAt};
+ghost use Rattle.dw_unit.specs.Unit.{WholeUnit, UnitAt, UnitAtUnder};
 ghost use Rattle.dw_abbrev.specs.TableErrors.{refused_memory};
-ghost use Rattle.dw_unit.specs.UnitView.{IsUnitError, FaultWithin, NamesTable, unit_error_of};
+ghost use Rattle.dw_unit.specs.UnitView.{IsUnitError, IsUnitErrorUnder, FaultWithin, NamesTable, NamesTableUnder, unit_error_of};
 ghost use Rattle.dw_unit.specs.Outcomes.{IsNear};
 
 use crate::bad::BodyError;
 use crate::body::body_at;
 use crate::unit::Unit;
 use dw_abbrev::Tables;
-use dw_header::read_header;
+use dw_header::{Versions, read_header_as};
 use dw_leb::{Fault, Order, ReadError, SectionId};
 use std::alloc::Global;
 
-/// The unit at the front of `b`, and the count of its bytes: exactly the length field and the
+/// The unit of version 5 at the front of `b`, and the count of its bytes: exactly the length field and the
 /// unit_length that it holds. What stands behind them isn't looked at. Where a unit stands at the front,
 /// it is answered, or `NoMemory`.
 ///
@@ -37,7 +37,34 @@ pub fn read_unit(
     ensures tables { tables.new ≡ tables.old }
     ensures room { IfOk result (λ x. x.1 ≤ length b.now) }
 {
-    let (header, unit_length) = read_header(order, b)?;
+    read_unit_as(alloc, order, Versions::Five, tables, b)
+}
+
+/// The unit of one of these versions at the front of `b`, and the count of its bytes, as `read_unit` gives
+/// them for version 5. A unit of version 4 has the kind `Four`, and its values have the forms of version 5
+/// (section 7.5.6), which are those of version 4 and more. Where a unit of one of these versions stands at
+/// the front, it is answered, or `NoMemory`.
+///
+/// A fault is the first one, in the order of `read_unit`: the fields of the header, which are judged as
+/// `read_header_as` of `dw_header` says; the abbreviation table; the entries and the padding. `NoMemory` is
+/// answered where a growth was refused, and only where a header is there and the offset of its table lies
+/// in `.debug_abbrev`. Never `Io`.
+pub fn read_unit_as(
+    alloc: Global,
+    order: Order,
+    versions: Versions,
+    tables: &mut Tables<'_>,
+    b: &[u8],
+) -> Result<(Unit, usize), ReadError>
+    ensures found { IfOk result (λ x. UnitAtUnder versions tables.old order b.now x.0 x.1) }
+    ensures only { (u : WholeUnit) (size : ℕ) → UnitAtUnder versions tables.old order b.now u size → IfOk result (λ x. (x.0 ≡ u) × (x.1 ≡ size)) × IfErr result (λ e. e ≡ refused_memory) }
+    ensures broken { IfErr result (IsUnitErrorUnder versions tables.old order b.now) }
+    ensures near { IfErr result (FaultWithin (length b.now)) }
+    ensures memory { IfErr result (λ e. e ≡ refused_memory → NamesTableUnder versions tables.old order b.now) }
+    ensures tables { tables.new ≡ tables.old }
+    ensures room { IfOk result (λ x. x.1 ≤ length b.now) }
+{
+    let (header, unit_length) = read_header_as(order, versions, b)?;
     let table = tables.get(header.abbrev_offset())?;
     let at = header.size();
     let left = header.format().length_size() as u64 + unit_length - at;

@@ -3,7 +3,8 @@ ghost use Rattle.std.specs.Prelude.{◌≡◌, ◌++◌, ℕ, List, length, None
 ghost use Rattle.dw_leb.specs.Watch.{inner_of, fault_of, writer_fault, Wrote};
 ghost use Rattle.dw_abbrev.specs.Table.{TableAt};
 ghost use Rattle.dw_tree.specs.Tree.{nulls, AreNulls};
-ghost use Rattle.dw_unit.specs.Unit.{bytes_of, UnitFits, ReadAs};
+ghost use Rattle.dw_unit.specs.Unit.{bytes_of, UnitFits, ReadAs, ReadAsUnder};
+ghost use Rattle.dw_header.specs.declared.versions.Versions.TheVariants.{FourAndFive};
 
 use crate::unit::Unit;
 use dw_header::write_header;
@@ -15,7 +16,8 @@ use std::io::Write;
 /// takes no memory. After an error a beginning of the unit was written.
 ///
 /// What is written is read back as this unit, whatever follows it, over an abbreviation section that holds
-/// its table at the header's offset: the unit stands there, no other one does, and there is no fault.
+/// its table at the header's offset: the unit stands there, no other one does, and there is no fault. So it is
+/// with `FourAndFive` for each unit, and with `Five` for a unit that isn't of version 4.
 ///
 /// Errors: `Io` with the kind of the writer's failure, `WriteZero` where it took no byte of some.
 pub fn write_unit<W: Write>(unit: &Unit, writer: &mut Watched<W>) -> Result<(), WriteError>
@@ -25,6 +27,8 @@ pub fn write_unit<W: Write>(unit: &Unit, writer: &mut Watched<W>) -> Result<(), 
     ensures fits { UnitFits unit.now }
     ensures read_back { (abbreviations rest : List ℕ) → TableAt abbreviations unit.now.header.abbrev_offset unit.now.table
         → ReadAs abbreviations unit.now.header.order (bytes_of unit.now ++ rest) unit.now (length (bytes_of unit.now)) }
+    ensures read_back_as { (abbreviations rest : List ℕ) → TableAt abbreviations unit.now.header.abbrev_offset unit.now.table
+        → ReadAsUnder FourAndFive abbreviations unit.now.header.order (bytes_of unit.now ++ rest) unit.now (length (bytes_of unit.now)) }
 {
     let header = unit.header;
     let behind = unit.size - header.format().length_size() as u64;

@@ -1,12 +1,14 @@
-//! DWARF 5 debugging entries: read, inspected, built and written, by code that is proved. A user of
-//! the library needs only this crate; its items are declared in the crates below.
+//! DWARF 5 debugging entries, and units of DWARF 4 where a caller asks for them: read, inspected, built
+//! and written, by code that is proved. A user of the library needs only this crate; its items are
+//! declared in the crates below.
 //!
 //! A unit is read from the bytes of `.debug_info`, over the table at its header's offset in
 //! `.debug_abbrev`:
 //!
 //! - `Tables` holds the abbreviation section, and reads each table when it is first asked for;
 //! - `read_unit` returns the unit at the front of bytes, or the first fault; `read_unit_from` does
-//!   so from any reader;
+//!   so from any reader; `read_unit_as` and `read_unit_from_as` also read units of version 4, where
+//!   `Versions` says so;
 //! - `Unit` hands out its entries (`EntryRef`) and their attributes (`AttrRef`), borrowed;
 //! - `UnitBuilder` makes a unit entry by entry, over a table of `TableBuilder`;
 //! - `write_unit` writes a unit as it was read or built, each number in its own width.
@@ -15,12 +17,12 @@
 #![tactic(auto)]
 
 pub use dw_abbrev::{Decl, Pair, Table, TableBuilder, TableRefusal, Tables};
-pub use dw_feed::read_unit_from;
+pub use dw_feed::{read_unit_from, read_unit_from_as};
 pub use dw_form::{AttrValue, Ctx, Shape, Value};
 pub use dw_leb::{
     Fault, Format, Order, ReadError, Reason, SectionId, Sleb, Uleb, Watched, WriteError, constants,
 };
 pub use dw_unit::{
     AttrRef, Attrs, Children, Draft, Entries, EntryRef, Header, Kind, Refusal, Unit, UnitBuilder,
-    most_levels, read_header, read_unit, write_unit,
+    Versions, most_levels, read_header, read_header_as, read_unit, read_unit_as, write_unit,
 };

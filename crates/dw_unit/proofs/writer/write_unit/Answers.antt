@@ -6,7 +6,8 @@ use Rattle.dw_leb.specs.Number.{length_size}
 use Rattle.dw_tree.specs.Tree.{tree, nulls, nesting}
 use Rattle.dw_tree.specs.Steps.{TreeAt}
 use Rattle.dw_unit.specs.Unit.{WholeUnit, body_bytes, bytes_of, UnitFits}
-use Rattle.dw_unit.specs.UnitLaws.{written_is_read}
+use Rattle.dw_header.specs.declared.versions.Versions.TheVariants.{FourAndFive}
+use Rattle.dw_unit.specs.UnitLaws.{written_is_read, written_is_read_under}
 use Rattle.dw_unit.proofs.UnitWritten.{counted, parted, head_bytes, root_bytes}
 use Rattle.dw_unit.proofs.writer.write_unit.Goals as goal
 
@@ -68,3 +69,12 @@ returns-in_err-write-clause-read_back g c = λ abbreviations rest place. written
 
 pub returns-clause-read_back : goal.returns-clause-read_back
 returns-clause-read_back g c = λ abbreviations rest place. written_is_read abbreviations rest c.args.unit.now (subst UnitFits c.unit.view_is c.unit.invariant.fits) place
+
+pub returns-in_err-write_header-clause-read_back_as : goal.returns-in_err-write_header-clause-read_back_as
+returns-in_err-write_header-clause-read_back_as g c = λ abbreviations rest place. written_is_read_under FourAndFive abbreviations rest c.args.unit.now tt (subst UnitFits c.unit.view_is c.unit.invariant.fits) place
+
+pub returns-in_err-write-clause-read_back_as : goal.returns-in_err-write-clause-read_back_as
+returns-in_err-write-clause-read_back_as g c = λ abbreviations rest place. written_is_read_under FourAndFive abbreviations rest c.args.unit.now tt (subst UnitFits c.unit.view_is c.unit.invariant.fits) place
+
+pub returns-clause-read_back_as : goal.returns-clause-read_back_as
+returns-clause-read_back_as g c = λ abbreviations rest place. written_is_read_under FourAndFive abbreviations rest c.args.unit.now tt (subst UnitFits c.unit.view_is c.unit.invariant.fits) place
