@@ -10,6 +10,8 @@ pub mod Codes
 pub mod Place
 pub mod Steps
 pub mod Next
+pub mod RowHeads
+pub mod Runs
 pub mod Flat
 pub mod Completed
 pub mod DraftInvariant

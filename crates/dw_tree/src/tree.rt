@@ -3,7 +3,7 @@ ghost use Rattle.std.specs.Prelude.{◌≡◌};
 
 use crate::row::Row;
 use dw_abbrev::Table;
-use dw_form::{Ctx, Stored};
+use dw_form::Ctx;
 use std::marker::Model;
 use std::rc::Rc;
 
@@ -17,7 +17,10 @@ pub struct EntryTree {
     pub(crate) start: u64,
     pub(crate) end: u64,
     pub(crate) rows: Vec<Row>,
-    pub(crate) values: Vec<Stored>,
+    /// The heads of all values, in their order: what of each one's spelling is no content, and what
+    /// finds the content.
+    pub(crate) heads: Vec<u8>,
+    /// The bytes of texts and blocks, in the same order.
     pub(crate) pool: Vec<u8>,
 }
 
