@@ -1,5 +1,5 @@
 -- A draft without a partial value, or with one.
-use Rattle.std.proofs.Common.{Bool, true, false, append-nil, append_assoc, take-append-drop, ◌≡◌, ℕ, ◌≤◌, ◌<◌, List, [], ◌∷◌, ◌++◌, length, take, drop, refl, sym, ◌∙◌, ap, ap₂, subst, arith, length-take-le, Option, Some, None, option_map}
+use Rattle.std.proofs.Common.{Bool, true, false, append-nil, append_assoc, take-append-drop, ◌≡◌, ℕ, ◌+◌, ◌-◌, ◌≤◌, ◌<◌, List, [], ◌∷◌, ◌++◌, length, take, drop, refl, sym, ◌∙◌, ap, ap₂, subst, arith, length-append, length-take-le, Option, Some, None, option_map}
 use Rattle.std.specs.Prelude.{IfSome, IsSome, if◌then◌else◌}
 use Rattle.std.proofs.lemmas.List.{take-take, take-append-le}
 use Rattle.dw_tree.specs.declared.draft.TreeDraft.TheInside.{Inside}
@@ -16,11 +16,12 @@ use Rattle.dw_tree.specs.Place.{Frame, Spot, rows_before, spot_after, Unfinished
 use Rattle.dw_tree.specs.Flat.{place_of, unfinished_of}
 use Rattle.dw_tree.specs.Steps.{Growing, given_partial, partial_in, next_pair, end_of, whole_tree}
 use Rattle.dw_tree.specs.Row.{Token}
-use Rattle.dw_tree.specs.PoolBytes.{joined, held, held_in}
-use Rattle.dw_tree.specs.RowHeads.{Account}
+use Rattle.dw_tree.specs.PoolBytes.{joined, held, held_in, partial_bytes}
+use Rattle.dw_tree.specs.RowHeads.{heads, rows_heads, unfinished_heads, heads_in, Account}
+use Rattle.dw_tree.specs.Sizes.{AreShort}
 use Rattle.dw_tree.specs.DraftInvariant.{AreGiven, pairs_given, entry_with, HasRoom}
 use Rattle.dw_tree.specs.DraftView.{front, partial_of, place_with, given, growing, IsGiven, HasPartial, IsDraft}
-use Rattle.dw_tree.proofs.Lists.{place_is, end_is}
+use Rattle.dw_tree.proofs.Lists.{place_is, end_is, lists_short}
 
 none_of_map : {X Y : Type 0} (f : X → Y) (o : Option X) → option_map f o ≡ None → o ≡ None
 none_of_map f None e = refl
@@ -186,6 +187,43 @@ held_is a d = by a.partial a.unfinished refl refl d.given.lists.account ∙ ap (
         sym (take-append-drop b.pool a.pool.items)
         ∙ (ap (λ (bytes : List ℕ). bytes ++ drop b.pool a.pool.items) (h.pool_is ∙ ap (λ (bytes : List ℕ). bytes ++ joined vs) spelled)
         ∙ append_assoc (held (rows_before (spot_after xs).above (spot_after xs).left)) (joined vs) (drop b.pool a.pool.items))
+
+-- and the heads those that are held
+pub heads_are : (a : Inside) → IsDraft a → a.heads.items ≡ heads_in a.context a.table.value (growing a).place
+heads_are a d = by a.partial a.unfinished refl refl d.given.lists.account ∙ ap (λ (g : Growing). heads_in a.context a.table.value g.place) (sym (view_is a d))
+  where
+    xs : List Token
+    xs = d.given.tokens
+
+    vs : List Attribute
+    vs = d.given.values
+
+    place : Option StoredPartial → Option Unfinished → Place
+    place o q = place_with o a.pool.items (record { spot = spot_after xs; unfinished = option_map (entry_with vs) q })
+
+    spelled : (u : Option UnfinishedEntry) → rows_heads a.context a.table.value 0 xs ++ unfinished_heads a.context a.table.value (length (held xs)) u ≡ heads_in a.context a.table.value (record { spot = spot_after xs; unfinished = u })
+    spelled u = ap (λ (ys : List Token). rows_heads a.context a.table.value 0 ys ++ unfinished_heads a.context a.table.value (length (held ys)) u) d.given.lists.is_spelled.spelled
+
+    by : (o : Option StoredPartial) (q : Option Unfinished) → a.partial ≡ o → a.unfinished ≡ q → Account a.context a.table.value xs (pairs_given a.table.value q) vs a.heads.items (front o a.pool.items) → a.heads.items ≡ heads_in a.context a.table.value (place o q)
+    by None None eo eq h =
+        let no : vs ≡ [] = subst (AreGiven a.context a.table.value a.start xs vs) eq d.given.lists.are_given in
+        h.heads_are ∙ (ap (λ (ws : List Attribute). rows_heads a.context a.table.value 0 xs ++ heads a.context [] (length (held xs)) ws) no ∙ spelled None)
+    by None (Some r) eo eq h = h.heads_are ∙ spelled (Some (entry_with vs r))
+    by (Some b) None eo eq h = absurd (none_read a.unfinished eq (partial_open a b eo d).unfinished)
+    by (Some b) (Some r) eo eq h = h.heads_are ∙ spelled (Some (entry_with vs r))
+
+-- the lists are no longer than the bytes so far ask for
+pub draft_short : (a : Inside) (d : IsDraft a) → AreShort (length a.rows.items) (length a.heads.items) (length (front a.partial a.pool.items)) (a.here - a.start)
+draft_short a d = lists_short a.context a.table.value a.start a.rows.items a.heads.items (front a.partial a.pool.items) a.nested.items a.unfinished a.here d.given.tokens d.given.values d.given.lists
+
+pub pool_short : (a : Inside) → IsDraft a → length a.pool.items ≤ a.here - a.start + length (partial_bytes (partial_in (growing a).place.unfinished))
+pool_short a d = by a.partial a.unfinished refl refl (draft_short a d).content_short
+  where
+    by : (o : Option StoredPartial) (q : Option Unfinished) → a.partial ≡ o → a.unfinished ≡ q → length (front o a.pool.items) ≤ a.here - a.start
+        → length a.pool.items ≤ a.here - a.start + length (partial_bytes (partial_in (place_with o a.pool.items (place_of a.context a.table.value a.rows.items a.heads.items (front o a.pool.items) q)).unfinished))
+    by None q eo eq h = omega (arith, h)
+    by (Some b) None eo eq h = absurd (none_read a.unfinished eq (partial_open a b eo d).unfinished)
+    by (Some b) (Some r) eo eq h = omega (arith, h, ap length (take-append-drop b.pool a.pool.items), length-append (take b.pool a.pool.items) (drop b.pool a.pool.items))
 
 -- a partial value changes nothing of what the next value is asked for
 pub next_given : (t : Table) (o : Option StoredPartial) (pool : List ℕ) (vs : List Attribute) (q : Option Unfinished) (s : Spot)

@@ -1,5 +1,5 @@
 -- The lists of a draft: what they stand for, and what each call makes of them.
-use Rattle.std.proofs.Common.{◌≡◌, ℕ, ◌+◌, ◌≤◌, ◌<◌, ◌^◌, List, [], ◌∷◌, ◌++◌, length, take, drop, get_or, set, refl, sym, ◌∙◌, ap, ap₂, subst, arith, length-append, append-nil, Bool, true, false, cond, eqb, Option, Some, None, option_map}
+use Rattle.std.proofs.Common.{◌≡◌, ℕ, ◌+◌, ◌-◌, ◌*◌, ◌≤◌, ◌<◌, ◌^◌, List, [], ◌∷◌, ◌++◌, length, take, drop, get_or, set, refl, sym, ◌∙◌, ap, ap₂, subst, arith, length-append, append-nil, Bool, true, false, cond, eqb, Option, Some, None, option_map}
 use Rattle.std.proofs.lemmas.Bool.Decides.{nat_tests}
 use Rattle.std.proofs.lemmas.List.{length-take}
 use Rattle.std.proofs.Math.Nat.{min-le_right}
@@ -25,6 +25,7 @@ use Rattle.dw_tree.specs.RowHeads.{heads, values_at, row_heads, rows_heads, Acco
 use Rattle.dw_tree.specs.Flat.{pairs_at, code_in, with_end, tokens_at, unfinished_of, place_of, RowIs, RowsAre, IsEntry, RowReads}
 use Rattle.dw_tree.specs.Steps.{settled, settle_by, settle, end_of, unfinished_bytes, first_values, FirstFits, first_bytes}
 use Rattle.dw_tree.specs.Ends.{bytes_push, prefix_bytes}
+use Rattle.dw_tree.specs.Sizes.{AreShort, values_short, rows_short}
 use Rattle.dw_tree.specs.Completed.{row_of, is_whole, settled_rows, settled_open, settled_unfinished}
 use Rattle.dw_tree.specs.DraftInvariant.{IsSpelled, Stand, TokenFits, LevelFits, EntryFits, levels_after, IsGivenEntry, IsUnfinished, AreGiven, pairs_given, entry_with, AreLists}
 use Rattle.dw_tree.proofs.Spells.{after-push, spells_leaf, spells_branch, spells_null}
@@ -74,6 +75,30 @@ module _ (k : Ctx) (t : Table) (start : ℕ) (rows : List Row) (hs pool open_at 
 
   pub as_many_open : length open_at ≡ length (spot_after xs).above
   as_many_open = ap length l.is_spelled.opened ∙ open_long (spot_after xs).above
+
+-- and they are no longer than its bytes ask for
+module _ (k : Ctx) (t : Table) (start : ℕ) (rows : List Row) (hs pool open_at : List ℕ) (o : Option Unfinished) (here : ℕ) (xs : List Token) (vs : List Attribute) (l : AreLists k t start rows hs pool open_at o here xs vs) where
+  given_short : (q : Option Unfinished) → o ≡ q → (length (heads k (pairs_given t q) (length (held xs)) vs) ≤ 16 * length (unfinished_bytes k t (option_map (entry_with vs) q))) × (length (joined vs) ≤ length (unfinished_bytes k t (option_map (entry_with vs) q)))
+  given_short None e =
+      let no : vs ≡ [] = subst (AreGiven k t start xs vs) e l.are_given in
+      (omega (arith, ap (λ (ws : List Attribute). length (heads k [] (length (held xs)) ws)) no), omega (arith, ap (λ (ws : List Attribute). length (joined ws)) no))
+  given_short (Some r) e =
+      let u : IsUnfinished k t start xs vs r = subst (AreGiven k t start xs vs) e l.are_given in
+      let ps = pairs_at t r.code.value in
+      let w = values_short k (take (length vs) ps) vs (length (held xs)) u.entry.prefix_fits in
+      let same = ap length (heads_taken k ps vs (length (held xs))) in
+      let all = length-append (uleb.spell (uleb_of r.code)) (first_values k ps vs) in
+      (omega (arith, w.0, same, all), omega (arith, w.1, all))
+
+  pub lists_short : AreShort (length rows) (length hs) (length pool) (here - start)
+  lists_short =
+      let all = rows_short k t xs 0 (all_tokens_fit k t start 1 rows xs l.stand) in
+      let w = given_short o refl in
+      record {
+        rows_short = omega (arith, all.rows_short, l.is_spelled.long, l.here_is);
+        heads_short = omega (arith, all.heads_short, w.0, ap length l.account.heads_are, length-append (rows_heads k t 0 xs) (heads k (pairs_given t o) (length (held xs)) vs), l.here_is);
+        content_short = omega (arith, all.content_short, w.1, ap length l.account.pool_is, length-append (held xs) (joined vs), l.here_is);
+      }
 
 -- no lists stand for no entries
 pub lists_empty : (k : Ctx) (t : Table) (start : ℕ) (rows : List Row) (hs pool open_at : List ℕ) → rows ≡ [] → hs ≡ [] → pool ≡ [] → open_at ≡ [] → AreLists k t start rows hs pool open_at None start [] []

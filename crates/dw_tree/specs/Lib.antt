@@ -23,3 +23,4 @@ pub mod Paths
 pub mod Ends
 pub mod Emptiness
 pub mod PoolBytes
+pub mod Sizes

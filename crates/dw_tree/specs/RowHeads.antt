@@ -8,6 +8,7 @@ use Rattle.dw_form.specs.StoredView.{bytes_in}
 use Rattle.dw_abbrev.specs.Table.{Pair, Table, declared}
 use Rattle.dw_tree.specs.Tree.{values, declared_pairs}
 use Rattle.dw_tree.specs.Row.{Token, leaf_row, branch_row, null_row}
+use Rattle.dw_tree.specs.Place.{UnfinishedEntry, Place, rows_before}
 use Rattle.dw_tree.specs.PoolBytes.{joined, held, row_values}
 use Rattle.dw_form.specs.Head.{head, head_at, Lies}
 use Rattle.dw_form.specs.HeadLent.{head_there}
@@ -108,6 +109,14 @@ rows_heads-append k t start (x ∷ xs) ys =
     ap (λ (b : List ℕ). own ++ b) (rows_heads-append k t next xs ys)
     ∙ (sym (append_assoc own (rows_heads k t next xs) (rows_heads k t (next + length (held xs)) ys))
     ∙ ap (λ (n : ℕ). (own ++ rows_heads k t next xs) ++ rows_heads k t n ys) sum)
+
+-- of a tree with one open place: those of its rows, and of the values so far of the unfinished entry
+abbrev pub unfinished_heads : Ctx → Table → ℕ → Option UnfinishedEntry → List ℕ
+unfinished_heads k t start None = []
+unfinished_heads k t start (Some r) = heads k (declared_pairs (declared t r.code.value)) start r.values
+
+abbrev pub heads_in : Ctx → Table → Place → List ℕ
+heads_in k t p = rows_heads k t 0 (rows_before p.spot.above p.spot.left) ++ unfinished_heads k t (length (held (rows_before p.spot.above p.spot.left))) p.unfinished
 
 -- from the pool's first byte
 pub rows_heads-from : (k : Ctx) (t : Table) (xs ys : List Token) → rows_heads k t 0 (xs ++ ys) ≡ rows_heads k t 0 xs ++ rows_heads k t (length (held xs)) ys

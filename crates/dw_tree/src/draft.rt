@@ -1,5 +1,5 @@
 //! A tree under construction.
-ghost use Rattle.std.specs.Prelude.{◌≡◌, ◌≢◌, ◌+◌, ◌<◌, ◌≤◌, ◌^◌, ◌-◌, [], length, option_map, IfOk, IfSome, None, Some, is_some, IsSome, OnOk, OnErr, vec_len, vec_capacity};
+ghost use Rattle.std.specs.Prelude.{◌≡◌, ◌≢◌, ◌+◌, ◌<◌, ◌≤◌, ◌^◌, ◌-◌, ◌*◌, [], length, option_map, IfOk, IfSome, None, Some, is_some, IsSome, OnOk, OnErr, vec_len, vec_capacity};
 ghost use Rattle.dw_leb.specs.Number.{uleb};
 ghost use Rattle.dw_leb.specs.View.{uleb_of};
 ghost use Rattle.dw_form.specs.Form.{IsContext};
@@ -7,10 +7,11 @@ ghost use Rattle.dw_form.specs.Lent.{attribute_of};
 ghost use Rattle.dw_abbrev.specs.PairView.{pair_of};
 ghost use Rattle.dw_abbrev.specs.Table.{declared, zero_of};
 ghost use Rattle.dw_tree.specs.Tree.{nesting, tree as part};
-ghost use Rattle.dw_tree.specs.Place.{nowhere};
+ghost use Rattle.dw_tree.specs.Place.{nowhere, rows_before};
 ghost use Rattle.dw_tree.specs.DraftView.{partial_of};
 ghost use Rattle.dw_tree.specs.Flat.{with_end as row_ending};
-ghost use Rattle.dw_tree.specs.PoolBytes.{held_in};
+ghost use Rattle.dw_tree.specs.PoolBytes.{held_in, partial_bytes};
+ghost use Rattle.dw_tree.specs.RowHeads.{heads_in};
 ghost use Rattle.dw_tree.specs.Emptiness.{is_bare};
 ghost use Rattle.dw_tree.specs.declared.row.RowKind.TheVariants.{Null};
 ghost use Rattle.dw_tree.specs.Completed.{row_with, settled_rows, settled_open, settled_unfinished};
@@ -245,9 +246,28 @@ impl TreeDraft {
     /// The bytes of its texts and blocks, those of a partial one included, in the order in which
     /// they were given. It keeps no others.
     pub fn content(&self) -> &[u8]
-        ensures { result.now ≡ held_in self.now.place }
+        ensures exact { result.now ≡ held_in self.now.place }
+        ensures short { length result.now ≤ end_of self.now - self.now.start + length (partial_bytes (partial_in self.now.place.unfinished)) }
     {
         &self.pool
+    }
+
+    /// The heads of the values that were given, in that order: of each one what of its spelling is no
+    /// content, and what finds the content. It keeps no others.
+    pub fn heads(&self) -> &[u8]
+        ensures exact { result.now ≡ heads_in self.now.context self.now.table self.now.place }
+        ensures short { length result.now ≤ 16 * (end_of self.now - self.now.start) }
+    {
+        &self.heads
+    }
+
+    /// The count of its rows: one for each entry that has all its values, and one for each null. A row
+    /// is kept in 40 bytes.
+    pub fn row_count(&self) -> usize
+        ensures exact { result ≡ length (rows_before self.now.place.spot.above self.now.place.spot.left) }
+        ensures short { result ≤ end_of self.now - self.now.start }
+    {
+        self.rows.len()
     }
 
     /// The table of its entries' declarations.

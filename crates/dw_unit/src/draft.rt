@@ -13,7 +13,7 @@ ghost use Rattle.dw_tree.specs.Steps.{partial_in, NextFits, next_pair};
 ghost use Rattle.dw_header.specs.Header.{context_of};
 ghost use Rattle.dw_unit.specs.Unit.{UnitFits, bytes_of};
 ghost use Rattle.dw_header.specs.HeaderPlace.{header_size};
-ghost use Rattle.dw_unit.specs.Draft.{drafted_size, empty, begun, given, started, extended, ended, closed, padded, undone, finished, size_limit as limit_of, passes_limit, IsOnlyRoot, value_bytes, partial_of, PartialFits, PartialShort};
+ghost use Rattle.dw_unit.specs.Draft.{drafted_size, tree_in, empty, begun, given, started, extended, ended, closed, padded, undone, finished, size_limit as limit_of, passes_limit, IsOnlyRoot, value_bytes, partial_of, PartialFits, PartialShort};
 
 use crate::body::Body;
 use crate::unit::Unit;
@@ -279,6 +279,14 @@ impl Draft {
         ensures { result.now ≡ held_in self.now.place }
     {
         self.tree.content()
+    }
+
+    /// The tree that grows. What a draft takes in memory are its lists, whose lengths the tree tells:
+    /// `row_count`, `heads` and `content`.
+    pub fn tree(&self) -> &TreeDraft
+        ensures { result.now ≡ tree_in self.now }
+    {
+        &self.tree
     }
 
     /// How many entries are open.
