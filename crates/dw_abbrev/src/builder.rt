@@ -13,7 +13,7 @@ use std::alloc::Global;
 use std::marker::Model;
 
 /// An abbreviation table that is being built: the declarations that it has so far.
-#[derive(Drop)]
+#[derive(Debug, Drop)]
 pub struct TableBuilder {
     decls: IndexMap<u64, Decl>,
 }

@@ -100,10 +100,8 @@ impl Decl {
         if let Some(refusal) = misfit(pair) {
             return Err(refusal);
         }
-        match self.pairs.push(pair) {
-            Ok(_) => Ok(()),
-            Err(_) => Err(TableRefusal::NoMemory),
-        }
+        self.pairs.push(pair)?;
+        Ok(())
     }
 
     /// The abbreviation code, by which entries name the declaration. It isn't 0.

@@ -143,9 +143,7 @@ pub(crate) fn pairs_at(
             form,
             constant,
         };
-        if list.push(pair).is_err() {
-            return Err(ReadError::NoMemory);
-        }
+        list.push(pair)?;
         here = next;
     }
 }

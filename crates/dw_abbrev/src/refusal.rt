@@ -1,5 +1,8 @@
 //! Why a call that builds a table is refused.
+ghost use Rattle.std.specs.Prelude.{◌≡◌};
+ghost use Rattle.dw_abbrev.specs.declared.refusal.TableRefusal.TheVariants as table;
 
+use std::alloc::{AllocError, AllocFailed};
 use thiserror::Error;
 
 /// Why a call that builds a table is refused. Its number is `refusal as u8`: the variants count
@@ -28,4 +31,21 @@ pub enum TableRefusal {
     /// a constant.
     #[error("WrongConstant")]
     WrongConstant,
+}
+
+impl From<AllocError> for TableRefusal {
+    ghost from_gives = { λ _ out. out ≡ table.NoMemory };
+
+    fn from(_error: AllocError) -> TableRefusal {
+        TableRefusal::NoMemory
+    }
+}
+
+/// For calls that hand back what they had no memory for. It is dropped.
+impl<T: Drop> From<AllocFailed<T>> for TableRefusal {
+    ghost from_gives = { λ _ out. out ≡ table.NoMemory };
+
+    fn from(_refused: AllocFailed<T>) -> TableRefusal {
+        TableRefusal::NoMemory
+    }
 }

@@ -1,5 +1,5 @@
 //! Abbreviation tables (section 7.5.3).
-ghost use Rattle.std.specs.Prelude.{◌≡◌, ◌<◌, ◌≤◌, ◌∷◌, ◌++◌, [], length, map, nat_eq, None, IfOk, IfErr, OnOk, OnErr, option_copied};
+ghost use Rattle.std.specs.Prelude.{◌≡◌, ◌<◌, ◌≤◌, ◌∷◌, ◌++◌, [], length, map, nat_eq, None, Some, IfOk, IfSome, IfErr, OnOk, OnErr, option_copied};
 ghost use Rattle.indexmap.specs.IndexMap.{get};
 ghost use Rattle.dw_leb.specs.View.{uleb_of};
 ghost use Rattle.dw_leb.specs.Watch.{inner_of, fault_of, writer_fault, Wrote};
@@ -19,7 +19,7 @@ use std::io::Write;
 use std::marker::Model;
 
 /// An abbreviation table: declarations of distinct codes, and the zero that ends them.
-#[derive(Drop)]
+#[derive(Debug, Drop)]
 pub struct Table {
     decls: IndexMap<u64, Decl>,
     last_zero: Uleb,
@@ -101,11 +101,15 @@ impl Table {
     }
 
     /// The declaration of a code.
+    #[inline(always)]
     pub fn get(&self, code: u64) -> Option<&Decl>
         ensures value { option_copied result ≡ declared self.now code }
         ensures fits { part.Fits self.now }
     {
-        self.decls.get(&code)
+        match numbered(&self.decls, code) {
+            Some(decl) => Some(decl),
+            None => self.decls.get(&code),
+        }
     }
 
     /// Writes the table: its one spelling, which each table has, with each number in its own width. So
@@ -120,6 +124,16 @@ impl Table {
         write_decls(writer, &self.decls)?;
         write_uleb(writer, self.last_zero)
     }
+}
+
+/// The declaration of a code, where the codes before it are 1, 2 and so on, as compilers number them.
+/// It is found without a look-up by hash.
+#[inline(always)]
+fn numbered(decls: &IndexMap<u64, Decl>, code: u64) -> Option<&Decl>
+    ensures { IfSome result (λ decl. get nat_eq decls.now code ≡ Some decl.now) }
+{
+    let (key, decl) = decls.get_index(code.checked_sub(1)? as usize)?;
+    if *key == code { Some(decl) } else { None }
 }
 
 /// The code at `at`, behind these declarations, and where what follows begins.

@@ -1,6 +1,5 @@
 //! The tables of a section, read at need and shared.
-ghost use Rattle.std.specs.Prelude.{◌≡◌, ◌<◌, length, ◌∷◌, ◌++◌, [], nat_eq, None, IfOk, IfErr, OnOk, OnErr};
-ghost use Rattle.indexmap.specs.IndexMap.{get};
+ghost use Rattle.std.specs.Prelude.{◌≡◌, ◌<◌, length, IfOk, IfErr};
 ghost use Rattle.dw_abbrev.specs.Table.{Table as Spelled, TableAt};
 ghost use Rattle.dw_abbrev.specs.TableErrors.{IsTableError, refused_memory};
 
@@ -13,7 +12,7 @@ use std::rc::Rc;
 
 /// The tables of a section `.debug_abbrev`, each read when it is first asked for and kept by its
 /// offset.
-#[derive(Drop)]
+#[derive(Debug, Drop)]
 pub struct Tables<'a> {
     alloc: Global,
     abbreviations: &'a [u8],
@@ -55,47 +54,12 @@ impl<'a> Tables<'a> {
         ensures abbreviations { self.new ≡ self.old }
     {
         if let Some(table) = self.kept.get(&offset) {
-            return share(table);
+            return Ok(table.clone()?);
         }
         let read = Table::read(self.alloc, self.abbreviations, offset)?;
-        let table = place(self.alloc, read)?;
-        let shared = share(&table)?;
-        keep(&mut self.kept, offset, table)?;
+        let table = Rc::new(self.alloc, read)?;
+        let shared = table.clone()?;
+        self.kept.insert(offset, table)?;
         Ok(shared)
-    }
-}
-
-/// One more owner of a table.
-fn share(table: &Rc<Table>) -> Result<Rc<Table>, ReadError>
-    ensures ok { IfOk result (λ t. t.value ≡ table.now.value) }
-    ensures err { IfErr result (λ e. e ≡ refused_memory) }
-{
-    match table.clone() {
-        Ok(shared) => Ok(shared),
-        Err(_) => Err(ReadError::NoMemory),
-    }
-}
-
-/// A table on the heap.
-fn place(alloc: Global, table: Table) -> Result<Rc<Table>, ReadError>
-    ensures ok { IfOk result (λ t. t.value ≡ table) }
-    ensures err { IfErr result (λ e. e ≡ refused_memory) }
-{
-    match Rc::new(alloc, table) {
-        Ok(placed) => Ok(placed),
-        Err(_) => Err(ReadError::NoMemory),
-    }
-}
-
-/// Keeps a table by an offset by which none is kept.
-fn keep(kept: &mut IndexMap<u64, Rc<Table>>, offset: u64, table: Rc<Table>) -> Result<(), ReadError>
-    requires { get nat_eq kept.old offset ≡ None }
-    ensures ok { OnOk result (kept.new.entries ≡ kept.old.entries ++ (offset, table) ∷ []) }
-    ensures unchanged { OnErr result (kept.new.entries ≡ kept.old.entries) }
-    ensures err { IfErr result (λ e. e ≡ refused_memory) }
-{
-    match kept.insert(offset, table) {
-        Ok(_) => Ok(()),
-        Err(_) => Err(ReadError::NoMemory),
     }
 }

@@ -10,9 +10,9 @@ use std::io::Read;
 const CHUNK: usize = 4096;
 
 /// The bytes of the unit at the front of what the reader has left: as many as its initial length
-/// tells (sections 7.2.2 and 7.4), or fewer where the reader has no more. Where the initial length is
-/// cut or refused, the bytes of that field alone. `NoMemory` is answered where a growth was refused, and
-/// only where at least a byte was taken.
+/// says (sections 7.2.2 and 7.4), or fewer where the reader has no more. Where the initial length
+/// is cut or refused, the bytes of that field alone. `NoMemory` is returned where a growth was
+/// refused, and only where at least a byte was taken.
 pub fn unit_bytes<R: Read>(
     alloc: Global,
     order: Order,
@@ -61,7 +61,7 @@ fn is_escape(bytes: &[u8]) -> bool
     bytes == [0xff, 0xff, 0xff, 0xff].as_slice()
 }
 
-/// Puts the next `most` bytes of the reader behind `bytes`, or fewer where it has no more. `bytes`
+/// Appends the next `most` bytes of the reader to `bytes`, or fewer where it has no more. `bytes`
 /// grows by what comes.
 fn read_up_to<R: Read>(
     reader: &mut Watched<R>,
@@ -87,9 +87,7 @@ fn read_up_to<R: Read>(
         if got == 0 {
             return Ok(());
         }
-        if bytes.extend_from_slice(&chunk[..got]).is_err() {
-            return Err(ReadError::NoMemory);
-        }
+        bytes.extend_from_slice(&chunk[..got])?;
         left -= got as u64;
     }
     Ok(())

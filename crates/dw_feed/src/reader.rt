@@ -13,12 +13,12 @@ use std::io::Read;
 /// The unit at the front of what the reader has left, in whatever pieces its bytes come. At `Ok`
 /// exactly the unit's bytes were taken.
 ///
-/// A fault is the first one of all that the reader had left, as `read_unit` of `dw_unit` tells it,
-/// so `Truncated` comes only where the reader has no more: a short read is no end, and a read of 0
-/// bytes is. `Io` is answered exactly where the reader failed, with the kind that `fault()` tells
-/// then, and `NoMemory` where a growth was refused, and only where at least a byte was taken. After an
-/// error no byte past the unit's end was taken, and none past the length field (sections 7.2.2 and 7.4)
-/// while that is unread or refused.
+/// A fault is the first one of all that the reader had left, as `read_unit` of `dw_unit` returns
+/// it. So `Truncated` comes only where the reader has no more: a short read is no end, and a read
+/// of 0 bytes is. `Io` is returned exactly where the reader failed, with the kind that `fault()`
+/// then returns. `NoMemory` is returned where a growth was refused, and only where at least a byte
+/// was taken. After an error no byte past the unit's end was taken, and none past the length field
+/// (sections 7.2.2 and 7.4) while that is unread or refused.
 ///
 /// Memory grows by the bytes that came, never by a length that was only announced.
 pub fn read_unit_from<R: Read>(

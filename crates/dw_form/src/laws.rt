@@ -17,7 +17,7 @@ pub fn one_spelling()
 {}
 
 /// One outcome: bytes have exactly one of a value at the front, within the bytes that are left to
-/// the unit, and a break; and a break stands at one place for one reason.
+/// the unit, and a break. Bytes break at one offset for one reason.
 pub fn one_outcome()
     ensures { (ctx : Ctx) (form : ℕ) (implicit : Option Signed) →
         OneAnswer (attribute ctx form implicit) }

@@ -1,4 +1,4 @@
-//! Values at the front of bytes, lent from them.
+//! Values at the front of bytes, borrowed from them.
 ghost use Rattle.std.specs.Prelude.{◌≡◌, ◌==◌, ◌≤◌, ◌<◌, ◌+◌, ◌^◌, ℕ, length, min, take, IfOk, IfErr, IfSome, IsOkAnd, option_map};
 ghost use Rattle.dw_leb.specs.Part.{Taken};
 ghost use Rattle.dw_leb.specs.Number.{unended};
@@ -90,6 +90,7 @@ pub(crate) fn number(order: Order, n: u8, b: &[u8], lim: u64) -> Result<u128, Re
 }
 
 /// A number of `n` bytes.
+#[inline(always)]
 fn fixed(ctx: Ctx, n: u8, b: &[u8], lim: u64) -> Result<(Value<'_>, usize), Reason>
     requires { IsFixedSize n }
     ensures exact { Lends value_of result
@@ -130,6 +131,7 @@ fn counted_uleb(b: &[u8], lim: u64) -> Result<(Value<'_>, usize), Reason>
 }
 
 /// A value of a shape; `implicit` is the constant of the declaration.
+#[inline(always)]
 pub(crate) fn shaped(
     ctx: Ctx,
     shape: Shape,
@@ -168,6 +170,7 @@ pub(crate) fn shaped(
 }
 
 /// A value of a form. The form is judged before any byte of the value.
+#[inline(always)]
 fn formed(
     ctx: Ctx,
     form: u64,
@@ -203,6 +206,7 @@ fn indirect(ctx: Ctx, b: &[u8], lim: u64) -> Result<(AttrValue<'_>, usize), Reas
 }
 
 /// A value of a form, indirect or not.
+#[inline(always)]
 fn by_form(
     ctx: Ctx,
     form: u64,
@@ -241,12 +245,12 @@ fn value_at(
 }
 
 /// The value of form `form` at the front of `b`, where `lim` bytes are left to the unit's end, and
-/// the count of its bytes. It is lent from `b`: no memory is taken.
+/// the count of its bytes. It is borrowed from `b`: no memory is taken.
 ///
 /// `implicit` is the constant of the declaration where the form is implicit_const; another form
 /// doesn't look at it.
 ///
-/// What is refused is told by the first reason that holds, by the order of the bytes:
+/// A refusal has the first reason that holds, in the order of the bytes:
 /// - of an indirect value, the number of its form is refused as by `Uleb::read`, or that form is
 ///   indirect or implicit_const (`BadIndirect`);
 /// - the form has no shape (`UnknownForm`), or it is implicit_const and its declaration has no
@@ -255,7 +259,8 @@ fn value_at(
 ///   (`Truncated`); a LEB128 number has more than sixteen bytes (`LebTooLong`) or is too big
 ///   (`LebTooBig`). A block's length is judged before its content.
 ///
-/// A value is one field: its fault stands at its first byte, whatever part of it is refused.
+/// A value is one field: its fault is at its first byte, whatever part of it is refused.
+#[inline(always)]
 pub fn lend_value(
     ctx: Ctx,
     form: u64,

@@ -1,16 +1,16 @@
 //! Values of attributes in every form of DWARF 5 (sections 7.5.5 and 7.5.6), and in GNU's two forms
 //! for supplementary files, 0x1f20 and 0x1f21.
 //!
-//! An attribute's form stands in its declaration, in the abbreviation table, and its value in the
+//! An attribute's form is in its declaration, in the abbreviation table, and its value in the
 //! entry. The form, with the unit's address size and format, says how the value is spelled: that is
-//! the form's shape. `lend_value` takes no memory: a text or block is lent from the input.
+//! the form's shape. `lend_value` takes no memory: a text or block is borrowed from the input.
 //! `read_value` copies it to the end of a pool, which many values share.
 //!
 //! Each value keeps the widths in which its LEB128 numbers were written, so that it is written back
 //! byte for byte. As in `dw_leb`, a read is handed `b`, the rest of the input, and `lim`, the count
-//! of bytes that are left to the end of the unit. Bytes behind the value don't matter. `Ok` is
-//! answered exactly where a value is spelled at the front of `b` and within `lim`, and else the
-//! reason why not.
+//! of bytes that are left to the end of the unit. Bytes after the value don't matter. A read
+//! returns `Ok` exactly where a value is spelled at the front of `b` and within `lim`, and
+//! otherwise the reason why not.
 //!
 //! Sections that the comments name are those of the DWARF 5 standard.
 #![tactic(auto)]

@@ -13,7 +13,7 @@ use crate::lend::lend_value;
 use crate::shape::Ctx;
 use crate::stored::Stored;
 use dw_leb::{Reason, Sleb};
-use std::alloc::Global;
+use std::alloc::{AllocError, Global};
 use thiserror::Error;
 
 /// Why no value was read.
@@ -27,11 +27,27 @@ pub enum ValueError {
     NoMemory,
 }
 
+impl From<Reason> for ValueError {
+    ghost from_gives = { λ reason out. out ≡ Bad reason };
+
+    fn from(reason: Reason) -> ValueError {
+        ValueError::Bad(reason)
+    }
+}
+
+impl From<AllocError> for ValueError {
+    ghost from_gives = { λ _ out. out ≡ NoMemory };
+
+    fn from(_error: AllocError) -> ValueError {
+        ValueError::NoMemory
+    }
+}
+
 /// Reads the value of form `form` at the front of `b`, where `lim` bytes are left to the unit's
 /// end, and gives it and the count of its bytes. Its text or block goes to the end of `pool`; any
 /// other value leaves the pool as it was.
 ///
-/// `implicit` and the reasons of `Bad` are those of `lend_value`. `NoMemory` is answered only for a
+/// `implicit` and the reasons of `Bad` are those of `lend_value`. `NoMemory` is returned only for a
 /// value that is there and whose text or block has no room in the pool. On an error the pool holds
 /// what it held; where the bytes are refused it isn't touched at all, so nothing grows by a length
 /// that was only announced.
@@ -68,12 +84,7 @@ pub fn read_value(
     ensures unchanged { OnErr result (pool.new.items ≡ pool.old.items) }
     ensures room { IfOk result (λ x. (x.1 ≤ length b.now) × (x.1 ≤ lim)) }
 {
-    let (value, size) = match lend_value(ctx, form, implicit, b, lim) {
-        Ok(lent) => lent,
-        Err(reason) => return Err(ValueError::Bad(reason)),
-    };
-    match Stored::keep(&value, pool) {
-        Ok(stored) => Ok((stored, size)),
-        Err(_) => Err(ValueError::NoMemory),
-    }
+    let (value, size) = lend_value(ctx, form, implicit, b, lim)?;
+    let stored = Stored::keep(&value, pool)?;
+    Ok((stored, size))
 }

@@ -6,7 +6,7 @@ use dw_leb::constants::form::*;
 use dw_leb::{Format, Order};
 
 /// What the bytes of a unit's values depend on besides their forms. The order is that of the file;
-/// the format and the address size stand in the unit's header.
+/// the format and the address size are in the unit's header.
 #[derive(Clone, Copy, Debug, PartialEq, Eq, Hash)]
 pub struct Ctx {
     /// The order of the bytes of fixed numbers, and of a block's length where that is one.
@@ -34,7 +34,7 @@ pub enum Shape {
     Text,
     /// No bytes: that the attribute is there says all (flag_present).
     Present,
-    /// No bytes: the value stands in the declaration (implicit_const).
+    /// No bytes: the value is in the declaration (implicit_const).
     Implicit,
     /// The number of another form as unsigned LEB128, and then a value of that form.
     Indirect,
@@ -44,6 +44,7 @@ impl Shape {
     /// The shape of a form by its number, in a unit of this address size (1 to 8) and format. None
     /// for a number that is no form of DWARF 5 and neither 0x1f20 nor 0x1f21.
     #[tactic(auto, unfolding(crate::specs::Form::shape))]
+    #[inline(always)]
     pub fn of(form: u64, address_size: u8, format: Format) -> Option<Shape>
         requires some { 1 ≤ address_size }
         requires most { address_size ≤ 8 }

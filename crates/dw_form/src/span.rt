@@ -38,7 +38,7 @@ impl Span {
         Span { start, len }
     }
 
-    /// The bytes, lent from the pool.
+    /// The bytes, borrowed from the pool.
     pub(crate) fn of<'a>(self, pool: &'a [u8]) -> &'a [u8]
         requires { SpanFits (length pool.now) self }
         ensures { result.now ≡ part pool.now self }

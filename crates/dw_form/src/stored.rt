@@ -11,7 +11,7 @@ use dw_leb::{Sleb, Uleb};
 use std::alloc::AllocError;
 
 /// A value whose text or block is a span of a pool of bytes. It is of use with that pool alone, to
-/// which bytes may have been added behind. It has 24 bytes, as a unit's list has one for each of
+/// which bytes may have been appended. It has 24 bytes, as a unit's list has one for each of
 /// its values.
 #[derive(Clone, Copy, Debug)]
 pub struct Stored {
@@ -39,6 +39,7 @@ impl Stored {
     ///
     /// An indirect value names a form by a number of 16 bits, as every value that has a spelling
     /// does.
+    #[inline(always)]
     pub fn keep(value: &AttrValue<'_>, pool: &mut Vec<u8>) -> Result<Stored, AllocError>
         requires { NamesForm (attribute_of value.now) }
         ensures pool { IfOk result (λ _.
@@ -67,8 +68,8 @@ impl Stored {
         Ok(Stored { kept })
     }
 
-    /// Stores a text, or a block whose length field has `width` bytes, that stands in the pool
-    /// already: its bytes are those from `start` to the pool's end.
+    /// Stores a text, or a block whose length field has `width` bytes, that is already in the
+    /// pool: its bytes are those from `start` to the pool's end.
     ///
     /// An indirect value names a form by a number of 16 bits.
     pub fn of_end(via: Option<Uleb>, width: Option<u8>, start: usize, pool: &[u8]) -> Stored
@@ -86,8 +87,9 @@ impl Stored {
         Stored { kept }
     }
 
-    /// The value, its bytes being lent from the pool in which it was stored, or from one that
+    /// The value, with its bytes borrowed from the pool in which it was stored, or from one that
     /// begins with it.
+    #[inline(always)]
     pub fn lend<'a>(&self, pool: &'a [u8]) -> AttrValue<'a>
         requires { StoredFits (length pool.now) self.now }
         ensures { attribute_of result ≡ content pool.now self.now }
@@ -114,6 +116,7 @@ impl Stored {
 }
 
 /// The form that an indirect value names, as it is kept.
+#[inline(always)]
 fn named(form: Option<Uleb>) -> Option<Via>
     requires { IfSome form (λ u. u.value < 2 ^ 16) }
     ensures { option_map via_form result ≡ option_map uleb_of form }

@@ -1,10 +1,10 @@
-//! Values of attributes, lent from the bytes that hold them.
+//! Values of attributes, borrowed from the bytes that hold them.
 ghost use Rattle.std.specs.Prelude.{◌≡◌, None, option_map};
 ghost use Rattle.dw_form.specs.Lent.{number_in, text_in, value_of};
 
 use dw_leb::{Sleb, Uleb};
 
-/// A value as it is written (section 7.5.5). Its bytes, of a text or a block, are lent.
+/// A value as it is written (section 7.5.5). The bytes of a text or a block are borrowed.
 #[derive(Clone, Copy, Debug, PartialEq, Eq)]
 pub enum Value<'a> {
     /// A fixed number of 1 to 8 bytes, as an address, an offset, a reference, an index or a flag.
@@ -54,7 +54,7 @@ impl<'a> AttrValue<'a> {
         }
     }
 
-    /// The bytes of a text that stands in the unit itself (DW_FORM_string), without the zero byte that
+    /// The bytes of a text that is in the unit itself (DW_FORM_string), without the zero byte that
     /// ends it. None for any other value.
     pub fn as_text(&self) -> Option<&'a [u8]>
         ensures { option_map (λ text. text.now) result ≡ text_in (value_of self.now.value) }

@@ -15,7 +15,8 @@ use std::io::Write;
 /// Writes a value under form `form`, where it has a spelling: it is one of the form's shape, or
 /// under indirect one of the shape of the form in `via`, its numbers and lengths fit their bytes,
 /// and its text has no zero byte. What was read under a form has a spelling. After an error, which
-/// is the writer's, a beginning of the spelling was written. No memory is taken.
+/// is the writer's, a prefix of the spelling was written. No memory is taken.
+#[inline(always)]
 pub fn write_value<W: Write>(
     ctx: Ctx,
     form: u64,
@@ -38,6 +39,7 @@ pub fn write_value<W: Write>(
 }
 
 /// The number of the form that an indirect value names, the head, the content and the end.
+#[inline(always)]
 fn write_pieces<W: Write>(
     ctx: Ctx,
     shape: Shape,
@@ -60,6 +62,7 @@ fn write_pieces<W: Write>(
 }
 
 /// Writes the number of the form that an indirect value names.
+#[inline(always)]
 fn write_via<W: Write>(value: &AttrValue<'_>, writer: &mut Watched<W>) -> Result<(), WriteError>
     requires { fault_of writer.old ≡ None }
     ensures written { Wrote
@@ -71,7 +74,8 @@ fn write_via<W: Write>(value: &AttrValue<'_>, writer: &mut Watched<W>) -> Result
     write_all(writer, via_part(value).as_slice())
 }
 
-/// Writes what stands before the content.
+/// Writes what comes before the content.
+#[inline(always)]
 fn write_head<W: Write>(
     ctx: Ctx,
     shape: Shape,
@@ -92,6 +96,7 @@ fn write_head<W: Write>(
 
 /// The count of bytes of a value's spelling under form `form`, where it has one: of what
 /// `write_value` writes.
+#[inline(always)]
 pub fn size_of(ctx: Ctx, form: u64, value: &AttrValue<'_>) -> u64
     requires context { IsContext ctx }
     requires spelled { HasSpelling ctx form (attribute_of value.now) }
@@ -104,6 +109,7 @@ pub fn size_of(ctx: Ctx, form: u64, value: &AttrValue<'_>) -> u64
 }
 
 /// The count of bytes of the pieces that `write_pieces` writes.
+#[inline(always)]
 fn size_of_pieces(ctx: Ctx, shape: Shape, value: &AttrValue<'_>) -> u64
     requires fits { HeadFits ctx shape (value_of value.now.value) }
     requires sizes { ShapeFits shape }
@@ -116,6 +122,7 @@ fn size_of_pieces(ctx: Ctx, shape: Shape, value: &AttrValue<'_>) -> u64
 }
 
 /// The shape of the form in effect: of an indirect value the one that it names.
+#[inline(always)]
 fn shape_in(ctx: Ctx, form: u64, value: &AttrValue<'_>) -> Option<Shape>
     requires { IsContext ctx }
     ensures shape { result
@@ -130,6 +137,7 @@ fn shape_in(ctx: Ctx, form: u64, value: &AttrValue<'_>) -> Option<Shape>
 }
 
 /// The bytes of the number of the form that an indirect value names.
+#[inline(always)]
 fn via_part(value: &AttrValue<'_>) -> ArrayVec<u8, 16>
     ensures bytes { result.items ≡ via_bytes (attribute_of value.now).via }
 {
@@ -139,7 +147,8 @@ fn via_part(value: &AttrValue<'_>) -> ArrayVec<u8, 16>
     }
 }
 
-/// What stands before the content: a number, or a block's length.
+/// What comes before the content: a number, or a block's length.
+#[inline(always)]
 fn head(ctx: Ctx, shape: Shape, value: &Value<'_>) -> ArrayVec<u8, 16>
     requires fits { HeadFits ctx shape (value_of value.now) }
     requires sizes { ShapeFits shape }

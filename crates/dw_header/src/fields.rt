@@ -11,7 +11,7 @@ ghost use Rattle.dw_header.specs.FieldsView.{after_type, after_version, all_fiel
 use crate::kind::Kind;
 use dw_leb::{Bad, Format, Order, Reason, read_fixed};
 
-/// What stands between the version and the first entry.
+/// The fields between the version and the first entry.
 #[derive(Clone, Copy, Debug)]
 pub(crate) struct HeaderFields {
     pub(crate) kind: Kind,

@@ -62,10 +62,7 @@ fn head_at(order: Order, b: &[u8]) -> Result<((Header, u64), usize), Bad>
     ensures room { IfOk result (λ x. x.1 ≤ length b.now) }
     ensures near { IfErr result (λ e. e.offset ≤ length b.now) }
 {
-    let (format, unit_length) = match length_at(order, b) {
-        Ok(found) => found,
-        Err(reason) => return Err(Bad::here(reason)),
-    };
+    let (format, unit_length) = length_at(order, b).map_err(Bad::here)?;
     let size = format.length_size() as usize;
     match header_fields(order, format, &b[size..], unit_length) {
         Ok((fields, more)) => {

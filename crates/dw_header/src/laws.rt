@@ -8,7 +8,7 @@ ghost use Rattle.dw_header.specs.Laws.{NoHeaderBegins, HeadersAreSpelled, Spelle
 
 /// One spelling: no spelling of a header's fields begins another, nor with the initial length before
 /// them (sections 7.2.2 and 7.5.1) in one byte order. So each header with its unit_length has one
-/// spelling, and a header stands at the front exactly where that spelling does.
+/// spelling, and a header is at the front exactly where that spelling is.
 pub fn one_spelling()
     ensures fields { (order : Order) (format : Format) → NoneBegins (fields order format) }
     ensures none_begins { NoHeaderBegins }

@@ -11,8 +11,8 @@ use arrayvec::ArrayVec;
 use dw_leb::{Format, Order, Watched, WriteError, write_all, write_fixed, write_length};
 use std::io::Write;
 
-/// Writes the header behind its initial length, that of a unit_length: exactly their bytes. It takes no
-/// memory. After an error a beginning of them was written (sections 7.4 and 7.5.1).
+/// Writes the initial length for a unit_length, and then the header: exactly their bytes. It takes
+/// no memory. After an error a prefix of them was written (sections 7.4 and 7.5.1).
 ///
 /// They are read back as this header where its fields lie within the unit_length, and the unit's end
 /// below 2^63. Neither is judged here.

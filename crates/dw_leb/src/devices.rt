@@ -8,7 +8,7 @@ use std::io::{ErrorKind, Read, Write};
 
 /// A reader or writer that passes on at most a set count of bytes a call (0 for a writer alone), and
 /// fails with a set kind at a set call.
-#[derive(Drop)]
+#[derive(Debug, Drop)]
 pub struct Stepped<T> {
     inner: T,
     step: usize,
@@ -49,14 +49,14 @@ impl<T> Stepped<T> {
         }
     }
 
-    /// What it stands on.
+    /// The reader or writer inside.
     pub fn inner(&self) -> &T
         ensures { result.now ≡ stepped_inner self.now }
     {
         &self.inner
     }
 
-    /// Counts a call, and tells whether it is the one that fails.
+    /// Counts a call, and says whether it is the one that fails.
     fn is_failing(&mut self) -> bool
         ensures due { result ≡ is_due (stepped_calls self.old) }
         ensures calls { stepped_calls self.new ≡ calls_after (stepped_calls self.old) }

@@ -1,7 +1,9 @@
 //! Why reading or writing failed, and where.
 ghost use Rattle.std.specs.Prelude.{◌≡◌, ◌<◌, ◌+◌, ◌^◌, Some};
 ghost use Rattle.dw_leb.specs.ErrorText.{fault_text, reason_name, section_name};
+ghost use Rattle.dw_leb.specs.declared.errors.ReadError.TheVariants as read;
 
+use std::alloc::{AllocError, AllocFailed};
 use std::fmt;
 use std::io::ErrorKind;
 use thiserror::Error;
@@ -122,7 +124,7 @@ impl Bad {
     }
 }
 
-/// The section in which a fault stands.
+/// The section in which a fault is.
 #[derive(Clone, Copy, Debug, PartialEq, Eq, Hash)]
 pub enum SectionId {
     /// `.debug_info`
@@ -148,7 +150,7 @@ impl SectionId {
 pub struct Fault {
     /// The section of the field.
     pub section: SectionId,
-    /// Where the field's first byte stands. In `.debug_info` it counts from the unit's first byte
+    /// The offset of the field's first byte. In `.debug_info` it counts from the unit's first byte
     /// where one unit is read, and from the section's first byte where a section is read. In
     /// `.debug_abbrev` it counts from the section's first byte.
     pub offset: u64,
@@ -181,6 +183,31 @@ pub enum ReadError {
     /// The reader failed.
     #[error("read {0}")]
     Io(ErrorKind),
+}
+
+impl From<Fault> for ReadError {
+    ghost from_gives = { λ fault out. out ≡ read.Fault fault };
+
+    fn from(fault: Fault) -> ReadError {
+        ReadError::Fault(fault)
+    }
+}
+
+impl From<AllocError> for ReadError {
+    ghost from_gives = { λ _ out. out ≡ read.NoMemory };
+
+    fn from(_error: AllocError) -> ReadError {
+        ReadError::NoMemory
+    }
+}
+
+/// For calls that hand back what they had no memory for. It is dropped.
+impl<T: Drop> From<AllocFailed<T>> for ReadError {
+    ghost from_gives = { λ _ out. out ≡ read.NoMemory };
+
+    fn from(_refused: AllocFailed<T>) -> ReadError {
+        ReadError::NoMemory
+    }
 }
 
 /// Why a writing was not finished.

@@ -16,6 +16,7 @@ use byteorder::{BigEndian, ByteOrder, LittleEndian};
 ///
 /// Refused where the unit ends before `n` bytes (`PastUnit`), else where the input does
 /// (`Truncated`).
+#[inline(always)]
 pub fn read_fixed(order: Order, n: u8, b: &[u8], lim: u64) -> Result<u128, Reason>
     requires some { 1 ≤ n }
     requires most { n ≤ 16 }
@@ -30,6 +31,7 @@ pub fn read_fixed(order: Order, n: u8, b: &[u8], lim: u64) -> Result<u128, Reaso
 }
 
 /// The same, as the plain reader's answer.
+#[inline(always)]
 pub(crate) fn number_at(order: Order, n: u8, b: &[u8], lim: u64) -> Result<u128, Reason>
     requires some { 1 ≤ n }
     requires most { n ≤ 16 }
@@ -41,6 +43,7 @@ pub(crate) fn number_at(order: Order, n: u8, b: &[u8], lim: u64) -> Result<u128,
     scan(order, n, b, lim)
 }
 
+#[inline(always)]
 fn scan(order: Order, n: u8, b: &[u8], lim: u64) -> Result<u128, Reason>
     requires some { 1 ≤ n }
     requires most { n ≤ 16 }
@@ -60,6 +63,7 @@ fn scan(order: Order, n: u8, b: &[u8], lim: u64) -> Result<u128, Reason>
 }
 
 /// The `n` bytes of the number `x`, which they hold. `n` is 1 to 16.
+#[inline(always)]
 pub fn write_fixed(order: Order, n: u8, x: u128) -> ArrayVec<u8, 16>
     requires some { 1 ≤ n }
     requires most { n ≤ 16 }
@@ -70,6 +74,8 @@ pub fn write_fixed(order: Order, n: u8, x: u128) -> ArrayVec<u8, 16>
     spell(order, n, x)
 }
 
+// Most numbers have at most eight bytes, for which a word is faster than two.
+#[inline(always)]
 fn spell(order: Order, n: u8, x: u128) -> ArrayVec<u8, 16>
     requires some { 1 ≤ n }
     requires most { n ≤ 16 }
@@ -78,9 +84,16 @@ fn spell(order: Order, n: u8, x: u128) -> ArrayVec<u8, 16>
     ensures length { length result.items ≡ n }
 {
     let mut cells = [0u8; 16];
-    match order {
-        Order::Little => LittleEndian::write_uint128(&mut cells, x, n as usize),
-        Order::Big => BigEndian::write_uint128(&mut cells, x, n as usize),
+    if n > 8 {
+        match order {
+            Order::Little => LittleEndian::write_uint128(&mut cells, x, n as usize),
+            Order::Big => BigEndian::write_uint128(&mut cells, x, n as usize),
+        }
+    } else {
+        match order {
+            Order::Little => LittleEndian::write_uint(&mut cells, x as u64, n as usize),
+            Order::Big => BigEndian::write_uint(&mut cells, x as u64, n as usize),
+        }
     }
     let mut bytes = ArrayVec::new();
     let _fits = bytes.try_extend_from_slice(&cells[..n as usize]);

@@ -1,5 +1,5 @@
 //! Groups of seven bits, of which LEB128 numbers are made (section 7.6).
-ghost use Rattle.std.specs.Prelude.{◌≡◌, ◌≤◌, ◌<◌, ◌+◌, ◌*◌, ◌^◌, length, position, IfOk, IfSome};
+ghost use Rattle.std.specs.Prelude.{◌≡◌, ◌≤◌, ◌<◌, ◌+◌, ◌*◌, ◌^◌, [], ◌∷◌, length, position, Ok, IfOk, IfSome};
 ghost use Rattle.dw_leb.specs.Number.{digits, marked, unmarked};
 ghost use Rattle.dw_leb.specs.Scan.{number as number_of, is_last, front_at, HasWidth};
 
@@ -8,6 +8,20 @@ use arrayvec::ArrayVec;
 
 /// The most bytes in which a number is written.
 const MOST: usize = 16;
+
+/// The first byte, where it is a whole number.
+#[inline(always)]
+pub(crate) fn alone(b: &[u8], lim: u64) -> Option<u8>
+    ensures front { IfSome result (λ byte. front_at b.now lim ≡ Ok (byte ∷ [])) }
+    ensures small { IfSome result (λ byte. byte < 128) }
+    ensures room { IfSome result (λ _. (1 ≤ length b.now) × (1 ≤ lim)) }
+{
+    let first = b.first()?;
+    if lim == 0 || *first >= 128 {
+        return None;
+    }
+    Some(*first)
+}
 
 /// How many bytes the number at the front of `b` has, where `lim` are left to the unit's end.
 pub(crate) fn width_at(b: &[u8], lim: u64) -> Result<usize, Reason>

@@ -10,7 +10,7 @@ use crate::fixed::{number_at, write_fixed};
 use crate::order::{Format, Order};
 use arrayvec::ArrayVec;
 
-/// The initial length at the front of `b`: the format that it tells, and the length, which counts
+/// The initial length at the front of `b`: the format that it gives, and the length, which counts
 /// the unit's bytes after this field. `start` is the offset of the field's first byte: 0 where a
 /// unit is read alone, and else counted from the section's first byte.
 ///

@@ -2,11 +2,11 @@
 //! first fault is kept. No call takes memory.
 //!
 //! A number keeps its width, the count of bytes in which it was written, so that it is written back
-//! as it stood. Each read of a number is handed `b`, the rest of the input, and `lim`, the count of
+//! unchanged. Each read of a number is handed `b`, the rest of the input, and `lim`, the count of
 //! bytes that are left to the end of the unit to which the number belongs. Either may be the
-//! smaller: the input may be cut inside the unit, and may go on behind it. Bytes behind the number
-//! don't matter. `Ok` is answered exactly where the number is spelled at the front of `b` and within
-//! `lim`, and else the reason why not.
+//! smaller: the input may be cut inside the unit, and may go on after it. Bytes after the number
+//! don't matter. A read returns `Ok` exactly where the number is spelled at the front of `b` and
+//! within `lim`, and otherwise the reason why not.
 //!
 //! Sections that the comments name are those of the DWARF 5 standard.
 #![tactic(auto)]

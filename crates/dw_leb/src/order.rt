@@ -11,7 +11,7 @@ pub enum Order {
     Big,
 }
 
-/// The format of a unit, which its initial length tells (section 7.4).
+/// The format of a unit, which its initial length gives (section 7.4).
 #[derive(Clone, Copy, Debug, PartialEq, Eq, Hash)]
 pub enum Format {
     /// Initial lengths and section offsets of 4 bytes.

@@ -7,8 +7,8 @@ use crate::errors::WriteError;
 use crate::watch::Watched;
 use std::io::{ErrorKind, Write};
 
-/// Writes all the bytes. An error has the kind that `fault()` tells then, and a beginning of them was
-/// written.
+/// Writes all the bytes. An error has the kind that `fault()` then returns, and a prefix of them
+/// was written.
 pub fn write_all<W: Write>(writer: &mut Watched<W>, bytes: &[u8]) -> Result<(), WriteError>
     requires { fault_of writer.old ≡ None }
     ensures ok { OnOk result

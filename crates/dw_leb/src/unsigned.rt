@@ -6,7 +6,7 @@ ghost use Rattle.dw_leb.specs.Reader.{seen_by};
 ghost use Rattle.dw_leb.specs.Scan.{front_at, unsigned_scan};
 
 use crate::errors::Reason;
-use crate::groups::{number, place, spell, width_at};
+use crate::groups::{alone, number, place, spell, width_at};
 use arrayvec::ArrayVec;
 
 /// An unsigned number and the count of bytes in which it is written, its width: 1 to 16, of which
@@ -28,6 +28,7 @@ impl Uleb {
     /// The first byte below 128 ends it. Refused are: sixteen bytes within the unit of which none
     /// ends it (`LebTooLong`), fewer up to the unit's end (`PastUnit`) or up to the input's, which
     /// comes before the unit's (`Truncated`), and a value above 2^64 - 1 (`LebTooBig`).
+    #[inline(always)]
     pub fn read(b: &[u8], lim: u64) -> Result<Uleb, Reason>
         ensures found { IfOk result (λ x. Taken uleb b.now lim (uleb_of x) x.width) }
         ensures only { (x : Unsigned) → Taken uleb b.now lim x x.width → IsOkAnd result (λ y. uleb_of y ≡ x) }
@@ -37,7 +38,22 @@ impl Uleb {
         Uleb::scan(b, lim)
     }
 
+    // Most numbers have one byte.
+    #[inline(always)]
     fn scan(b: &[u8], lim: u64) -> Result<Uleb, Reason>
+        ensures exact { seen_by uleb_of result ≡ unsigned_scan (front_at b.now lim) }
+        ensures room { IfOk result (λ x. (x.width ≤ length b.now) × (x.width ≤ lim)) }
+    {
+        match alone(b, lim) {
+            Some(byte) => Ok(Uleb {
+                value: byte as u64,
+                width: 1,
+            }),
+            None => Uleb::scan_groups(b, lim),
+        }
+    }
+
+    fn scan_groups(b: &[u8], lim: u64) -> Result<Uleb, Reason>
         ensures exact { seen_by uleb_of result ≡ unsigned_scan (front_at b.now lim) }
         ensures room { IfOk result (λ x. (x.width ≤ length b.now) × (x.width ≤ lim)) }
     {

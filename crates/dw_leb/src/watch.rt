@@ -8,9 +8,9 @@ use std::io;
 use std::io::{ErrorKind, Read, Write};
 
 /// A reader or writer that is watched: it passes calls on, and keeps the kind of the first that
-/// failed. A call on it asks that no fault stands, so after a fault nothing more is read or written
-/// until its owner forgets the fault.
-#[derive(Drop)]
+/// failed. A call on it requires that it has no fault, so after a fault nothing more is read or
+/// written until its owner forgets the fault.
+#[derive(Debug, Drop)]
 pub struct Watched<T> {
     inner: T,
     first: Option<ErrorKind>,
@@ -50,8 +50,8 @@ impl<T> Watched<T> {
 }
 
 impl<R: Read> Watched<R> {
-    /// One read, where no fault stands. An error is the fault then, of the error's kind, and no byte
-    /// was taken.
+    /// One read; there must be no fault. An error becomes the fault, with the error's kind, and no
+    /// byte was taken.
     pub fn read(&mut self, buf: &mut [u8]) -> io::Result<usize>
         requires { fault_of self.old ≡ None }
         ensures bound { ReadsAtMost result buf.new }
@@ -70,8 +70,8 @@ impl<R: Read> Watched<R> {
 }
 
 impl<W: Write> Watched<W> {
-    /// One write, where no fault stands. An error is the fault then, of the error's kind, and so is
-    /// `WriteZero` where the writer took 0 bytes of some, which is answered as `Ok(0)`.
+    /// One write; there must be no fault. An error becomes the fault, with the error's kind. Where
+    /// the writer took 0 bytes of some, the call returns `Ok(0)` and the fault is `WriteZero`.
     pub fn write(&mut self, buf: &[u8]) -> io::Result<usize>
         requires { fault_of self.old ≡ None }
         ensures bound { WritesAtMost result buf.now }

@@ -17,7 +17,7 @@ use std::alloc::{AllocError, Global};
 use std::io;
 
 /// Reads the words after the program's name: one of the subcommands `show` and `copy`, each with
-/// `--info FILE`, `--abbrev FILE` and the flag `--big`. Options stand after the subcommand, each
+/// `--info FILE`, `--abbrev FILE` and the flag `--big`. Options come after the subcommand, each
 /// once.
 ///
 /// Errors: `Parse` where the words aren't taken or ask for help, `Memory` where a growth was
@@ -31,11 +31,11 @@ pub fn line<'a>(alloc: Global, words: &'a [&'a str]) -> Result<Line<'a>, LineErr
     Ok(read(&matches))
 }
 
-/// Why words that could not be read are no command line. `kind` is that of the error with which they
-/// were asked for: `OutOfMemory`, or another where a word is not UTF-8. The program's usage stands in
-/// the error's text.
+/// Why words that could not be read are no command line. `kind` is that of the error with which
+/// they were asked for: `OutOfMemory`, or another where a word is not UTF-8. The error's text
+/// contains the program's usage.
 ///
-/// `Parse` with a mistake for any kind but want of memory; `Memory` for that, and where the text of
+/// `Parse` with a mistake for any kind but `OutOfMemory`; `Memory` for that, and where the text of
 /// the mistake was refused memory.
 pub fn unreadable(alloc: Global, kind: io::ErrorKind) -> LineError
     ensures memory { kind ≡ OutOfMemory → result ≡ Memory }

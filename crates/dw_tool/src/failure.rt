@@ -24,16 +24,16 @@ pub enum Failure<'a> {
 }
 
 impl<'a> Failure<'a> {
-    /// The file with this path failed with an error of this kind. One that failed for want of memory
-    /// is `Memory`.
+    /// The file with this path failed with an error of this kind. If it failed because memory was
+    /// refused, that is `Memory`.
     pub fn of_file(path: &'a str, kind: ErrorKind) -> Failure<'a>
         ensures { FailsAs kind (failure.File path.entry) result }
     {
         unless_memory(kind, Failure::File(path))
     }
 
-    /// Standard output failed with an error of this kind. Where it failed for want of memory, that is
-    /// `Memory`.
+    /// Standard output failed with an error of this kind. If it failed because memory was refused,
+    /// that is `Memory`.
     pub fn of_output(kind: ErrorKind) -> Failure<'a>
         ensures { FailsAs kind failure.Output result }
     {

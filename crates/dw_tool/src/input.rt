@@ -1,6 +1,6 @@
 //! The input of a run, read whole.
 ghost use Rattle.std.specs.Prelude.{◌≡◌, None, vec_items};
-ghost use Rattle.dw_leb.specs.Watch.{inner_of, fault_of, reader_fault, TookBytes};
+ghost use Rattle.dw_leb.specs.Watch.{inner_of, fault_of, reader_fault, KeptSome};
 ghost use Rattle.dw_tool.specs.Input.{ReadsAll};
 
 use dw_leb::{ReadError, Watched};
@@ -9,8 +9,8 @@ use std::io::Read;
 
 /// All bytes that the reader has left.
 ///
-/// `Io` is answered exactly where the reader failed, with the kind that `fault()` tells then. After
-/// that or `NoMemory` some bytes were taken. A `Fault` doesn't come.
+/// `Io` is returned exactly where the reader failed, with the kind that `fault()` then returns.
+/// After that, or after `NoMemory`, bytes may have been taken. `Fault` is never returned.
 pub(crate) fn read_all<R: Read>(
     alloc: Global,
     reader: &mut Watched<R>,
@@ -20,7 +20,7 @@ pub(crate) fn read_all<R: Read>(
         (R.remaining (inner_of reader.old))
         (R.remaining (inner_of reader.new))
         result }
-    ensures memory { TookBytes (R.remaining (inner_of reader.old)) (R.remaining (inner_of reader.new)) result }
+    ensures memory { KeptSome (R.remaining (inner_of reader.old)) (R.remaining (inner_of reader.new)) result }
     ensures fault { fault_of reader.new ≡ reader_fault result }
 {
     let mut bytes = Vec::new(alloc);
@@ -33,8 +33,6 @@ pub(crate) fn read_all<R: Read>(
         if got == 0 {
             return Ok(bytes);
         }
-        if bytes.extend_from_slice(&chunk[..got]).is_err() {
-            return Err(ReadError::NoMemory);
-        }
+        bytes.extend_from_slice(&chunk[..got])?;
     }
 }

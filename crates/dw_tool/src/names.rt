@@ -93,14 +93,14 @@ static ATTRIBUTES: [(u64, &str); 47] = [
     (DW_AT_LOCLISTS_BASE, "loclists_base"),
 ];
 
-/// The name of a tag as it stands after `DW_TAG_`, or `None` where this project has none for it.
+/// The name of a tag without its prefix `DW_TAG_`, or `None` where this project has none for it.
 pub fn tag_name(tag: u64) -> Option<&'static str>
     ensures { option_map (λ name. name.now) result ≡ name_in tag_names tag }
 {
     find_name(&TAGS, tag)
 }
 
-/// The name of an attribute as it stands after `DW_AT_`, or `None` where this project has none for
+/// The name of an attribute without its prefix `DW_AT_`, or `None` where this project has none for
 /// it.
 pub fn attribute_name(attribute: u64) -> Option<&'static str>
     ensures { option_map (λ name. name.now) result ≡ name_in attribute_names attribute }

@@ -33,8 +33,8 @@ pub struct Inputs<'a, R> {
 /// section was read, and nothing at all where it is refused.
 ///
 /// Errors: `Fault` with the first fault, `Read` and `Write` where the reader or the writer failed,
-/// `Memory` where a growth was refused, which no run over an empty section asks for. After `Write` a
-/// beginning of the output was written.
+/// `Memory` where a growth was refused. A run over an empty section needs no growth. After `Write`
+/// a prefix of the output was written.
 pub fn run<R: Read, W: Write>(
     alloc: Global,
     command: Command,
@@ -67,8 +67,8 @@ pub fn run<R: Read, W: Write>(
     Ok(Status::Good)
 }
 
-/// What stands in a section `.debug_info`: nothing, or one unit that fills it. A fault is the first
-/// one; bytes behind a unit are `NotYet`.
+/// What is in a section `.debug_info`: nothing, or one unit that fills it. A fault is the first
+/// one; bytes after a unit are `NotYet`.
 ///
 /// Errors: `Fault`, or `Memory` where a growth was refused. An empty section has neither.
 pub fn read_section(
@@ -95,7 +95,7 @@ pub fn read_section(
     Ok(Some(unit))
 }
 
-/// Writes what the command makes of what stands in a section.
+/// Writes what the command makes of what is in a section.
 fn write_section<W: Write>(
     alloc: Global,
     command: Command,

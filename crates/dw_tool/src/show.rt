@@ -22,7 +22,7 @@ pub fn push_unit(out: &mut Vec<u8>, unit: &Unit) -> Result<(), AllocError>
     push_entries(out, unit.entries())
 }
 
-/// Appends the texts of entries, one behind the other.
+/// Appends the texts of entries, one after the other.
 pub fn push_entries(out: &mut Vec<u8>, entries: Entries<'_>) -> Result<(), AllocError>
     ensures { Appends result out.old.items (entries_text entries.entry) out.new.items }
 {
@@ -40,8 +40,8 @@ pub fn push_entry(out: &mut Vec<u8>, entry: &EntryRef<'_>) -> Result<(), AllocEr
     push_attributes(out, entry.attrs())
 }
 
-/// Appends the value as text. A number stands in hexadecimal digits, or in decimal ones where it has
-/// a sign; a block as `push_block` and a text as `push_quoted` tell it; a flag as `present`.
+/// Appends the value as text. A number is written in hexadecimal digits, or in decimal ones where
+/// it has a sign; a block as by `push_block`, a text as by `push_quoted`, a flag as `present`.
 pub fn push_value(out: &mut Vec<u8>, value: &Value<'_>) -> Result<(), AllocError>
     ensures { Appends result out.old.items (value_text (value_of value.now)) out.new.items }
 {

@@ -1,5 +1,5 @@
 //! The texts of numbers, names and bytes, each appended to a list of bytes. Where a growth is
-//! refused, the list keeps what it held, and a beginning of the text may stand after it.
+//! refused, the list keeps what it held, and a prefix of the text may follow it.
 ghost use Rattle.std.specs.Prelude.{◌≡◌, ◌<◌, ◌++◌, ℕ, codes, false, decimal, unwrap_or, option_map};
 ghost use Rattle.std.specs.Fmt.{digit_glyph, digits, signed_decimal};
 ghost use Rattle.dw_tool.specs.Text.{Appends, attribute_text, block, each, escaped, hexadecimal, quoted, spaced_digits, tag_text, two_digits};
@@ -49,7 +49,7 @@ pub fn push_attribute(out: &mut Vec<u8>, attribute: u64) -> Result<(), AllocErro
 }
 
 /// Appends the bytes between double quotes. A double quote and a backslash get a backslash before
-/// them, and bytes outside 0x20 to 0x7e stand as `\x` and two hexadecimal digits.
+/// them, and bytes outside 0x20 to 0x7e are written as `\x` and two hexadecimal digits.
 pub fn push_quoted(out: &mut Vec<u8>, bytes: &[u8]) -> Result<(), AllocError>
     ensures { Appends result out.old.items (quoted bytes.now) out.new.items }
 {

@@ -32,7 +32,7 @@ pub struct AttrRef<'a> {
 
 /// The attributes of an entry that are left, in the order in which its declaration names them, which
 /// is that of their values (section 7.5.2).
-#[derive(Drop)]
+#[derive(Debug, Drop)]
 pub struct Attrs<'a> {
     ctx: Ctx,
     pairs: &'a [Pair],

@@ -7,7 +7,7 @@ use crate::tree::EntryTree;
 use std::marker::Model;
 
 /// The entries of a chain that are left: each stands on its own level (section 2.3).
-#[derive(Drop)]
+#[derive(Debug, Drop)]
 pub struct Children<'a> {
     pub(crate) tree: &'a EntryTree,
     /// The row of the next one.

@@ -31,7 +31,7 @@ use std::rc::Rc;
 ///
 /// What a call's `requires` asks for its caller has tested. So the calls answer only that memory was
 /// refused, and the draft holds then what it held.
-#[derive(Drop)]
+#[derive(Debug, Drop)]
 pub struct TreeDraft {
     context: Ctx,
     table: Rc<Table>,
@@ -113,7 +113,7 @@ impl TreeDraft {
     }
 
     /// The unfinished entry is given its next value, which has `size` bytes. `front` are those of them
-    /// that stand before the bytes of a text or block, or of any other value all. With its last value
+    /// that come before the bytes of a text or block, or of any other value all. With its last value
     /// the entry is complete: closed where its declaration has no children, else open.
     pub fn value(
         &mut self,
@@ -166,7 +166,7 @@ impl TreeDraft {
     }
 
     /// The partial text or block has all its bytes. As the next value of the unfinished entry
-    /// it has `size` bytes, those of its form, its length and its end included, of which `front` stand
+    /// it has `size` bytes, those of its form, its length and its end included, of which `front` come
     /// before its own.
     pub fn end_value(&mut self, front: &[u8], size: u64)
         requires fits { IfSome (partial_in self.old.place.unfinished) (λ b. NextFits self.old.context self.old.table self.old.place.unfinished (partial_attribute b)) }

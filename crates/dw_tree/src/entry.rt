@@ -14,7 +14,7 @@ use std::marker::Model;
 
 /// A debugging information entry of a tree (section 2.1): its tag, its attributes (section 2.2), and
 /// where it stands (section 2.3). It borrows the tree.
-#[derive(Clone, Drop)]
+#[derive(Clone, Debug, Drop)]
 pub struct EntryRef<'a> {
     pub(crate) tree: &'a EntryTree,
     /// Its row.

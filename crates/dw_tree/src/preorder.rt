@@ -11,7 +11,7 @@ use crate::tree::EntryTree;
 use std::marker::Model;
 
 /// The entries of a tree that are left, each before those below it.
-#[derive(Drop)]
+#[derive(Debug, Drop)]
 pub struct Entries<'a> {
     tree: &'a EntryTree,
     /// The row from which on the next one is looked for.

@@ -13,7 +13,7 @@ use std::rc::Rc;
 
 /// A tree of entries over the table of their declarations, whose root begins at an offset of its
 /// unit. It keeps every width in which its numbers are written.
-#[derive(Drop)]
+#[derive(Debug, Drop)]
 pub struct EntryTree {
     pub(crate) context: Ctx,
     pub(crate) table: Rc<Table>,

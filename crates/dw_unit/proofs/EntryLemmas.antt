@@ -1,5 +1,5 @@
 -- The steps of reading values and padding.
-use Rattle.std.proofs.Common.{None, ◌≡◌, ◌≤◌, ◌<◌, ◌+◌, ◌-◌, ℕ, zero, suc, List, [], ◌∷◌, ◌++◌, length, drop, get_or, Err, refl, sym, ap, ◌∙◌, append_assoc, append-nil, arith}
+use Rattle.std.proofs.Common.{None, ◌≡◌, ◌≤◌, ◌<◌, ◌+◌, ◌-◌, ℕ, zero, suc, List, [], ◌∷◌, ◌++◌, length, drop, get_or, refl, sym, ap, ◌∙◌, append_assoc, append-nil, arith}
 use Rattle.dw_leb.specs.declared.errors.Reason.{Reason}
 use Rattle.dw_leb.specs.Part.{Part, Taken}
 use Rattle.dw_leb.specs.Number.{Unsigned}
@@ -16,9 +16,7 @@ use Rattle.dw_abbrev.specs.declared.pair.Pair.{Pair as RustPair}
 use Rattle.dw_tree.specs.ReadTree.{read_values, read_padding}
 use Rattle.dw_tree.specs.Tree.{not_null}
 use Rattle.dw_tree.specs.DecideTree.{padding_step}
-use Rattle.std.proofs.Common.{Bool, true, false, Option, Some, map}
-use Rattle.std.specs.Prelude.{Result, Ok, OnOk}
-use Rattle.std.specs.Result.{is_err}
+use Rattle.std.proofs.Common.{Bool, true, Option, Some, map}
 use Rattle.std.proofs.lemmas.Bool.{ne_eqb, eq-eqb}
 use Rattle.dw_abbrev.specs.Table.{Declaration, Table, declared}
 use Rattle.dw_tree.specs.Flat.{value_part}
@@ -144,12 +142,6 @@ module _ (whole : Outcome (List ℕ)) (total : ℕ) (bytes : List ℕ) (ws : Lis
     padding_read u size e =
         let after : lim - at - size ≡ lim - (at + size) = omega arith in
         padding_goes ∙ rw e (put_width ws at u size (read_padding (total - (count + 1)) (drop size bytes) (lim - at - size)) ∙ ap (λ (n : ℕ). put_front (ws ++ u.width ∷ []) (at + size) (read_padding (total - (count + 1)) (drop size bytes) n)) after)
-
--- ---- a call that didn't fail
-
-pub no_error : {X E : Type 0} (r : Result X E) (P : Type 0) → is_err r ≡ false → OnOk r P → P
-no_error (Ok x) P e h = h
-no_error (Err x) P e h = absurd cc
 
 pub drop_past : {X : Type 0} (xs : List X) (n : ℕ) → length xs ≤ n → drop n xs ≡ []
 drop_past [] zero h = refl

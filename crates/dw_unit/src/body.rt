@@ -15,7 +15,7 @@ use std::alloc::Global;
 use std::rc::Rc;
 
 /// The entries of a unit and its padding.
-#[derive(Drop)]
+#[derive(Debug, Drop)]
 pub(crate) struct Body {
     pub(crate) tree: EntryTree,
     /// The widths of the nulls after the root's end.

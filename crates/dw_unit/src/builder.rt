@@ -21,7 +21,7 @@ use std::rc::Rc;
 
 /// A unit that is being built: its header, the entries that it has so far with the one place where
 /// the next one stands, and the nulls behind its root.
-#[derive(Drop)]
+#[derive(Debug, Drop)]
 pub struct UnitBuilder {
     draft: Draft,
 }
@@ -69,9 +69,7 @@ impl UnitBuilder {
             return Err(refusal);
         }
         self.judged(code, values)?;
-        if put_entry(&mut self.draft, code, values).is_err() {
-            return Err(Refusal::NoMemory);
-        }
+        put_entry(&mut self.draft, code, values)?;
         Ok(())
     }
 
@@ -92,9 +90,7 @@ impl UnitBuilder {
         if let Some(refusal) = self.misfit(width) {
             return Err(refusal);
         }
-        if self.draft.close(width).is_err() {
-            return Err(Refusal::NoMemory);
-        }
+        self.draft.close(width)?;
         Ok(())
     }
 
@@ -115,9 +111,7 @@ impl UnitBuilder {
         if let Some(refusal) = self.misfit(width) {
             return Err(refusal);
         }
-        if self.draft.pad(width).is_err() {
-            return Err(Refusal::NoMemory);
-        }
+        self.draft.pad(width)?;
         Ok(())
     }
 

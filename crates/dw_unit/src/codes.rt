@@ -30,17 +30,13 @@ pub(crate) fn root_code(table: &Table, b: &[u8], lim: u64) -> Result<Uleb, Bad>
     ensures room { IfOk result (λ x. (x.width ≤ length b.now) × (x.width ≤ lim)) }
     ensures near { IfErr result (λ e. e.offset ≡ 0) }
 {
-    match code(b, lim) {
-        Ok(code) => {
-            if code.value == 0 {
-                return Err(Bad::here(Reason::NoRoot));
-            }
-            match table.get(code.value) {
-                None => Err(Bad::here(Reason::UnknownCode)),
-                Some(_) => Ok(code),
-            }
-        }
-        Err(reason) => Err(Bad::here(reason)),
+    let code = code(b, lim).map_err(Bad::here)?;
+    if code.value == 0 {
+        return Err(Bad::here(Reason::NoRoot));
+    }
+    match table.get(code.value) {
+        None => Err(Bad::here(Reason::UnknownCode)),
+        Some(_) => Ok(code),
     }
 }
 
@@ -52,20 +48,16 @@ pub(crate) fn child_code(table: &Table, room: u16, b: &[u8], lim: u64) -> Result
     ensures room { IfOk result (λ x. (x.width ≤ length b.now) × (x.width ≤ lim) × (1 ≤ x.width)) }
     ensures near { IfErr result (λ e. e.offset ≡ 0) }
 {
-    match code(b, lim) {
-        Ok(code) => {
-            if code.value == 0 {
-                return Ok(code);
-            }
-            if room == 0 {
-                return Err(Bad::here(Reason::TooDeep));
-            }
-            match table.get(code.value) {
-                None => Err(Bad::here(Reason::UnknownCode)),
-                Some(_) => Ok(code),
-            }
-        }
-        Err(reason) => Err(Bad::here(reason)),
+    let code = code(b, lim).map_err(Bad::here)?;
+    if code.value == 0 {
+        return Ok(code);
+    }
+    if room == 0 {
+        return Err(Bad::here(Reason::TooDeep));
+    }
+    match table.get(code.value) {
+        None => Err(Bad::here(Reason::UnknownCode)),
+        Some(_) => Ok(code),
     }
 }
 
@@ -76,15 +68,11 @@ fn null_code(b: &[u8], lim: u64) -> Result<(Uleb, usize), Bad>
     ensures room { IfOk result (λ x. (x.1 ≤ length b.now) × (x.1 ≤ lim) × (1 ≤ x.1)) }
     ensures near { IfErr result (λ e. e.offset ≡ 0) }
 {
-    match code(b, lim) {
-        Ok(code) => {
-            if code.value == 0 {
-                Ok((code, code.width as usize))
-            } else {
-                Err(Bad::here(Reason::SecondRoot))
-            }
-        }
-        Err(reason) => Err(Bad::here(reason)),
+    let code = code(b, lim).map_err(Bad::here)?;
+    if code.value == 0 {
+        Ok((code, code.width as usize))
+    } else {
+        Err(Bad::here(Reason::SecondRoot))
     }
 }
 
@@ -102,9 +90,7 @@ pub(crate) fn padding_at(alloc: Global, b: &[u8], lim: u64) -> Result<(Vec<u8>, 
             Ok(found) => found,
             Err(e) => return Err(BodyError::Bad(e.behind(at))),
         };
-        if widths.push(null.width).is_err() {
-            return Err(BodyError::NoMemory);
-        }
+        widths.push(null.width)?;
         at += size;
     }
     Ok((widths, at))

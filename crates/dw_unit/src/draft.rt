@@ -45,7 +45,7 @@ pub fn most_levels() -> usize
 /// What a call's `requires` asks for its caller has tested, by the draft's observers or because it
 /// knows what it did. So an error says only that memory was refused, and then the draft holds what it
 /// held. What is finished can be written.
-#[derive(Drop)]
+#[derive(Debug, Drop)]
 pub struct Draft {
     header: Header,
     tree: TreeDraft,
@@ -157,7 +157,7 @@ impl Draft {
         }
     }
 
-    /// The bytes of the partial text or block that stand before its own, and the count of all.
+    /// The bytes of the partial text or block that come before its own, and the count of all.
     fn partial_size(&self) -> Option<(ArrayVec<u8, 32>, u64)>
         requires { PartialFits self.now }
         ensures front { option_map (λ x. x.0.items) result ≡ option_map (λ v. front_bytes v (value_bytes self.now v)) (partial_of self.now) }

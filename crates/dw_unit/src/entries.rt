@@ -30,6 +30,7 @@ use std::rc::Rc;
 const LEVELS: u16 = 255;
 
 /// The value of a pair at the place `at`.
+#[inline(always)]
 fn value_at<'a>(
     ctx: Ctx,
     pair: &Pair,
@@ -86,19 +87,12 @@ fn entry_at(
     ensures room { IfOk result (λ next. (at ≤ next) × (next ≤ length b.now) × (next ≤ lim)) }
     ensures near { IfErr result (IsNear (length b.now)) }
 {
-    if draft.begin(code).is_err() {
-        return Err(BodyError::NoMemory);
-    }
+    draft.begin(code)?;
     let mut here = at;
     for pair in pairs {
-        let (value, size) = match value_at(ctx, pair, b, here, lim) {
-            Ok(found) => found,
-            Err(e) => return Err(BodyError::Bad(e)),
-        };
+        let (value, size) = value_at(ctx, pair, b, here, lim)?;
         let front = front_at(&value, size, b, here);
-        if draft.value(&value, front, size as u64).is_err() {
-            return Err(BodyError::NoMemory);
-        }
+        draft.value(&value, front, size as u64)?;
         here += size;
     }
     Ok(here)
@@ -147,9 +141,7 @@ fn children_at(
         here = next;
         if decl.has_children() {
             let (null, end) = children_at(draft, ctx, table, room - 1, b, next, lim)?;
-            if draft.close(null).is_err() {
-                return Err(BodyError::NoMemory);
-            }
+            draft.close(null)?;
             here = end;
         }
     }
@@ -186,9 +178,7 @@ fn root_at(
         return Ok(end);
     }
     let (null, next) = children_at(draft, ctx, table, LEVELS, b, end, lim)?;
-    if draft.close(null).is_err() {
-        return Err(BodyError::NoMemory);
-    }
+    draft.close(null)?;
     Ok(next)
 }
 
@@ -209,13 +199,8 @@ pub(crate) fn tree_at(
     ensures room { IfOk result (λ x. (x.1 ≤ length b.now) × (x.1 ≤ lim)) }
     ensures near { IfErr result (IsNear (length b.now)) }
 {
-    let code = match root_code(&table, b, lim) {
-        Ok(code) => code,
-        Err(e) => return Err(BodyError::Bad(e)),
-    };
-    let Ok(shared) = table.clone() else {
-        return Err(BodyError::NoMemory);
-    };
+    let code = root_code(&table, b, lim)?;
+    let shared = table.clone()?;
     let mut draft = TreeDraft::new(alloc, ctx, shared, start);
     let end = root_at(&mut draft, ctx, &table, code, b, lim)?;
     Ok((draft.finish(), end))

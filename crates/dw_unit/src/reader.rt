@@ -37,10 +37,7 @@ pub fn read_unit(
     ensures tables { tables.new ≡ tables.old }
     ensures room { IfOk result (λ x. x.1 ≤ length b.now) }
 {
-    let (header, unit_length) = match read_header(order, b) {
-        Ok(found) => found,
-        Err(fault) => return Err(ReadError::Fault(fault)),
-    };
+    let (header, unit_length) = read_header(order, b)?;
     let table = tables.get(header.abbrev_offset())?;
     let at = header.size();
     let left = header.format().length_size() as u64 + unit_length - at;

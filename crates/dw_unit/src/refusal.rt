@@ -1,5 +1,8 @@
 //! Why a call that builds a unit is refused.
+ghost use Rattle.std.specs.Prelude.{◌≡◌};
+ghost use Rattle.dw_unit.specs.declared.refusal.Refusal.TheVariants as refusal;
 
+use std::alloc::AllocError;
 use thiserror::Error;
 
 /// Why a call that builds a unit is refused. Its number is `refusal as u8`: the variants count from
@@ -38,4 +41,12 @@ pub enum Refusal {
     /// The allocator refused a growth.
     #[error("NoMemory")]
     NoMemory,
+}
+
+impl From<AllocError> for Refusal {
+    ghost from_gives = { λ _ out. out ≡ refusal.NoMemory };
+
+    fn from(_error: AllocError) -> Refusal {
+        Refusal::NoMemory
+    }
 }

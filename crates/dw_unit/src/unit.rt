@@ -12,7 +12,7 @@ use std::marker::Model;
 
 /// A unit over its abbreviation table: a header, a tree of entries, and the nulls after the root's
 /// end. It has exactly one spelling, and keeps every width in which its numbers were written.
-#[derive(Drop)]
+#[derive(Debug, Drop)]
 pub struct Unit {
     pub(crate) header: Header,
     pub(crate) tree: EntryTree,

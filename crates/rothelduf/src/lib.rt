@@ -1,13 +1,13 @@
-//! DWARF 5 debugging entries: read, looked at, built and written, by code that is proved. Whoever uses
-//! the library needs this crate alone; the crates below say where each item stands.
+//! DWARF 5 debugging entries: read, inspected, built and written, by code that is proved. A user of
+//! the library needs only this crate; its items are declared in the crates below.
 //!
 //! A unit is read from the bytes of `.debug_info`, over the table at its header's offset in
 //! `.debug_abbrev`:
 //!
 //! - `Tables` holds the abbreviation section, and reads each table when it is first asked for;
-//! - `read_unit` answers the unit at the front of bytes, or the first fault; `read_unit_from` does so from
-//!   any reader;
-//! - `Unit` lends its entries (`EntryRef`) and their attributes (`AttrRef`);
+//! - `read_unit` returns the unit at the front of bytes, or the first fault; `read_unit_from` does
+//!   so from any reader;
+//! - `Unit` hands out its entries (`EntryRef`) and their attributes (`AttrRef`), borrowed;
 //! - `UnitBuilder` makes a unit entry by entry, over a table of `TableBuilder`;
 //! - `write_unit` writes a unit as it was read or built, each number in its own width.
 //!

@@ -48,7 +48,8 @@ fn read(rt: &(impl AllocGlobal + Files)) -> Result<Unit, WalkError> {
     Ok(unit)
 }
 
-/// Says of each entry where it stands and what its name is, and of the entry at 0xf its size.
+/// Prints for each entry its offset, tag and level and whether it has a name, and the size of the
+/// entry at 0xf.
 fn walk(rt: &impl Print, unit: &Unit) -> io::Result<()> {
     for entry in unit.entries() {
         say(rt, &entry)?;
@@ -69,7 +70,7 @@ fn say(rt: &impl Print, entry: &EntryRef<'_>) -> io::Result<()> {
     )
 }
 
-/// The size that an entry tells, 0 where it tells none.
+/// The size that an entry has as an attribute, 0 where it has none.
 fn size_of(entry: &EntryRef<'_>) -> u64 {
     match entry.attr(DW_AT_BYTE_SIZE) {
         Some(size) => size.attr.as_number().unwrap_or(0),
@@ -97,7 +98,7 @@ fn table(alloc: Global) -> Result<Rc<Table>, WalkError> {
     builder.add(root).map_err(|(refusal, _)| refusal)?;
     builder.add(base).map_err(|(refusal, _)| refusal)?;
     match builder.finish(1) {
-        Ok(table) => Ok(Rc::new(alloc, table).map_err(|_| ReadError::NoMemory)?),
+        Ok(table) => Ok(Rc::new(alloc, table).map_err(ReadError::from)?),
         Err((refusal, _builder)) => Err(WalkError::Table(refusal)),
     }
 }

@@ -17,7 +17,6 @@ use Rattle.dw_leb.specs.declared.errors.Bad.{Bad}
 use Rattle.dw_unit.specs.declared.bad.BodyError.{BodyError}
 use Rattle.dw_unit.specs.declared.bad.BodyError.TheVariants as errors
 use Rattle.dw_unit.specs.Entries.{placed, code_reader, body_reader, BreaksFrom}
-use Rattle.dw_unit.proofs.EntryLemmas.{no_error}
 use Rattle.dw_unit.proofs.Chain.{ValuesRead, under, values_read, code_broken, null_ends, values_break, leaf_read, kids_break, branch_read, leaf_put, entered, branch_put}
 use Rattle.dw_unit.proofs.entries.+children_at.Goals as goal
 
@@ -202,7 +201,7 @@ loop-code-preserved-then-has_children t c =
     let f = c.in_ok-null.ensures.exact in
     let ts : Forest = f.0 in
     let null = uleb_of c.in_ok-null.null in
-    let closed : c.close.new.self ≡ closed_at null.width c.children_at.new.draft = no_error c.close.result _ (sym c.if-is_err.ensures.value) c.close.ensures.ok in
+    let closed : c.close.new.self ≡ closed_at null.width c.children_at.new.draft = c.in_ok-close.ensures.ok in
     let inside : c.children_at.new.draft.place.spot.above ≢ [] = let is = ap (λ (g : Growing). g.place.spot.above) f.4 ∙ ap (λ (g : Growing). g.place.spot.above) new in λ none. cc in
     let free : c.children_at.new.draft.place.unfinished ≡ None = ap (λ (g : Growing). g.place.unfinished) f.4 in
     let ends = ap end_of closed ∙ closed_end c.children_at.new.draft null.width inside free in

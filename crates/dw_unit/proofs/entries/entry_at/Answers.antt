@@ -1,5 +1,6 @@
 use Rattle.std.proofs.Common.{◌≡◌, ◌+◌, ◌-◌, ◌++◌, ◌∷◌, [], ℕ, suc, List, drop, map, refl, sym, ap, ◌∙◌, arith, append-nil, length-append, add-one}
 use Rattle.std.proofs.lemmas.List.{length-map, drop-drop}
+use Rattle.std.proofs.lemmas.Result.{err_from_is_err_and}
 use Rattle.std.specs.Prelude.{IsSome}
 use Rattle.dw_leb.specs.Number.{Unsigned}
 use Rattle.dw_leb.specs.Part.{Taken}
@@ -14,7 +15,7 @@ use Rattle.dw_tree.specs.Flat.{value_part}
 use Rattle.dw_tree.specs.Steps.{Growing, begun_at, with_value, end_of}
 use Rattle.dw_tree.specs.Ends.{begun_end}
 use Rattle.dw_unit.specs.Entries.{put_front}
-use Rattle.dw_unit.proofs.EntryLemmas.{put_none, value_breaks, value_read, no_error, drop_past}
+use Rattle.dw_unit.proofs.EntryLemmas.{put_none, value_breaks, value_read, drop_past}
 use Rattle.dw_unit.proofs.GivenValue.{none_partial, next_fits, next_size, front_short, front_there, with_is, with_end, prefix_then}
 use Rattle.dw_unit.proofs.entries.entry_at.Goals as goal
 
@@ -22,7 +23,7 @@ pub loop-pair-init : goal.loop-pair-init
 loop-pair-init c =
     let old : Growing = c.args.draft.now in
     let code : Unsigned = uleb_of c.args.code in
-    let partial : c.begin.new.self ≡ begun_at code old = no_error c.begin.result _ (sym c.if-is_err.ensures.value) c.begin.ensures.ok in
+    let partial : c.begin.new.self ≡ begun_at code old = c.in_ok-begin.ensures.ok in
     let known : IsSome (declared old.table c.args.code.value) = rw c.requires.known.1 refl in
     let ends = ap end_of partial ∙ begun_end old code known c.requires.free in
     let none : c.args.at - c.args.at ≡ 0 = omega arith in
@@ -45,72 +46,76 @@ value_at-requires-clause-within c = c.loop-pair.invariant.within
 pub value_at-requires-clause-left : goal.value_at-requires-clause-left
 value_at-requires-clause-left c = c.loop-pair.invariant.room
 
-pub returns-in-Err-clause-exact : goal.returns-in-Err-clause-exact
-returns-in-Err-clause-exact c =
+pub returns-in_err-value-clause-exact : goal.returns-in_err-value-clause-exact
+returns-in_err-value-clause-exact c =
     let i = c.loop-pair.invariant in
     let here = c.loop-pair.here in
     let at = c.args.at in
-    let whole = read_values c.args.ctx (map pair_of c.args.pairs.now) (drop at c.args.b.now) (c.args.lim - at) in (
+    let whole = read_values c.args.ctx (map pair_of c.args.pairs.now) (drop at c.args.b.now) (c.args.lim - at) in
+    let p = err_from_is_err_and c.from_residual-in_err-value.result c.from_residual-in_err-value.ensures.1 in
+    rw (p.1, p.2) (
       here - at,
-      value_breaks c.args.ctx whole c.args.pairs.now c.loop-pair.pair-index c.pair-item.result c.loop-pair-test.true c.pair-item.is i.vs (here - at) (drop here c.args.b.now) (c.args.lim - here) i.read c.in-Err.e.reason c.in-Err.ensures.broken.1,
-      omega (arith, c.in-Err.ensures.broken.0, i.forward),
+      value_breaks c.args.ctx whole c.args.pairs.now c.loop-pair.pair-index c.pair-item.result c.loop-pair-test.true c.pair-item.is i.vs (here - at) (drop here c.args.b.now) (c.args.lim - here) i.read _ c.in_err-value.ensures.broken.1,
+      omega (arith, c.in_err-value.ensures.broken.0, i.forward),
     )
 
-pub returns-in-Err-clause-near : goal.returns-in-Err-clause-near
-returns-in-Err-clause-near c = omega (arith, c.in-Err.ensures.broken.0, c.loop-pair.invariant.within)
+pub returns-in_err-value-clause-near : goal.returns-in_err-value-clause-near
+returns-in_err-value-clause-near c =
+    let p = err_from_is_err_and c.from_residual-in_err-value.result c.from_residual-in_err-value.ensures.1 in
+    rw (p.1, p.2) (omega (arith, c.in_err-value.ensures.broken.0, c.loop-pair.invariant.within))
 
 pub value-requires-clause-fits : goal.value-requires-clause-fits
 value-requires-clause-fits c =
     let i = c.loop-pair.invariant in
-    let a : Attribute = attribute_of c.in-Ok.found.0 in
-    let t : Taken (value_part c.args.ctx c.pair-item.result) (drop c.loop-pair.here c.args.b.now) (c.args.lim - c.loop-pair.here) a c.in-Ok.found.1 = c.in-Ok.ensures.found in
+    let a : Attribute = attribute_of c.in_ok-value.value in
+    let t : Taken (value_part c.args.ctx c.pair-item.result) (drop c.loop-pair.here c.args.b.now) (c.args.lim - c.loop-pair.here) a c.in_ok-value.size = c.in_ok-value.ensures.found in
     next_fits c.args.draft.now c.loop-pair.draft c.args.ctx (uleb_of c.args.code) c.requires.known.0 c.args.pairs.now i.vs c.loop-pair.pair-index c.pair-item.result c.requires.same c.requires.known.1 c.requires.known.2 i.draft_is i.counted c.loop-pair-test.true c.pair-item.is i.prefix a t.fits
 
 pub value-requires-clause-between : goal.value-requires-clause-between
 value-requires-clause-between c =
     let i = c.loop-pair.invariant in
-    let a : Attribute = attribute_of c.in-Ok.found.0 in
-    let t : Taken (value_part c.args.ctx c.pair-item.result) (drop c.loop-pair.here c.args.b.now) (c.args.lim - c.loop-pair.here) a c.in-Ok.found.1 = c.in-Ok.ensures.found in
+    let a : Attribute = attribute_of c.in_ok-value.value in
+    let t : Taken (value_part c.args.ctx c.pair-item.result) (drop c.loop-pair.here c.args.b.now) (c.args.lim - c.loop-pair.here) a c.in_ok-value.size = c.in_ok-value.ensures.found in
     none_partial c.args.draft.now c.loop-pair.draft c.args.ctx (uleb_of c.args.code) c.requires.known.0 c.args.pairs.now i.vs c.loop-pair.pair-index c.pair-item.result c.requires.same c.requires.known.1 c.requires.known.2 i.draft_is i.counted c.loop-pair-test.true c.pair-item.is i.prefix a t.fits
 
 pub value-requires-clause-size : goal.value-requires-clause-size
 value-requires-clause-size c =
     let i = c.loop-pair.invariant in
-    let a : Attribute = attribute_of c.in-Ok.found.0 in
-    let t : Taken (value_part c.args.ctx c.pair-item.result) (drop c.loop-pair.here c.args.b.now) (c.args.lim - c.loop-pair.here) a c.in-Ok.found.1 = c.in-Ok.ensures.found in
+    let a : Attribute = attribute_of c.in_ok-value.value in
+    let t : Taken (value_part c.args.ctx c.pair-item.result) (drop c.loop-pair.here c.args.b.now) (c.args.lim - c.loop-pair.here) a c.in_ok-value.size = c.in_ok-value.ensures.found in
     sym t.is_size ∙ sym (next_size c.args.draft.now c.loop-pair.draft c.args.ctx (uleb_of c.args.code) c.requires.known.0 c.args.pairs.now i.vs c.loop-pair.pair-index c.pair-item.result c.requires.same c.requires.known.1 c.requires.known.2 i.draft_is i.counted c.loop-pair-test.true c.pair-item.is i.prefix a t.fits)
 
 pub front_at-front-requires-clause-front : goal.front_at-front-requires-clause-front
 front_at-front-requires-clause-front c =
     let i = c.loop-pair.invariant in
-    let a : Attribute = attribute_of c.in-Ok.found.0 in
-    let t : Taken (value_part c.args.ctx c.pair-item.result) (drop c.loop-pair.here c.args.b.now) (c.args.lim - c.loop-pair.here) a c.in-Ok.found.1 = c.in-Ok.ensures.found in
-    front_short c.args.draft.now c.loop-pair.draft c.args.ctx (uleb_of c.args.code) c.requires.known.0 c.args.pairs.now i.vs c.loop-pair.pair-index c.pair-item.result c.requires.same c.requires.known.1 c.requires.known.2 i.draft_is i.counted c.loop-pair-test.true c.pair-item.is i.prefix a t.fits (drop c.loop-pair.here c.args.b.now) t.rest c.in-Ok.found.1 t.split t.is_size
+    let a : Attribute = attribute_of c.in_ok-value.value in
+    let t : Taken (value_part c.args.ctx c.pair-item.result) (drop c.loop-pair.here c.args.b.now) (c.args.lim - c.loop-pair.here) a c.in_ok-value.size = c.in_ok-value.ensures.found in
+    front_short c.args.draft.now c.loop-pair.draft c.args.ctx (uleb_of c.args.code) c.requires.known.0 c.args.pairs.now i.vs c.loop-pair.pair-index c.pair-item.result c.requires.same c.requires.known.1 c.requires.known.2 i.draft_is i.counted c.loop-pair-test.true c.pair-item.is i.prefix a t.fits (drop c.loop-pair.here c.args.b.now) t.rest c.in_ok-value.size t.split t.is_size
 
 pub value-requires-clause-front : goal.value-requires-clause-front
 value-requires-clause-front c =
     let i = c.loop-pair.invariant in
-    let a : Attribute = attribute_of c.in-Ok.found.0 in
-    let t : Taken (value_part c.args.ctx c.pair-item.result) (drop c.loop-pair.here c.args.b.now) (c.args.lim - c.loop-pair.here) a c.in-Ok.found.1 = c.in-Ok.ensures.found in
-    c.front_at-front.ensures ∙ front_there c.args.draft.now c.loop-pair.draft c.args.ctx (uleb_of c.args.code) c.requires.known.0 c.args.pairs.now i.vs c.loop-pair.pair-index c.pair-item.result c.requires.same c.requires.known.1 c.requires.known.2 i.draft_is i.counted c.loop-pair-test.true c.pair-item.is i.prefix a t.fits (drop c.loop-pair.here c.args.b.now) t.rest c.in-Ok.found.1 t.split t.is_size
+    let a : Attribute = attribute_of c.in_ok-value.value in
+    let t : Taken (value_part c.args.ctx c.pair-item.result) (drop c.loop-pair.here c.args.b.now) (c.args.lim - c.loop-pair.here) a c.in_ok-value.size = c.in_ok-value.ensures.found in
+    c.front_at-front.ensures ∙ front_there c.args.draft.now c.loop-pair.draft c.args.ctx (uleb_of c.args.code) c.requires.known.0 c.args.pairs.now i.vs c.loop-pair.pair-index c.pair-item.result c.requires.same c.requires.known.1 c.requires.known.2 i.draft_is i.counted c.loop-pair-test.true c.pair-item.is i.prefix a t.fits (drop c.loop-pair.here c.args.b.now) t.rest c.in_ok-value.size t.split t.is_size
 
 pub value-requires-clause-near : goal.value-requires-clause-near
 value-requires-clause-near c =
     let i = c.loop-pair.invariant in
-    omega (arith, i.end, i.forward, i.room, c.in-Ok.ensures.room, c.requires.bounded)
+    omega (arith, i.end, i.forward, i.room, c.in_ok-value.ensures.room, c.requires.bounded)
 
 pub loop-pair-preserved : goal.loop-pair-preserved
 loop-pair-preserved c =
     let i = c.loop-pair.invariant in
-    let a : Attribute = attribute_of c.in-Ok.found.0 in
-    let t : Taken (value_part c.args.ctx c.pair-item.result) (drop c.loop-pair.here c.args.b.now) (c.args.lim - c.loop-pair.here) a c.in-Ok.found.1 = c.in-Ok.ensures.found in
+    let a : Attribute = attribute_of c.in_ok-value.value in
+    let t : Taken (value_part c.args.ctx c.pair-item.result) (drop c.loop-pair.here c.args.b.now) (c.args.lim - c.loop-pair.here) a c.in_ok-value.size = c.in_ok-value.ensures.found in
     let here = c.loop-pair.here in
     let at = c.args.at in
     let b = c.args.b.now in
-    let size = c.in-Ok.found.1 in
+    let size = c.in_ok-value.size in
     let ps = c.args.pairs.now in
     let whole = read_values c.args.ctx (map pair_of ps) (drop at b) (c.args.lim - at) in
-    let given : c.value.new.self ≡ with_value a c.loop-pair.draft = no_error c.value.result _ (sym c.if-is_err-2.ensures.value) c.value.ensures.ok in
+    let given : c.value.new.self ≡ with_value a c.loop-pair.draft = c.in_ok-value-2.ensures.ok in
     let ends = ap end_of given ∙ with_end c.args.draft.now c.loop-pair.draft c.args.ctx (uleb_of c.args.code) c.requires.known.0 c.args.pairs.now i.vs c.loop-pair.pair-index c.pair-item.result c.requires.same c.requires.known.1 c.requires.known.2 i.draft_is i.counted c.loop-pair-test.true c.pair-item.is i.prefix a t.fits in
     let step = value_read c.args.ctx whole ps c.loop-pair.pair-index c.pair-item.result c.loop-pair-test.true c.pair-item.is i.vs (here - at) (drop here b) (c.args.lim - here) i.read a size t in
     let n : here - at + size ≡ here + size - at = omega (arith, i.forward) in
@@ -127,8 +132,8 @@ loop-pair-preserved c =
       prefix = prefix_then c.args.draft.now c.loop-pair.draft c.args.ctx (uleb_of c.args.code) c.requires.known.0 c.args.pairs.now i.vs c.loop-pair.pair-index c.pair-item.result c.requires.same c.requires.known.1 c.requires.known.2 i.draft_is i.counted c.loop-pair-test.true c.pair-item.is i.prefix a t.fits;
       end = omega (arith, ends, i.end, t.is_size);
       forward = omega (arith, i.forward);
-      within = c.in-Ok.ensures.room.0;
-      room = c.in-Ok.ensures.room.1;
+      within = c.in_ok-value.ensures.room.0;
+      room = c.in_ok-value.ensures.room.1;
     }
 
 pub returns-clause-exact : goal.returns-clause-exact

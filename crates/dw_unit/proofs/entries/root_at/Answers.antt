@@ -11,7 +11,6 @@ use Rattle.dw_tree.specs.Steps.{Growing, closed_at}
 use Rattle.dw_unit.specs.declared.bad.BodyError.{BodyError}
 use Rattle.dw_unit.specs.declared.bad.BodyError.TheVariants as errors
 use Rattle.dw_unit.specs.Entries.{placed, BreaksFrom, BreaksAs}
-use Rattle.dw_unit.proofs.EntryLemmas.{no_error}
 use Rattle.dw_tree.specs.Levels.{levels_is, nesting_is}
 use Rattle.dw_unit.proofs.Chain.{ValuesRead, under, values_read, leaf_put, entered, branch_put}
 use Rattle.dw_unit.proofs.RootRead.{values_break, leaf_read, kids_break, branch_read}
@@ -128,7 +127,7 @@ returns-clause-exact c =
     let f = c.in_ok-null.ensures.exact in
     let ts : Forest = f.0 in
     let null = uleb_of c.in_ok-null.null in
-    let closed : c.close.new.self ≡ closed_at null.width c.children_at.new.draft = no_error c.close.result _ (sym c.if-is_err.ensures.value) c.close.ensures.ok in (
+    let closed : c.close.new.self ≡ closed_at null.width c.children_at.new.draft = c.in_ok-close.ensures.ok in (
       branch code q.0 ts null.width,
       branch_read k tb (nesting - 1) b lim code c.requires.found q.0 q.1 r.read (ap declares_children r.known ∙ flag) ts null f.1 (ap₂ (λ (n m : ℕ). read_children k tb n (drop m b) (lim - m)) levels_is (sym next) ∙ f.2)
           ∙ ap (λ (m : ℕ). Found (branch code q.0 ts null.width) m) (sym (f.3 ∙ ap (λ (m : ℕ). m + f.1) next)),

@@ -6,7 +6,7 @@ use Rattle.dw_unit_tests.proofs.tree_drafts.nested.Goals as goal
 
 pub begin-requires-clause-level : goal.begin-requires-clause-level
 begin-requires-clause-level c =
-    subst (λ (g : Growing). length g.place.spot.above < nesting) (sym c.loop-partial.invariant.is) (has_room c.loop-partial.partial (omega (arith, c.loop-partial-test.true)))
+    subst (λ (g : Growing). length g.place.spot.above < nesting) (sym c.loop-begun.invariant.is) (has_room c.loop-begun.begun (omega (arith, c.loop-begun-test.true)))
 
 pub closed-requires-clause-inside : goal.closed-requires-clause-inside
 closed-requires-clause-inside c =

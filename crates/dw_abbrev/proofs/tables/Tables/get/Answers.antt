@@ -1,6 +1,8 @@
-use Rattle.std.proofs.Common.{◌≡◌, ◌<◌, length, ℕ, List, sym, subst, ◌∙◌}
+use Rattle.std.proofs.Common.{◌≡◌, ◌<◌, length, ℕ, List, sym, subst, ◌∙◌, eqb, nat_eq, None, rules}
+use Rattle.indexmap.specs.IndexMap.{get}
 use Rattle.std.specs.Rc.{rc_value}
-use Rattle.std.proofs.lemmas.Result.{IfOk-weaker, IfErr-weaker, err_from_is_err_and}
+use Rattle.std.proofs.lemmas.Result.{err_from_is_err_and}
+use Rattle.indexmap.proofs.CallerLemmas.{insert_entry-new}
 use Rattle.dw_abbrev.specs.TableErrors.{refused_memory}
 use Rattle.dw_abbrev.specs.Laws.{one_table_at}
 use Rattle.dw_abbrev.specs.Table.{Table, TableAt}
@@ -11,40 +13,41 @@ pub returns-in-Some-clause-found : goal.returns-in-Some-clause-found
 returns-in-Some-clause-found c =
     let stands : TableAt c.self.inside.abbreviations.now c.args.offset c.in-Some.table.now.value =
     kept_at rc_value (λ o t. TableAt c.self.inside.abbreviations.now o t) c.self.inside.kept.entries c.args.offset c.in-Some.table.now c.self.invariant (sym c.in-Some.ensures.value) in
-    rw (← c.self.view_is) (IfOk-weaker c.share.result (λ t. t.value ≡ c.in-Some.table.now.value) (λ t. TableAt c.self.inside.abbreviations.now c.args.offset t.value)
-    (λ t e. subst (λ (v : Table). TableAt c.self.inside.abbreviations.now c.args.offset v) (sym e) stands) c.share.ensures.ok)
-
-pub invariant_of-self-2 : goal.invariant_of-self-2
-invariant_of-self-2 c =
-    let abbreviations : List ℕ = c.self.inside.abbreviations.now in
-    let stands : TableAt abbreviations c.args.offset c.in_ok-table.table.value = subst (λ (t : Table). TableAt abbreviations c.args.offset t) (sym c.in_ok-table.ensures.ok) c.in_ok-read.ensures.found in
-    rw c.in_ok-keep.ensures.ok (kept_more rc_value (λ o t. TableAt abbreviations o t) c.self.inside.kept.entries c.args.offset c.in_ok-table.table c.self.invariant stands)
+    rw (← c.self.view_is) (subst (λ (v : Table). TableAt c.self.inside.abbreviations.now c.args.offset v) (sym c.in_ok-clone.ensures.cases) stands)
 
 pub returns-in-Some-clause-only : goal.returns-in-Some-clause-only
 returns-in-Some-clause-only c t at =
     let stands : TableAt c.self.inside.abbreviations.now c.args.offset c.in-Some.table.now.value =
     kept_at rc_value (λ o t. TableAt c.self.inside.abbreviations.now o t) c.self.inside.kept.entries c.args.offset c.in-Some.table.now c.self.invariant (sym c.in-Some.ensures.value) in
-    let there : TableAt c.self.inside.abbreviations.now c.args.offset t = subst (λ (s : List ℕ). TableAt s c.args.offset t) (sym c.self.view_is) at in (
-      IfOk-weaker c.share.result (λ x. x.value ≡ c.in-Some.table.now.value) (λ x. x.value ≡ t) (λ x e. e ∙ one_table_at c.self.inside.abbreviations.now c.args.offset c.in-Some.table.now.value t stands there) c.share.ensures.ok,
-      c.share.ensures.err,
-    )
+    let there : TableAt c.self.inside.abbreviations.now c.args.offset t = subst (λ (s : List ℕ). TableAt s c.args.offset t) (sym c.self.view_is) at in
+    (c.in_ok-clone.ensures.cases ∙ one_table_at c.self.inside.abbreviations.now c.args.offset c.in-Some.table.now.value t stands there, tt)
+
+pub returns-in_err-clone-clause-memory : goal.returns-in_err-clone-clause-memory
+returns-in_err-clone-clause-memory c =
+    let stands : TableAt c.self.inside.abbreviations.now c.args.offset c.in-Some.table.now.value =
+    kept_at rc_value (λ o t. TableAt c.self.inside.abbreviations.now o t) c.self.inside.kept.entries c.args.offset c.in-Some.table.now c.self.invariant (sym c.in-Some.ensures.value) in
+    let p = err_from_is_err_and c.from_residual.result c.from_residual.ensures.1 in
+    rw (← c.self.view_is, p.1, p.2) (λ _. stands.inside)
 
 pub returns-in_err-read-clause-only : goal.returns-in_err-read-clause-only
 returns-in_err-read-clause-only c t at =
-    let p = err_from_is_err_and c.from_residual.result c.from_residual.ensures.1 in
+    let p = err_from_is_err_and c.from_residual-in_err-read.result c.from_residual-in_err-read.ensures.1 in
     let there : TableAt c.self.inside.abbreviations.now c.args.offset t = subst (λ (s : List ℕ). TableAt s c.args.offset t) (sym c.self.view_is) at in
     rw (p.1, p.2) (c.in_err-read.ensures.only t there)
 
+pub invariant_of-self-2 : goal.invariant_of-self-2
+invariant_of-self-2 c =
+    let abbreviations : List ℕ = c.self.inside.abbreviations.now in
+    let stands : TableAt abbreviations c.args.offset c.in_ok-table.table.value = subst (λ (t : Table). TableAt abbreviations c.args.offset t) (sym c.in_ok-table.ensures.ok) c.in_ok-read.ensures.found in
+    let absent : get nat_eq c.self.inside.kept c.args.offset ≡ None = search rules in
+    rw (c.in_ok-insert.ensures.entries ∙ insert_entry-new eqb c.self.inside.kept c.args.offset c.in_ok-table.table absent) (kept_more rc_value (λ o t. TableAt abbreviations o t) c.self.inside.kept.entries c.args.offset c.in_ok-table.table c.self.invariant stands)
+
 pub invariant_of-self : goal.invariant_of-self
-invariant_of-self c = rw c.in_err-keep.ensures.unchanged c.self.invariant
+invariant_of-self c =
+    let same : c.insert.new.self.entries ≡ c.self.inside.kept.entries = search rules in
+    rw same c.self.invariant
 
 pub returns-clause-only : goal.returns-clause-only
 returns-clause-only c t at =
     let there : TableAt c.self.inside.abbreviations.now c.args.offset t = subst (λ (s : List ℕ). TableAt s c.args.offset t) (sym c.self.view_is) at in
-    (c.in_ok-shared.ensures.ok ∙ (c.in_ok-table.ensures.ok ∙ (c.in_ok-read.ensures.only t there).0), tt)
-
-pub returns-in-Some-clause-memory : goal.returns-in-Some-clause-memory
-returns-in-Some-clause-memory c =
-    let stands : TableAt c.self.inside.abbreviations.now c.args.offset c.in-Some.table.now.value =
-    kept_at rc_value (λ o t. TableAt c.self.inside.abbreviations.now o t) c.self.inside.kept.entries c.args.offset c.in-Some.table.now c.self.invariant (sym c.in-Some.ensures.value) in
-    rw (← c.self.view_is) (IfErr-weaker c.share.result (λ e. e ≡ refused_memory) (λ e. e ≡ refused_memory → c.args.offset < length c.self.inside.abbreviations.now) (λ e h same. stands.inside) c.share.ensures.err)
+    (c.in_ok-shared.ensures.cases ∙ (c.in_ok-table.ensures.ok ∙ (c.in_ok-read.ensures.only t there).0), tt)

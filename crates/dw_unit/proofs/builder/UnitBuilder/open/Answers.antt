@@ -7,7 +7,6 @@ use Rattle.dw_tree.specs.Tree.{declared_pairs}
 use Rattle.dw_header.specs.Header.{context_of}
 use Rattle.dw_unit.specs.Draft.{Drafted, passes_limit}
 use Rattle.dw_unit.specs.Build.{Building, draft_of, building_of, is_known, is_too_long, entry_size, opened, place_refusal, ValuesFit}
-use Rattle.dw_unit.proofs.EntryLemmas.{no_error}
 use Rattle.dw_unit.proofs.OpenLemmas.{free_when, size_is, same_draft, opened_is, known_some}
 use Rattle.dw_unit.proofs.builder.UnitBuilder.open.Goals as goal
 
@@ -34,7 +33,7 @@ invariant_of-self-2 c =
     let vs = map attribute_of c.args.values.now in
     let known : is_known b.table code ≡ true = subst (λ (x : Building). is_known x.table code ≡ true) (sym c.self.view_is) c.in_ok-judged.ensures.known in
     let fits : ValuesFit b code vs = subst (λ (x : Building). ValuesFit x code vs) (sym c.self.view_is) c.in_ok-judged.ensures.fits in
-    let put : c.put_entry.new.draft ≡ draft_of (opened code vs b) = no_error c.put_entry.result _ (sym c.if-is_err.ensures.value) c.put_entry.ensures.ok ∙ opened_is d code vs (known_some d.table code known) fits in
+    let put : c.put_entry.new.draft ≡ draft_of (opened code vs b) = c.in_ok-put_entry.ensures.ok ∙ opened_is d code vs (known_some d.table code known) fits in
     ap (λ (x : Drafted). x.place.unfinished) put
 
 pub returns-clause-opened : goal.returns-clause-opened
@@ -45,5 +44,5 @@ returns-clause-opened c =
     let vs = map attribute_of c.args.values.now in
     let known : is_known b.table code ≡ true = subst (λ (x : Building). is_known x.table code ≡ true) (sym c.self.view_is) c.in_ok-judged.ensures.known in
     let fits : ValuesFit b code vs = subst (λ (x : Building). ValuesFit x code vs) (sym c.self.view_is) c.in_ok-judged.ensures.fits in
-    let put : c.put_entry.new.draft ≡ draft_of (opened code vs b) = no_error c.put_entry.result _ (sym c.if-is_err.ensures.value) c.put_entry.ensures.ok ∙ opened_is d code vs (known_some d.table code known) fits in
+    let put : c.put_entry.new.draft ≡ draft_of (opened code vs b) = c.in_ok-put_entry.ensures.ok ∙ opened_is d code vs (known_some d.table code known) fits in
     ap building_of put ∙ ap (opened code vs) c.self.view_is

@@ -1,6 +1,0 @@
-use Rattle.std.proofs.Common.{◌∙◌, eqb}
-use Rattle.indexmap.proofs.CallerLemmas.{insert_entry-new}
-use Rattle.dw_abbrev.proofs.tables.keep.Goals as goal
-
-pub returns-in-Ok-clause-ok : goal.returns-in-Ok-clause-ok
-returns-in-Ok-clause-ok c = c.in-Ok.ensures.entries ∙ insert_entry-new eqb c.args.kept.now c.args.offset c.args.table c.requires
