@@ -20,7 +20,7 @@ module _ (g : Growing) (w : ℕ) (context : g.context ≡ little) (table : g.tab
 
   pub name_front : [] ≡ next_front g.context g.table (begun_at (wide 1 w) g).place.unfinished a_name
   unfolding attribute shaped shape
-  name_front = rw (context, table) refl
+  name_front = refl
 
   pub name_alone : partial_in (begun_at (wide 1 w) g).place.unfinished ≡ None
   name_alone = rw table refl
