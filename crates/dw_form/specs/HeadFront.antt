@@ -105,3 +105,11 @@ head_front k form c a start fits = by (shape (form_in form a.via) k.address_size
     by (Some s) e =
         ap (λ (b : List ℕ). b ++ finder start a.value) (front_is k form c a s fits e).0
         ∙ append_assoc (via_bytes a.via) (head_of k s a.value) (finder start a.value)
+
+-- they are a beginning of those
+pub front_within : (k : Ctx) (form : ℕ) (c : Option Signed) (a : Attribute) → (attribute k form c).Fits a → front_size a (length ((attribute k form c).spell a)) ≤ length ((attribute k form c).spell a)
+front_within k form c a fits = by (shape (form_in form a.via) k.address_size k.format) refl
+  where
+    by : (o : Option Shape) → shape (form_in form a.via) k.address_size k.format ≡ o → front_size a (length ((attribute k form c).spell a)) ≤ length ((attribute k form c).spell a)
+    by None e = absurd (form_known k form c a fits e)
+    by (Some s) e = (front_is k form c a s fits e).1

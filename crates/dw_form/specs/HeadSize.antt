@@ -11,8 +11,9 @@ use Rattle.dw_leb.specs.DecideNumber.{uleb_some}
 use Rattle.dw_form.specs.declared.shape.Ctx.{Ctx}
 use Rattle.dw_form.specs.declared.shape.Shape.{Shape}
 use Rattle.dw_form.specs.declared.shape.Shape.TheVariants as shapes
-use Rattle.dw_form.specs.Form.{forms, at_number, Value, Block, Text, Attribute, shape, shaped, attribute, by_indirection}
-use Rattle.dw_form.specs.Pieces.{head_of, via_bytes, form_in, pieces_of, attribute_pieces, form_known}
+use Rattle.dw_form.specs.Form.{forms, at_number, Value, Num, Wide, Uleb, Sleb, Block, Text, Present, Implicit, Attribute, shape, shaped, attribute, by_indirection}
+use Rattle.dw_form.specs.Pieces.{head_of, content_of, tail_of, via_bytes, form_in, pieces_of, attribute_pieces, form_known}
+use Rattle.dw_form.specs.StoredView.{value_bytes, bytes_in}
 use Rattle.dw_form.specs.Head.{word, finder, head_if, head, has_content, own_constant}
 use Rattle.dw_form.specs.HeadLent.{plain_pieces, in_effect, plain_spelled}
 
@@ -128,3 +129,27 @@ plain_head k form c a start plain fits = by (shape (form_in form a.via) k.addres
     by (Some s) e =
         let own = in_effect k c form (form == 0x16) a.via a.value s e (either_way k form c a fits) in
         plain_spelled k form c a start s e (plain_shape k (own_constant a.via c) s a.value plain own) fits
+
+-- ---- a content is no longer than the spelling
+
+same_content : (v : Value) → value_bytes v ≡ content_of v
+same_content (Num x) = refl
+same_content (Wide x) = refl
+same_content (Uleb u) = refl
+same_content (Sleb x) = refl
+same_content (Block width bytes) = refl
+same_content (Text bytes) = refl
+same_content Present = refl
+same_content (Implicit x) = refl
+
+pub content_size : (k : Ctx) (form : ℕ) (c : Option Signed) (a : Attribute) → (attribute k form c).Fits a → length (bytes_in a) ≤ length ((attribute k form c).spell a)
+content_size k form c a fits = by (shape (form_in form a.via) k.address_size k.format) refl
+  where
+    by : (o : Option Shape) → shape (form_in form a.via) k.address_size k.format ≡ o → length (bytes_in a) ≤ length ((attribute k form c).spell a)
+    by None e = absurd (form_known k form c a fits e)
+    by (Some s) e =
+        let v = a.value in
+        let one = length-append (via_bytes a.via) (pieces_of k s v) in
+        let two = length-append (head_of k s v) (content_of v ++ tail_of v) in
+        let three = length-append (content_of v) (tail_of v) in
+        omega (arith, one, two, three, ap length (same_content v), ap length (attribute_pieces k form c a s fits e).0)

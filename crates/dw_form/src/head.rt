@@ -1,5 +1,5 @@
 //! A value by its head: the bytes of its spelling that are no content, with what finds the content in
-//! a pool. A value without content is its spelling.
+//! a pool. A value without content is kept as its spelling.
 ghost use Rattle.std.specs.Prelude.{◌≡◌, ◌≤◌, ◌<◌, ◌^◌, ◌+◌, ◌++◌, ℕ, List, length, take, drop, option_map, IfSome, IsSomeAnd, ◌==◌};
 ghost use Rattle.dw_leb.specs.declared.order.Order.TheVariants.{Little};
 ghost use Rattle.dw_leb.specs.View.{uleb_of, sleb_of};
@@ -39,7 +39,7 @@ fn leb(b: &[u8]) -> Option<Uleb>
     }
 }
 
-/// The length of a content, and the width in which it stands.
+/// The length of a content, and the width in which it is written.
 #[derive(Clone, Copy)]
 struct Count {
     value: u64,
@@ -222,8 +222,8 @@ fn size(b: &[u8]) -> usize
     b.len()
 }
 
-/// The value whose head stands at the front of `heads`, and the count of its head's bytes. A text or
-/// block is borrowed from the pool. None where no value's head stands there.
+/// The value whose head is at the front of `heads`, and the count of its head's bytes. A text or
+/// block is borrowed from the pool. None where there is no head of this form.
 ///
 /// `form` and `implicit` are those with which the head was made, the form of the value and the constant
 /// of its declaration. Heads may follow, and the pool may have bytes before and behind the content.

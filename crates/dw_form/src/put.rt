@@ -1,5 +1,5 @@
-//! Heads of values, made and kept in a list of bytes. A head has what of the value's spelling stands
-//! before its content, and behind that what finds the content in a pool.
+//! Heads of values, made and kept in a list of bytes. A head has what of the value's spelling
+//! comes before its content, and after that what finds the content in a pool.
 ghost use Rattle.std.specs.Prelude.{◌≡◌, ◌≤◌, ◌<◌, ◌^◌, ◌+◌, ◌++◌, length, IfSome, OnOk, OnErr, vec_len, vec_capacity};
 ghost use Rattle.dw_leb.specs.Number.{uleb, UlebFits};
 ghost use Rattle.dw_form.specs.Form.{IsContext, ShapeFits, shape};
@@ -122,7 +122,7 @@ fn both_parts(ctx: Ctx, shape: Shape, value: &AttrValue<'_>) -> ArrayVec<u8, 32>
     joined(via.as_slice(), number.as_slice())
 }
 
-/// The front of a value's spelling under form `form`: what stands before the bytes of a text or block, or
+/// The front of a value's spelling under form `form`: what comes before the bytes of a text or block, or
 /// of any other value all. No memory is taken.
 pub fn value_front(ctx: Ctx, form: u64, value: &AttrValue<'_>) -> ArrayVec<u8, 32>
     requires context { IsContext ctx }
@@ -195,7 +195,7 @@ fn put_three(
     heads.extend_from_slice(second)
 }
 
-/// The head of a text or block that stands in the pool already, from `start` on, whose front is
+/// The head of a text or block that is in the pool already, from `start` on, whose front is
 /// `front`: it goes to the end of `heads`, where there is room for it.
 pub fn put_found(value: &AttrValue<'_>, front: &[u8], start: usize, heads: &mut Vec<u8>)
     requires { vec_len heads.old + (length front.now + 16) ≤ vec_capacity heads.old }

@@ -1,23 +1,31 @@
 -- A draft without a partial value, or with one.
-use Rattle.std.proofs.Common.{Bool, true, false, append-nil, append_assoc, take-append-drop, ◌≡◌, ℕ, ◌+◌, ◌≤◌, ◌<◌, ◌^◌, List, [], ◌∷◌, ◌++◌, length, take, drop, refl, sym, ◌∙◌, ap, ap₂, subst, arith, length-take-le, Option, Some, None, option_map}
+use Rattle.std.proofs.Common.{Bool, true, false, append-nil, append_assoc, take-append-drop, ◌≡◌, ℕ, ◌+◌, ◌-◌, ◌≤◌, ◌<◌, List, [], ◌∷◌, ◌++◌, length, take, drop, refl, sym, ◌∙◌, ap, ap₂, subst, arith, length-append, length-take-le, Option, Some, None, option_map}
 use Rattle.std.specs.Prelude.{IfSome, IsSome, if◌then◌else◌}
 use Rattle.std.proofs.lemmas.List.{take-take, take-append-le}
 use Rattle.dw_tree.specs.declared.draft.TreeDraft.TheInside.{Inside}
 use Rattle.dw_tree.specs.declared.row.PartialValue.{PartialValue as StoredPartial}
 use Rattle.dw_tree.specs.declared.row.Unfinished.{Unfinished}
+use Rattle.dw_form.specs.declared.shape.Ctx.{Ctx}
+use Rattle.dw_form.specs.Form.{Attribute}
+use Rattle.dw_form.specs.StoredView.{text_or_block, value_bytes}
 use Rattle.dw_tree.specs.declared.row.Row.{Row}
-use Rattle.dw_form.specs.declared.stored.Stored.{Stored}
 use Rattle.dw_abbrev.specs.Table.{Table}
 use Rattle.dw_tree.specs.Tree.{Forest}
-use Rattle.dw_leb.specs.declared.unsigned.Uleb.{Uleb}
 use Rattle.dw_leb.specs.View.{uleb_of}
 use Rattle.dw_tree.specs.Place.{Frame, Spot, rows_before, spot_after, UnfinishedEntry, Place}
-use Rattle.dw_tree.specs.Flat.{contents, tokens, place_of, unfinished_of}
-use Rattle.dw_tree.specs.Steps.{given_partial, partial_in, next_pair, end_of, unfinished_bytes, whole_tree}
-use Rattle.dw_tree.specs.Row.{Token, rows_bytes}
-use Rattle.dw_tree.specs.PoolBytes.{held, held_in, given_bytes, Holds}
+use Rattle.dw_tree.specs.Flat.{place_of, unfinished_of}
+use Rattle.dw_tree.specs.Steps.{Growing, given_partial, partial_in, next_pair, end_of, whole_tree}
+use Rattle.dw_tree.specs.Row.{Token}
+use Rattle.dw_tree.specs.PoolBytes.{joined, held, held_in, partial_bytes}
+use Rattle.dw_tree.specs.RowHeads.{heads, rows_heads, unfinished_heads, heads_in, Account}
+use Rattle.dw_tree.specs.Sizes.{AreShort}
+use Rattle.dw_tree.specs.DraftInvariant.{AreGiven, pairs_given, entry_with, HasRoom}
 use Rattle.dw_tree.specs.DraftView.{front, partial_of, place_with, given, growing, IsGiven, HasPartial, IsDraft}
-use Rattle.dw_tree.proofs.Settles.{none_of_map}
+use Rattle.dw_tree.proofs.Lists.{place_is, end_is, lists_short}
+
+none_of_map : {X Y : Type 0} (f : X → Y) (o : Option X) → option_map f o ≡ None → o ≡ None
+none_of_map f None e = refl
+none_of_map f (Some x) e = cc
 
 place_free : (o : Option StoredPartial) (pool : List ℕ) (p : Place) → (place_with o pool p).unfinished ≡ None → p.unfinished ≡ None
 place_free None pool p e = e
@@ -25,7 +33,7 @@ place_free (Some b) pool p e = none_of_map (given_partial (Some (partial_of pool
 
 -- no entry is read
 pub idle_is : (a : Inside) → (growing a).place.unfinished ≡ None → a.unfinished ≡ None
-idle_is a e = none_of_map (unfinished_of a.values.items (front a.partial a.pool.items)) a.unfinished (place_free a.partial a.pool.items _ e)
+idle_is a e = none_of_map (unfinished_of a.context a.table.value a.heads.items (front a.partial a.pool.items)) a.unfinished (place_free a.partial a.pool.items _ e)
 
 none_read : {X : Type 0} (o : Option X) → o ≡ None → IsSome o → ⊥
 none_read None e h = absurd cc
@@ -43,7 +51,7 @@ partial_none a d idle = by a.partial d.partial
 pub free_is : (a : Inside) → IsDraft a → partial_in (growing a).place.unfinished ≡ None → a.partial ≡ None
 free_is a d e = by a.partial d.partial a.unfinished refl e
   where
-    by : (o : Option StoredPartial) → IfSome o (HasPartial a) → (q : Option Unfinished) → a.unfinished ≡ q → partial_in (place_with o a.pool.items (place_of a.table.value a.rows.items a.values.items (front o a.pool.items) q)).unfinished ≡ None → o ≡ None
+    by : (o : Option StoredPartial) → IfSome o (HasPartial a) → (q : Option Unfinished) → a.unfinished ≡ q → partial_in (place_with o a.pool.items (place_of a.context a.table.value a.rows.items a.heads.items (front o a.pool.items) q)).unfinished ≡ None → o ≡ None
     by None h q eq e = refl
     by (Some b) h None eq e = absurd (none_read a.unfinished eq h.unfinished)
     by (Some b) h (Some r) eq e = absurd cc
@@ -52,10 +60,7 @@ pub given_is : (a : Inside) → a.partial ≡ None → IsDraft a → IsGiven a a
 given_is a e d = subst (λ (o : Option StoredPartial). IsGiven a (front o a.pool.items)) e d.given
 
 pub view_given : (a : Inside) → a.partial ≡ None → given a a.pool.items ≡ growing a
-view_given a e = ap (λ (o : Option StoredPartial). record { context = a.context; table = a.table.value; start = a.start; place = place_with o a.pool.items (place_of a.table.value a.rows.items a.values.items (front o a.pool.items) a.unfinished) }) (sym e)
-
-pub place_given : (o : Option StoredPartial) (t : Table) (rows : List Row) (values : List Stored) (pool : List ℕ) (q : Option Unfinished) → o ≡ None → place_of t rows values pool q ≡ place_with o pool (place_of t rows values (front o pool) q)
-place_given o t rows values pool q e = ap (λ (b : Option StoredPartial). place_with b pool (place_of t rows values (front b pool) q)) (sym e)
+view_given a e = ap (λ (o : Option StoredPartial). record { context = a.context; table = a.table.value; start = a.start; place = place_with o a.pool.items (place_of a.context a.table.value a.rows.items a.heads.items (front o a.pool.items) a.unfinished) }) (sym e)
 
 pub draft_of : (a : Inside) → a.partial ≡ None → IsGiven a a.pool.items → IsDraft a
 draft_of a e g = record {
@@ -84,35 +89,65 @@ pub take_front : (o : Option StoredPartial) (pool : List ℕ) (n : ℕ) → IfSo
 take_front None pool n h k = refl
 take_front (Some b) pool n h k = take-take n b.pool pool (omega (arith, h, k, length-take-le b.pool pool h))
 
--- where a text or block is partial
-pub view_open : (a : Inside) (r : Unfinished) (b : StoredPartial) → a.unfinished ≡ Some r → a.partial ≡ Some b → record {
-  context = a.context;
-  table = a.table.value;
-  start = a.start;
-  place = record {
-    spot = spot_after (tokens a.table.value a.rows.items a.values.items (take b.pool a.pool.items));
-    unfinished = Some (record { code = uleb_of r.code; values = contents (drop r.first a.values.items) (take b.pool a.pool.items); partial = Some (partial_of a.pool.items b) });
-  };
-} ≡ growing a
-view_open a r b er eb = ap₂ (λ (o : Option StoredPartial) (q : Option Unfinished). record { context = a.context; table = a.table.value; start = a.start; place = place_with o a.pool.items (place_of a.table.value a.rows.items a.values.items (front o a.pool.items) q) }) (sym eb) (sym er)
+-- a draft as it is seen, by what its lists stand for
+pub view_is : (a : Inside) (d : IsDraft a) → growing a ≡ record { context = a.context; table = a.table.value; start = a.start; place = place_with a.partial a.pool.items (record { spot = spot_after d.given.tokens; unfinished = option_map (entry_with d.given.values) a.unfinished }) }
+view_is a d =
+    ap (λ (p : Place). record { context = a.context; table = a.table.value; start = a.start; place = place_with a.partial a.pool.items p })
+    (place_is a.context a.table.value a.start a.rows.items a.heads.items (front a.partial a.pool.items) a.nested.items a.unfinished a.here d.given.tokens d.given.values d.given.lists)
+
+pub place_given : (o : Option StoredPartial) (k : Ctx) (t : Table) (rows : List Row) (hs pool : List ℕ) (q : Option Unfinished) → o ≡ None → place_of k t rows hs pool q ≡ place_with o pool (place_of k t rows hs (front o pool) q)
+place_given o k t rows hs pool q e = ap (λ (b : Option StoredPartial). place_with b pool (place_of k t rows hs (front b pool) q)) (sym e)
+
+-- where no value is partial
+pub view_free : (a : Inside) (d : IsDraft a) (e : a.partial ≡ None) → growing a ≡ record { context = a.context; table = a.table.value; start = a.start; place = record { spot = spot_after (given_is a e d).tokens; unfinished = option_map (entry_with (given_is a e d).values) a.unfinished } }
+view_free a d e =
+    let g = given_is a e d in
+    sym (view_given a e)
+    ∙ ap (λ (p : Place). record { context = a.context; table = a.table.value; start = a.start; place = p }) (place_is a.context a.table.value a.start a.rows.items a.heads.items a.pool.items a.nested.items a.unfinished a.here g.tokens g.values g.lists)
 
 pub given_open : (a : Inside) (b : StoredPartial) → a.partial ≡ Some b → IsDraft a → IsGiven a (take b.pool a.pool.items)
 given_open a b e d = subst (λ (o : Option StoredPartial). IsGiven a (front o a.pool.items)) e d.given
 
+-- where a text or block is partial
+pub view_open : (a : Inside) (d : IsDraft a) (r : Unfinished) (b : StoredPartial) → a.unfinished ≡ Some r → (eb : a.partial ≡ Some b) → growing a ≡ record {
+  context = a.context;
+  table = a.table.value;
+  start = a.start;
+  place = record {
+    spot = spot_after (given_open a b eb d).tokens;
+    unfinished = Some (record { code = uleb_of r.code; values = (given_open a b eb d).values; partial = Some (partial_of a.pool.items b) });
+  };
+}
+view_open a d r b er eb =
+    let g = given_open a b eb d in
+    let first = take b.pool a.pool.items in
+    ap (λ (o : Option StoredPartial). record { context = a.context; table = a.table.value; start = a.start; place = place_with o a.pool.items (place_of a.context a.table.value a.rows.items a.heads.items (front o a.pool.items) a.unfinished) }) eb
+    ∙ (ap (λ (p : Place). record { context = a.context; table = a.table.value; start = a.start; place = place_with (Some b) a.pool.items p }) (place_is a.context a.table.value a.start a.rows.items a.heads.items first a.nested.items a.unfinished a.here g.tokens g.values g.lists)
+    ∙ ap (λ (q : Option Unfinished). record { context = a.context; table = a.table.value; start = a.start; place = place_with (Some b) a.pool.items (record { spot = spot_after g.tokens; unfinished = option_map (entry_with g.values) q }) }) er)
+
+-- where the next byte stands
+pub ends_here : (a : Inside) → IsDraft a → end_of (growing a) ≡ a.here
+ends_here a d =
+    let g = d.given in
+    ap end_of (view_is a d)
+    ∙ (same a.partial a.unfinished g.values (spot_after g.tokens)
+    ∙ end_is a.context a.table.value a.start a.rows.items a.heads.items (front a.partial a.pool.items) a.nested.items a.unfinished a.here g.tokens g.values g.lists)
+  where
+    at : Place → Growing
+    at p = record { context = a.context; table = a.table.value; start = a.start; place = p }
+
+    same : (o : Option StoredPartial) (q : Option Unfinished) (vs : List Attribute) (s : Spot) → end_of (at (place_with o a.pool.items (record { spot = s; unfinished = option_map (entry_with vs) q }))) ≡ end_of (at (record { spot = s; unfinished = option_map (entry_with vs) q }))
+    same None q vs s = refl
+    same (Some b) None vs s = refl
+    same (Some b) (Some r) vs s = refl
+
 pub partial_open : (a : Inside) (b : StoredPartial) → a.partial ≡ Some b → IsDraft a → HasPartial a b
 partial_open a b e d = subst (λ (o : Option StoredPartial). IfSome o (HasPartial a)) e d.partial
-
-pub ends_open : (a : Inside) (r : Unfinished) (b : StoredPartial) → a.unfinished ≡ Some r → a.partial ≡ Some b → end_of (given a (take b.pool a.pool.items)) ≡ a.start + (length (rows_bytes a.context a.table.value (rows_before (spot_after (tokens a.table.value a.rows.items a.values.items (take b.pool a.pool.items))).above (spot_after (tokens a.table.value a.rows.items a.values.items (take b.pool a.pool.items))).left)) + length (unfinished_bytes a.context a.table.value (Some (unfinished_of a.values.items (take b.pool a.pool.items) r))))
-ends_open a r b er eb = ap (λ (q : Option Unfinished). a.start + (length (rows_bytes a.context a.table.value (rows_before (spot_after (tokens a.table.value a.rows.items a.values.items (take b.pool a.pool.items))).above (spot_after (tokens a.table.value a.rows.items a.values.items (take b.pool a.pool.items))).left)) + length (unfinished_bytes a.context a.table.value (option_map (unfinished_of a.values.items (take b.pool a.pool.items)) q)))) er
-
-pub unmapped : (o : Option Uleb) → IfSome (option_map uleb_of o) (λ u. u.value < 2 ^ 16) → IfSome o (λ u. u.value < 2 ^ 16)
-unmapped None h = h
-unmapped (Some u) h = h
 
 pub partial_is : (a : Inside) → IsSome (partial_in (growing a).place.unfinished) → (b : StoredPartial) × (a.partial ≡ Some b)
 partial_is a h = by a.partial a.unfinished h
   where
-    by : (o : Option StoredPartial) (q : Option Unfinished) → IsSome (partial_in (place_with o a.pool.items (place_of a.table.value a.rows.items a.values.items (front o a.pool.items) q)).unfinished) → (b : StoredPartial) × (o ≡ Some b)
+    by : (o : Option StoredPartial) (q : Option Unfinished) → IsSome (partial_in (place_with o a.pool.items (place_of a.context a.table.value a.rows.items a.heads.items (front o a.pool.items) q)).unfinished) → (b : StoredPartial) × (o ≡ Some b)
     by (Some b) q h = (b, refl)
     by None None h = absurd cc
     by None (Some r) h = absurd cc
@@ -128,32 +163,85 @@ more_or_none false xs ys = ([], sym (append-nil xs))
 
 -- the pool has what is held
 pub held_is : (a : Inside) → IsDraft a → a.pool.items ≡ held_in (growing a).place
-held_is a d = by a.partial a.unfinished refl refl d.given.holds
+held_is a d = by a.partial a.unfinished refl refl d.given.lists.account ∙ ap (λ (g : Growing). held_in g.place) (sym (view_is a d))
   where
-    at : Option StoredPartial → List Token
-    at o = tokens a.table.value a.rows.items a.values.items (front o a.pool.items)
+    xs : List Token
+    xs = d.given.tokens
+
+    vs : List Attribute
+    vs = d.given.values
 
     place : Option StoredPartial → Option Unfinished → Place
-    place o q = place_with o a.pool.items (place_of a.table.value a.rows.items a.values.items (front o a.pool.items) q)
+    place o q = place_with o a.pool.items (record { spot = spot_after xs; unfinished = option_map (entry_with vs) q })
 
-    spelled : held (at a.partial) ≡ held (rows_before (spot_after (at a.partial)).above (spot_after (at a.partial)).left)
-    spelled = ap held d.given.sound.is_spelled.spelled
+    spelled : held xs ≡ held (rows_before (spot_after xs).above (spot_after xs).left)
+    spelled = ap held d.given.lists.is_spelled.spelled
 
-    spelled_at : (o : Option StoredPartial) → a.partial ≡ o → held (at o) ≡ held (rows_before (spot_after (at o)).above (spot_after (at o)).left)
-    spelled_at o e = subst (λ (q : Option StoredPartial). held (at q) ≡ held (rows_before (spot_after (at q)).above (spot_after (at q)).left)) e spelled
-
-    by : (o : Option StoredPartial) (q : Option Unfinished) → a.partial ≡ o → a.unfinished ≡ q → Holds a.table.value a.rows.items a.values.items (front o a.pool.items) q → a.pool.items ≡ held_in (place o q)
-    by None None eo eq h = h.exact ∙ ap (λ (b : List ℕ). b ++ []) (spelled_at None eo)
-    by None (Some r) eo eq h = h.exact ∙ ap₂ (λ (b c : List ℕ). b ++ c) (spelled_at None eo) (sym (append-nil (given_bytes a.values.items a.pool.items (Some r))))
+    by : (o : Option StoredPartial) (q : Option Unfinished) → a.partial ≡ o → a.unfinished ≡ q → Account a.context a.table.value xs (pairs_given a.table.value q) vs a.heads.items (front o a.pool.items) → a.pool.items ≡ held_in (place o q)
+    by None None eo eq h =
+        let no : vs ≡ [] = subst (AreGiven a.context a.table.value a.start xs vs) eq d.given.lists.are_given in
+        h.pool_is ∙ ap₂ (λ (b c : List ℕ). b ++ c) spelled (ap joined no)
+    by None (Some r) eo eq h = h.pool_is ∙ ap₂ (λ (b c : List ℕ). b ++ c) spelled (sym (append-nil (joined vs)))
     by (Some b) None eo eq h = absurd (none_read a.unfinished eq (partial_open a b eo d).unfinished)
     by (Some b) (Some r) eo eq h =
         sym (take-append-drop b.pool a.pool.items)
-        ∙ (ap (λ (bytes : List ℕ). bytes ++ drop b.pool a.pool.items) (h.exact ∙ ap (λ (bytes : List ℕ). bytes ++ given_bytes a.values.items (take b.pool a.pool.items) (Some r)) (spelled_at (Some b) eo))
-        ∙ append_assoc (held (rows_before (spot_after (at (Some b))).above (spot_after (at (Some b))).left)) (given_bytes a.values.items (take b.pool a.pool.items) (Some r)) (drop b.pool a.pool.items))
+        ∙ (ap (λ (bytes : List ℕ). bytes ++ drop b.pool a.pool.items) (h.pool_is ∙ ap (λ (bytes : List ℕ). bytes ++ joined vs) spelled)
+        ∙ append_assoc (held (rows_before (spot_after xs).above (spot_after xs).left)) (joined vs) (drop b.pool a.pool.items))
+
+-- and the heads those that are held
+pub heads_are : (a : Inside) → IsDraft a → a.heads.items ≡ heads_in a.context a.table.value (growing a).place
+heads_are a d = by a.partial a.unfinished refl refl d.given.lists.account ∙ ap (λ (g : Growing). heads_in a.context a.table.value g.place) (sym (view_is a d))
+  where
+    xs : List Token
+    xs = d.given.tokens
+
+    vs : List Attribute
+    vs = d.given.values
+
+    place : Option StoredPartial → Option Unfinished → Place
+    place o q = place_with o a.pool.items (record { spot = spot_after xs; unfinished = option_map (entry_with vs) q })
+
+    spelled : (u : Option UnfinishedEntry) → rows_heads a.context a.table.value 0 xs ++ unfinished_heads a.context a.table.value (length (held xs)) u ≡ heads_in a.context a.table.value (record { spot = spot_after xs; unfinished = u })
+    spelled u = ap (λ (ys : List Token). rows_heads a.context a.table.value 0 ys ++ unfinished_heads a.context a.table.value (length (held ys)) u) d.given.lists.is_spelled.spelled
+
+    by : (o : Option StoredPartial) (q : Option Unfinished) → a.partial ≡ o → a.unfinished ≡ q → Account a.context a.table.value xs (pairs_given a.table.value q) vs a.heads.items (front o a.pool.items) → a.heads.items ≡ heads_in a.context a.table.value (place o q)
+    by None None eo eq h =
+        let no : vs ≡ [] = subst (AreGiven a.context a.table.value a.start xs vs) eq d.given.lists.are_given in
+        h.heads_are ∙ (ap (λ (ws : List Attribute). rows_heads a.context a.table.value 0 xs ++ heads a.context [] (length (held xs)) ws) no ∙ spelled None)
+    by None (Some r) eo eq h = h.heads_are ∙ spelled (Some (entry_with vs r))
+    by (Some b) None eo eq h = absurd (none_read a.unfinished eq (partial_open a b eo d).unfinished)
+    by (Some b) (Some r) eo eq h = h.heads_are ∙ spelled (Some (entry_with vs r))
+
+-- the lists are no longer than the bytes so far ask for
+pub draft_short : (a : Inside) (d : IsDraft a) → AreShort (length a.rows.items) (length a.heads.items) (length (front a.partial a.pool.items)) (a.here - a.start)
+draft_short a d = lists_short a.context a.table.value a.start a.rows.items a.heads.items (front a.partial a.pool.items) a.nested.items a.unfinished a.here d.given.tokens d.given.values d.given.lists
+
+pub pool_short : (a : Inside) → IsDraft a → length a.pool.items ≤ a.here - a.start + length (partial_bytes (partial_in (growing a).place.unfinished))
+pool_short a d = by a.partial a.unfinished refl refl (draft_short a d).content_short
+  where
+    by : (o : Option StoredPartial) (q : Option Unfinished) → a.partial ≡ o → a.unfinished ≡ q → length (front o a.pool.items) ≤ a.here - a.start
+        → length a.pool.items ≤ a.here - a.start + length (partial_bytes (partial_in (place_with o a.pool.items (place_of a.context a.table.value a.rows.items a.heads.items (front o a.pool.items) q)).unfinished))
+    by None q eo eq h = omega (arith, h)
+    by (Some b) None eo eq h = absurd (none_read a.unfinished eq (partial_open a b eo d).unfinished)
+    by (Some b) (Some r) eo eq h = omega (arith, h, ap length (take-append-drop b.pool a.pool.items), length-append (take b.pool a.pool.items) (drop b.pool a.pool.items))
 
 -- a partial value changes nothing of what the next value is asked for
-pub next_given : (t : Table) (o : Option StoredPartial) (pool : List ℕ) (values : List Stored) (q : Option Unfinished) (s : Spot)
-    → next_pair t (option_map (unfinished_of values (front o pool)) q) ≡ next_pair t (place_with o pool (record { spot = s; unfinished = option_map (unfinished_of values (front o pool)) q })).unfinished
-next_given t None pool values q s = refl
-next_given t (Some b) pool values None s = refl
-next_given t (Some b) pool values (Some r) s = refl
+pub next_given : (t : Table) (o : Option StoredPartial) (pool : List ℕ) (vs : List Attribute) (q : Option Unfinished) (s : Spot)
+    → next_pair t (option_map (entry_with vs) q) ≡ next_pair t (place_with o pool (record { spot = s; unfinished = option_map (entry_with vs) q })).unfinished
+next_given t None pool vs q s = refl
+next_given t (Some b) pool vs None s = refl
+next_given t (Some b) pool vs (Some r) s = refl
+
+-- the bytes of a partial value are its content
+pub partial_content : (w : Option ℕ) (bytes : List ℕ) → value_bytes (text_or_block w bytes) ≡ bytes
+partial_content None bytes = refl
+partial_content (Some w) bytes = refl
+
+-- ---- what was made room for
+
+if_some : {X : Type 0} (P : Type 0) (o : Option X) → (IsSome o → P) → IfSome o (λ _. P)
+if_some P None h = tt
+if_some P (Some x) h = h refl
+
+pub settled_room : (o : Option Unfinished) (a b c d : ℕ) → (IsSome o → a < b) → (IsSome o → c < d) → HasRoom o a b c d
+settled_room o a b c d h k = record { row = if_some (a < b) o h; place = if_some (c < d) o k }

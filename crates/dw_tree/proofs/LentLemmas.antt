@@ -1,26 +1,17 @@
 -- Values that fit their pairs, one by one.
-use Rattle.std.proofs.Common.{◌≡◌, ◌+◌, ◌++◌, ◌∷◌, ◌<◌, ◌^◌, ℕ, Bool, true, false, List, length, map, Option, Some, None, refl, ap, subst, arith}
+use Rattle.std.proofs.Common.{◌≡◌, ◌+◌, ◌≤◌, ◌∷◌, ℕ, Bool, true, false, List, length, drop, Option, Some, None, refl, sym, ap, subst, ◌∙◌, arith}
 use Rattle.std.specs.Prelude.{◌==◌}
-use Rattle.std.proofs.lemmas.List.{length-append}
+use Rattle.std.proofs.lemmas.List.{length-append, drop_at}
 use Rattle.dw_leb.specs.Number.{Unsigned, Signed}
 use Rattle.dw_form.specs.declared.shape.Ctx.{Ctx}
 use Rattle.dw_form.specs.declared.shape.Shape.{Shape}
 use Rattle.dw_form.specs.declared.shape.Shape.TheVariants as shapes
-use Rattle.dw_form.specs.declared.stored.Stored.{Stored}
 use Rattle.dw_form.specs.Form.{Value, Implicit, Attribute, shape, shaped, shaped_if, by_indirection, attribute}
-use Rattle.dw_form.specs.StoredView.{content}
 use Rattle.dw_form.specs.Pieces.{constant_in, HasSpelling, spelling}
-use Rattle.dw_abbrev.specs.PairView.{pair_of}
-use Rattle.dw_abbrev.specs.declared.pair.Pair.{Pair as RustPair}
-use Rattle.dw_tree.specs.Flat.{contents}
 use Rattle.dw_tree.specs.Lent.{AreLent}
-use Rattle.dw_tree.specs.Tree.{values}
-use Rattle.std.proofs.Common.{[]}
-use Rattle.dw_form.specs.StoredView.{NamesForm}
-use Rattle.dw_form.specs.NamedForms.{spelled_names}
-use Rattle.dw_abbrev.specs.Table.{Pair, Table}
-use Rattle.dw_tree.specs.Place.{UnfinishedEntry}
-use Rattle.dw_tree.specs.Steps.{NextFits, FirstFits, next_pairs}
+use Rattle.dw_form.specs.Head.{head}
+use Rattle.dw_abbrev.specs.Table.{Pair}
+use Rattle.dw_tree.specs.RowHeads.{values_at, put_in, Here, run_bytes, First, first_found, Next, next_here}
 
 -- ---- the constant of a declaration tells nothing that its value doesn't
 
@@ -59,33 +50,40 @@ module _ (k : Ctx) (c : Option Signed) where
       by false (Some u) fits = absurd fits
 
 -- the first of the values that are lent has a spelling, and the others begin where it ends
-module _ (k : Ctx) (at : ℕ) (pool : List ℕ) {all : List RustPair} (p : RustPair) (pairs : List RustPair) {stored : List Stored} (s : Stored) (others : List Stored)
-    (all_is : all ≡ p ∷ pairs) (stored_is : stored ≡ s ∷ others) (lent : AreLent k at (map pair_of all) stored pool) where
-  abbrev first : List ℕ
-  first = spelling k p.form.value (content pool s)
+module _ (k : Ctx) (at : ℕ) (hs pool : List ℕ) (ps : List Pair) (p : Pair) (rest : List Pair) (is : ps ≡ p ∷ rest) (lent : AreLent k at ps hs pool) where
+  abbrev next : Next k p rest hs pool
+  next = next_here k p rest hs pool (subst (λ (qs : List Pair). Here k qs hs pool) is lent.here)
 
-  here : AreLent k at (map pair_of (p ∷ pairs)) (s ∷ others) pool
-  here =
-      subst (λ (ps : List RustPair). AreLent k at (map pair_of ps) (s ∷ others) pool) all_is
-      (subst (λ (ss : List Stored). AreLent k at (map pair_of all) ss pool) stored_is lent)
+  abbrev pub first_value : First k p hs pool
+  first_value = next.first
 
-  pub first_spelled : HasSpelling k p.form.value (content pool s)
-  first_spelled = (spelled_alone k (pair_of p).constant p.form.value (content pool s) here.spelled.0).0
+  pub first_spelled : HasSpelling k p.form.value first_value.value
+  first_spelled = (spelled_alone k p.constant p.form.value first_value.value first_value.fits).0
 
-  pub others_lent : AreLent k (at + length first) (map pair_of pairs) others pool
-  others_lent =
-      let own : List ℕ = (attribute k p.form.value (pair_of p).constant).spell (content pool s) in
-      let rest : List ℕ = (values k (map pair_of pairs)).spell (contents others pool) in
-      let room : at + length (own ++ rest) < 2 ^ 64 = here.room in
-      let both : length (own ++ rest) ≡ length own + length rest = length-append own rest in
-      let same : length first ≡ length own = ap length (spelled_alone k (pair_of p).constant p.form.value (content pool s) here.spelled.0).1 in
-      record { context = here.context; inside = here.inside.1; spelled = here.spelled.1; room = omega (arith, room, both, same) }
+  abbrev pub first_size : ℕ
+  first_size = length (head k p.form.value first_value.start first_value.value)
 
--- a value that fits as the next one names a form of the table
-pub next_names : (k : Ctx) (t : Table) (o : Option UnfinishedEntry) (v : Attribute) → NextFits k t o v → NamesForm v
-next_names k t None v h = absurd h
-next_names k t (Some r) v h = by (next_pairs t r) h
-  where
-    by : (ps : List Pair) → FirstFits k ps v → NamesForm v
-    by [] h = absurd h
-    by (p ∷ ps) h = spelled_names k p.form.value v (spelled_alone k p.constant p.form.value v h).0
+  pub size_within : first_size ≤ length hs
+  size_within = omega (arith, ap length first_value.split, length-append (head k p.form.value first_value.start first_value.value) first_value.rest)
+
+  pub behind_first_is : drop first_size hs ≡ first_value.rest
+  behind_first_is = ap (drop first_size) first_value.split ∙ drop_at (head k p.form.value first_value.start first_value.value) first_value.rest first_size refl
+
+  own : length (spelling k p.form.value first_value.value) ≡ length ((attribute k p.form.value p.constant).spell first_value.value)
+  own = ap length (spelled_alone k p.constant p.form.value first_value.value first_value.fits).1
+
+  pub others_lent : AreLent k (at + length (spelling k p.form.value first_value.value)) rest (drop first_size hs) pool
+  others_lent = record {
+    context = lent.context;
+    here = subst (λ (b : List ℕ). Here k rest b pool) (sym behind_first_is) next.others;
+    room =
+        let all = ap (λ (qs : List Pair). length (run_bytes k qs hs pool)) is ∙ ap length next.spelled in
+        let tail = ap (λ (b : List ℕ). length (run_bytes k rest b pool)) behind_first_is in
+        omega (arith, lent.room, all, tail, own, length-append ((attribute k p.form.value p.constant).spell first_value.value) (run_bytes k rest first_value.rest pool));
+  }
+
+  -- the values are the first one and the others
+  pub values_are : values_at k ps hs pool ≡ first_value.value ∷ values_at k rest (drop first_size hs) pool
+  values_are =
+      ap (λ (qs : List Pair). values_at k qs hs pool) is
+      ∙ ap (λ (o : Option (Attribute × ℕ)). put_in o (λ n. values_at k rest (drop n hs) pool)) (first_found k p hs pool first_value)

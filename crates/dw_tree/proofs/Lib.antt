@@ -1,12 +1,9 @@
-pub mod Grows
 pub mod Spells
-pub mod Settles
-pub mod Grown
 pub mod Stands
-pub mod Closes
-pub mod Drafts
+pub mod RowTokens
+pub mod Lists
+pub mod RunSteps
 pub mod Begins
-pub mod Holds
 pub mod Limits
 pub mod Fits
 pub mod Whole

@@ -1,5 +1,5 @@
 -- The nesting's limit is small.
-use Rattle.std.proofs.Common.{◌≡◌, ℕ, ◌≤◌, ◌<◌, List, length, arith}
+use Rattle.std.proofs.Common.{ℕ, ◌≤◌, ◌<◌, List, length, arith}
 use Rattle.dw_tree.specs.Tree.{nesting}
 
 pub few_open : (xs : List ℕ) → length xs ≤ nesting → length xs < 257

@@ -2,9 +2,7 @@
 use Rattle.std.proofs.Common.{◌≡◌, ℕ, zero, suc, ◌+◌, ◌<◌, ◌≤◌, List, [], ◌∷◌, ◌++◌, length, get_or, take, drop, refl, sym, ◌∙◌, ap, ap₂, subst, arith, inl, inr, add-zero, append_assoc, append-nil, length-append}
 use Rattle.std.proofs.lemmas.List.{length-map}
 use Rattle.dw_leb.specs.Number.{Unsigned}
-use Rattle.dw_leb.specs.View.{uleb_of}
 use Rattle.dw_form.specs.declared.shape.Ctx.{Ctx}
-use Rattle.dw_form.specs.declared.stored.Stored.{Stored}
 use Rattle.dw_form.specs.Form.{Attribute}
 use Rattle.dw_abbrev.specs.Table.{Table}
 use Rattle.dw_tree.specs.declared.row.Row.{Row}
@@ -14,12 +12,15 @@ use Rattle.dw_tree.specs.Tree.{Tree, leaf, branch, Forest, none, more}
 use Rattle.dw_tree.specs.Spelling.{entry_bytes, tree_bytes}
 use Rattle.dw_tree.specs.Row.{Token, branch_row, null_row, rows_of, all_rows, row_bytes, rows_bytes, Rest, rest_of, rest-rows, rest-all, join-none, head_of}
 use Rattle.dw_tree.specs.Steps.{TreeAt}
-use Rattle.dw_tree.specs.Flat.{value_count, values_of, kind_token, token_of, tokens, IsEntry, IsNull}
+use Rattle.dw_tree.specs.Flat.{code_in, row_values_at, kind_token, token_at, tokens_at, IsEntry, IsNull}
 use Rattle.dw_tree.specs.DraftInvariant.{EntryFits, TokenFits, LevelFits, level_after, levels_after, Stand, EndsAt, HaveEnds}
 use Rattle.dw_tree.specs.Lent.{StandsAt, chain_at, chain, chain_from, children_of, below, code_of, values_in, own_bytes, offset_of_row, level_of_row, entry_at_row, entries_in, entries_from}
-use Rattle.dw_tree.proofs.Settles.{drop_length}
 use Rattle.dw_tree.proofs.Fits.{levels_append}
 use Rattle.dw_tree.proofs.Bytes.{bytes_append, rows_are_tree, take_to, take_one, levels_positive, level_behind, stand_at}
+
+pub drop_length : {X : Type 0} (xs : List X) → drop (length xs) xs ≡ []
+drop_length [] = refl
+drop_length (x ∷ xs) = drop_length xs
 
 -- ---- the first row of an entry
 
@@ -59,20 +60,20 @@ level_of_entry Null code vs n e f = absurd e
 first_is : (x y : Token) (xs ys : List Token) → (x ∷ xs) ≡ (y ∷ ys) → x ≡ y
 first_is x y xs ys e = cc
 
-module _ (u : TreeAt) (rows : List Row) (values : List Stored) (pool : List ℕ) (et : tokens u.table rows values pool ≡ rows_of u.root) where
+module _ (u : TreeAt) (rows : List Row) (hs pool : List ℕ) (et : tokens_at u.context u.table rows hs pool ≡ rows_of u.root) where
   abbrev xs : List Token
   xs = rows_of u.root
 
   pub same_length : length rows ≡ length xs
-  same_length = sym (length-map rows (token_of u.table values pool)) ∙ ap length et
+  same_length = sym (length-map rows (token_at u.context u.table hs pool)) ∙ ap length et
 
-  token_here : (rs : List Row) (at : ℕ) (d : Row) → at < length rs → drop at (tokens u.table rs values pool) ≡ token_of u.table values pool (get_or rs at d) ∷ drop (suc at) (tokens u.table rs values pool)
+  token_here : (rs : List Row) (at : ℕ) (d : Row) → at < length rs → drop at (tokens_at u.context u.table rs hs pool) ≡ token_at u.context u.table hs pool (get_or rs at d) ∷ drop (suc at) (tokens_at u.context u.table rs hs pool)
   token_here [] at d h = absurd (omega (arith, h))
   token_here (r ∷ rs) zero d h = refl
   token_here (r ∷ rs) (suc at) d h = token_here rs at d (omega (arith, h))
 
-  pub first_token : (at : ℕ) (d : Row) → at < length rows → drop at xs ≡ token_of u.table values pool (get_or rows at d) ∷ drop (suc at) xs
-  first_token at d h = subst (λ (ys : List Token). drop at ys ≡ token_of u.table values pool (get_or rows at d) ∷ drop (suc at) ys) et (token_here rows at d h)
+  pub first_token : (at : ℕ) (d : Row) → at < length rows → drop at xs ≡ token_at u.context u.table hs pool (get_or rows at d) ∷ drop (suc at) xs
+  first_token at d h = subst (λ (ys : List Token). drop at ys ≡ token_at u.context u.table hs pool (get_or rows at d) ∷ drop (suc at) ys) et (token_here rows at d h)
 
   short : (ys : List Token) (i : ℕ) (node : Tree) (after : List Token) → drop i ys ≡ rows_of node ++ after → i < length ys
   short [] zero (leaf code vs) after e = absurd cc
@@ -91,10 +92,10 @@ module _ (u : TreeAt) (rows : List Row) (values : List Stored) (pool : List ℕ)
     pub offset : r.offset ≡ offset_of_row u at
     pub depth : r.depth ≡ level_of_row u at
     pub is_entry : IsEntry r.kind
-    pub code : uleb_of r.code ≡ code_of node
-    pub values_are : values_of values pool r.first (value_count u.table r.code.value) ≡ values_in node
+    pub code : code_in r ≡ code_of node
+    pub values_are : row_values_at u.context u.table hs pool r ≡ values_in node
     pub fits : EntryFits u.context u.table (code_of node) (values_in node)
-    pub head : drop at xs ≡ kind_token r.kind (uleb_of r.code) (values_in node) ∷ drop (suc at) xs
+    pub head : drop at xs ≡ kind_token r.kind (code_in r) (values_in node) ∷ drop (suc at) xs
 
   module _ (st : Stand u.context u.table u.start 1 rows xs) where
     pub row_is : (at : ℕ) (node : Tree) (d : Row) → StandsAt xs at node → RowIs at node (get_or rows at d)
@@ -102,9 +103,9 @@ module _ (u : TreeAt) (rows : List Row) (values : List Stored) (pool : List ℕ)
         let l = in_rows at node s in
         let r : Row = get_or rows at d in
         let q = stand_at u.context u.table u.start 1 rows xs at d l st in
-        let h = entry_head r.kind (uleb_of r.code) (values_of values pool r.first (value_count u.table r.code.value)) (drop (suc at) xs) node s.after (sym (first_token at d l) ∙ s.stands) in
-        let same : q.token ≡ token_of u.table values pool r = first_is _ _ _ _ (sym q.here ∙ first_token at d l) in
-        let f = fits_of u.context u.table r.kind (uleb_of r.code) _ h.0 (subst (TokenFits u.context u.table) same q.fits) in
+        let h = entry_head r.kind (code_in r) (row_values_at u.context u.table hs pool r) (drop (suc at) xs) node s.after (sym (first_token at d l) ∙ s.stands) in
+        let same : q.token ≡ token_at u.context u.table hs pool r = first_is _ _ _ _ (sym q.here ∙ first_token at d l) in
+        let f = fits_of u.context u.table r.kind (code_in r) _ h.0 (subst (TokenFits u.context u.table) same q.fits) in
         record {
           inside = l;
           offset = q.offset;
@@ -112,18 +113,18 @@ module _ (u : TreeAt) (rows : List Row) (values : List Stored) (pool : List ℕ)
           is_entry = h.0;
           code = h.1;
           values_are = h.2;
-          fits = subst (λ (vs : List Attribute). EntryFits u.context u.table (code_of node) vs) h.2 (subst (λ (c : Unsigned). EntryFits u.context u.table c (values_of values pool r.first (value_count u.table r.code.value))) h.1 f);
-          head = first_token at d l ∙ ap (λ (vs : List Attribute). kind_token r.kind (uleb_of r.code) vs ∷ drop (suc at) xs) h.2;
+          fits = subst (λ (vs : List Attribute). EntryFits u.context u.table (code_of node) vs) h.2 (subst (λ (c : Unsigned). EntryFits u.context u.table c (row_values_at u.context u.table hs pool r)) h.1 f);
+          head = first_token at d l ∙ ap (λ (vs : List Attribute). kind_token r.kind (code_in r) vs ∷ drop (suc at) xs) h.2;
         }
 
   -- ---- from a row to the row behind its tree
 
-  pub ends_chain : (at end : ℕ) → EndsAt (tokens u.table rows values pool) at end → (x : Tree) × (drop at xs ≡ rows_of x ++ drop end xs) × (chain_at xs at ≡ more x (chain_at xs end)) × (end ≤ length xs)
+  pub ends_chain : (at end : ℕ) → EndsAt (tokens_at u.context u.table rows hs pool) at end → (x : Tree) × (drop at xs ≡ rows_of x ++ drop end xs) × (chain_at xs at ≡ more x (chain_at xs end)) × (end ≤ length xs)
   ends_chain at end h =
       let e : drop at xs ≡ rows_of h.tree ++ drop end xs = subst (λ (ys : List Token). drop at ys ≡ rows_of h.tree ++ drop end ys) et h.whole in
       (h.tree, e, ap (λ (ys : List Token). (rest_of ys).here) e ∙ ap (λ (r : Rest). r.here) (rest-rows h.tree (drop end xs)), subst (λ (ys : List Token). end ≤ length ys) et h.within)
 
-  pub ends_of : (at : ℕ) (d : Row) → HaveEnds rows (tokens u.table rows values pool) [] → at < length rows → IsEntry (get_or rows at d).kind → EndsAt (tokens u.table rows values pool) at (get_or rows at d).end
+  pub ends_of : (at : ℕ) (d : Row) → HaveEnds rows (tokens_at u.context u.table rows hs pool) [] → at < length rows → IsEntry (get_or rows at d).kind → EndsAt (tokens_at u.context u.table rows hs pool) at (get_or rows at d).end
   ends_of at d h l e = elim (h at d l e) [ inl bad ↦ elim bad [ ] | inr k ↦ k ]
 
   module _ (at end : ℕ) (x : Tree) (e : drop at xs ≡ rows_of x ++ drop end xs) where
@@ -162,7 +163,7 @@ module _ (u : TreeAt) (rows : List Row) (values : List Stored) (pool : List ℕ)
   pub null_chain : (at : ℕ) (d : Row) → at < length rows → (get_or rows at d).kind ≡ Null → chain_from u at ≡ []
   null_chain at d l e =
       let r : Row = get_or rows at d in
-      let h : drop at xs ≡ null_row r.code.width ∷ drop (suc at) xs = first_token at d l ∙ ap (λ (k : RowKind). kind_token k (uleb_of r.code) (values_of values pool r.first (value_count u.table r.code.value)) ∷ drop (suc at) xs) e in
+      let h : drop at xs ≡ null_row r.width ∷ drop (suc at) xs = first_token at d l ∙ ap (λ (k : RowKind). kind_token k (code_in r) (row_values_at u.context u.table hs pool r) ∷ drop (suc at) xs) e in
       ap (λ (ys : List Token). chain u.context u.table (rest_of ys).here (offset_of_row u at) (level_of_row u at)) h
 
   pub end_chain : (n : ℕ) → n ≡ length xs → chain_from u n ≡ []
@@ -174,7 +175,7 @@ module _ (u : TreeAt) (rows : List Row) (values : List Stored) (pool : List ℕ)
   children_at at node d q s e =
       let r : Row = get_or rows at d in
       let h : drop at xs ≡ branch_row (code_of node) (values_in node) ∷ drop (suc at) xs =
-      q.head ∙ (ap (λ (k : RowKind). kind_token k (uleb_of r.code) (values_in node) ∷ drop (suc at) xs) e ∙ ap (λ (c : Unsigned). branch_row c (values_in node) ∷ drop (suc at) xs) q.code) in
+      q.head ∙ (ap (λ (k : RowKind). kind_token k (code_in r) (values_in node) ∷ drop (suc at) xs) e ∙ ap (λ (c : Unsigned). branch_row c (values_in node) ∷ drop (suc at) xs) q.code) in
       ap (λ (ts : Forest). chain u.context u.table ts (offset_of_row u (suc at)) (level_of_row u (suc at))) (below_branch node s.after (drop (suc at) xs) (code_of node) (values_in node) (sym h ∙ s.stands))
       ∙ ap₂ (λ (o l : ℕ). chain u.context u.table (below node) o l) (offset_next at _ h) (level_next at _ h)
 
@@ -183,7 +184,7 @@ module _ (u : TreeAt) (rows : List Row) (values : List Stored) (pool : List ℕ)
   next_offset at node d q = by (get_or rows at d).kind q.is_entry q.head
     where
       here : Unsigned
-      here = uleb_of (get_or rows at d).code
+      here = code_in (get_or rows at d)
 
       same : length (entry_bytes u.context u.table here (values_in node)) ≡ length (own_bytes u.context u.table node)
       same = ap (λ (c : Unsigned). length (entry_bytes u.context u.table c (values_in node))) q.code
@@ -199,7 +200,7 @@ module _ (u : TreeAt) (rows : List Row) (values : List Stored) (pool : List ℕ)
   entries_step at node d q s n = by (get_or rows at d).kind q.is_entry q.head
     where
       here : Unsigned
-      here = uleb_of (get_or rows at d).code
+      here = code_in (get_or rows at d)
 
       by : (kd : RowKind) → IsEntry kd → drop at xs ≡ kind_token kd here (values_in node) ∷ drop (suc at) xs → entries_from u at ≡ entry_at_row u at ∷ entries_from u (suc at)
       by Leaf is e =
@@ -218,7 +219,7 @@ module _ (u : TreeAt) (rows : List Row) (values : List Stored) (pool : List ℕ)
       r : Row
       r = get_or rows at d
 
-      by : (kd : RowKind) → IsNull kd → drop at xs ≡ kind_token kd (uleb_of (get_or rows at d).code) (values_of values pool (get_or rows at d).first (value_count u.table (get_or rows at d).code.value)) ∷ drop (suc at) xs → entries_from u at ≡ entries_from u (suc at)
+      by : (kd : RowKind) → IsNull kd → drop at xs ≡ kind_token kd (code_in (get_or rows at d)) (row_values_at u.context u.table hs pool (get_or rows at d)) ∷ drop (suc at) xs → entries_from u at ≡ entries_from u (suc at)
       by Leaf is e = absurd is
       by Branch is e = absurd is
       by Null is e =

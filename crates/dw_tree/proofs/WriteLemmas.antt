@@ -1,31 +1,21 @@
 -- Writing: what is spelled one behind the other.
-use Rattle.std.proofs.Common.{◌≡◌, ℕ, List, [], ◌∷◌, ◌++◌, length, refl, ap, subst, ◌∙◌, arith}
+use Rattle.std.proofs.Common.{◌≡◌, ℕ, List, [], ◌∷◌, ◌++◌, length, refl, sym, ap, subst, ◌∙◌, arith}
 use Rattle.dw_form.specs.declared.shape.Ctx.{Ctx}
 use Rattle.dw_form.specs.Form.{Attribute, attribute}
 use Rattle.dw_abbrev.specs.Table.{Pair, Table}
 use Rattle.dw_leb.specs.Number.{Unsigned}
-use Rattle.dw_form.specs.declared.stored.Stored.{Stored}
 use Rattle.dw_tree.specs.declared.row.Row.{Row}
 use Rattle.dw_tree.specs.declared.row.RowKind.{RowKind}
 use Rattle.dw_tree.specs.declared.row.RowKind.TheVariants.{Leaf, Branch, Null}
 use Rattle.dw_tree.specs.Row.{row_bytes, rows_bytes}
 use Rattle.dw_tree.specs.Spelling.{entry_bytes}
-use Rattle.dw_tree.specs.Flat.{kind_token, token_of, tokens}
-use Rattle.dw_tree.specs.Tree.{values}
-
--- ---- the next value
-
-pub values_next : (k : Ctx) (ps : List Pair) (p : Pair) (rest : List Pair) (v : Attribute) (vs all : List Attribute) → ps ≡ p ∷ rest → all ≡ v ∷ vs → (values k ps).Fits all
-    → (attribute k p.form.value p.constant).Fits v × (values k rest).Fits vs × ((values k ps).spell all ≡ (attribute k p.form.value p.constant).spell v ++ (values k rest).spell vs)
-values_next k ps p rest v vs all e f fits =
-    let here : (values k (p ∷ rest)).Fits (v ∷ vs) = subst (λ (qs : List Pair). (values k qs).Fits (v ∷ vs)) e (subst (λ (ws : List Attribute). (values k ps).Fits ws) f fits) in
-    (here.0, here.1, ap (λ (qs : List Pair). (values k qs).spell all) e ∙ ap (λ (ws : List Attribute). (values k (p ∷ rest)).spell ws) f)
+use Rattle.dw_tree.specs.Flat.{kind_token, token_at, tokens_at}
+use Rattle.dw_form.specs.Pieces.{HasSpelling, spelling, has_spelling}
+use Rattle.dw_tree.specs.RowHeads.{First, first_bytes, first_is}
 
 pub no_items : {X : Type 0} (xs : List X) → length xs ≡ 0 → xs ≡ []
 no_items [] h = refl
 no_items (x ∷ xs) h = absurd (omega (arith, h))
-
--- ---- an entry without children
 
 -- ---- rows
 
@@ -36,6 +26,13 @@ entry_row_bytes k t Branch code vs n = refl
 entry_row_bytes k t Null code vs n = absurd (n refl)
 
 -- the next row
-pub rows_next : (k : Ctx) (t : Table) (values : List Stored) (pool : List ℕ) (all : List Row) (row : Row) (others : List Row) → all ≡ row ∷ others
-    → rows_bytes k t (tokens t all values pool) ≡ row_bytes k t (token_of t values pool row) ++ rows_bytes k t (tokens t others values pool)
-rows_next k t values pool all row others e = ap (λ (rs : List Row). rows_bytes k t (tokens t rs values pool)) e
+pub rows_next : (k : Ctx) (t : Table) (hs pool : List ℕ) (all : List Row) (row : Row) (others : List Row) → all ≡ row ∷ others
+    → rows_bytes k t (tokens_at k t all hs pool) ≡ row_bytes k t (token_at k t hs pool row) ++ rows_bytes k t (tokens_at k t others hs pool)
+rows_next k t hs pool all row others e = ap (λ (rs : List Row). rows_bytes k t (tokens_at k t rs hs pool)) e
+
+-- what is lent of the first value has a spelling, and that is the one there
+pub lent_spelling : (k : Ctx) (p : Pair) (hs pool : List ℕ) (x : First k p hs pool) (a : Attribute) → a ≡ x.value → HasSpelling k p.form.value a × (spelling k p.form.value a ≡ first_bytes k p hs pool)
+lent_spelling k p hs pool x a e =
+    let fits : (attribute k p.form.value p.constant).Fits a = subst (λ (b : Attribute). (attribute k p.form.value p.constant).Fits b) (sym e) x.fits in
+    let own = has_spelling k p.form.value p.constant a fits in
+    (own.0, own.1 ∙ (ap (attribute k p.form.value p.constant).spell e ∙ sym (first_is k p hs pool x)))

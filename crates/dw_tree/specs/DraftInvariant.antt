@@ -1,20 +1,19 @@
 -- What is true of the flat lists of a tree.
-use Rattle.std.specs.Prelude.{◌≡◌, ℕ, zero, suc, ◌+◌, ◌<◌, ◌≤◌, ◌⊎◌, List, [], ◌∷◌, ◌++◌, get_or, drop, length, take, Option, Some, IfSome, IsSome, true, false}
-use Rattle.std.specs.List.{AllByRecursion}
+use Rattle.std.specs.Prelude.{◌≡◌, ℕ, zero, suc, ◌+◌, ◌<◌, ◌≤◌, ◌^◌, ◌⊎◌, List, [], ◌∷◌, ◌++◌, get_or, drop, length, Option, Some, None, option_map, IfSome, IsSome, true, false}
 use Rattle.dw_leb.specs.Number.{Unsigned, uleb}
 use Rattle.dw_leb.specs.View.{uleb_of}
 use Rattle.dw_form.specs.declared.shape.Ctx.{Ctx}
-use Rattle.dw_form.specs.declared.stored.Stored.{Stored}
 use Rattle.dw_form.specs.Form.{Attribute}
-use Rattle.dw_form.specs.StoredView.{StoredFits}
-use Rattle.dw_abbrev.specs.Table.{Declaration, Table, declared, is_null, zero_of}
+use Rattle.dw_abbrev.specs.Table.{Pair, Declaration, Table, declared, is_null, zero_of}
 use Rattle.dw_tree.specs.declared.row.Row.{Row}
 use Rattle.dw_tree.specs.declared.row.Unfinished.{Unfinished}
 use Rattle.dw_tree.specs.Tree.{Tree, values, declared_pairs, declares_children, nesting}
 use Rattle.dw_tree.specs.Row.{Token, leaf_row, branch_row, null_row, rows_of, row_bytes, rows_bytes}
-use Rattle.dw_tree.specs.Place.{spot_after, rows_before, open_rows}
-use Rattle.dw_tree.specs.Flat.{tokens, contents, RowFits, IsEntry}
-use Rattle.dw_tree.specs.Steps.{FirstsFit}
+use Rattle.dw_tree.specs.Place.{UnfinishedEntry, spot_after, rows_before, open_rows}
+use Rattle.dw_tree.specs.PoolBytes.{held}
+use Rattle.dw_tree.specs.RowHeads.{rows_heads, Account}
+use Rattle.dw_tree.specs.Flat.{pairs_at, IsEntry, RowsAre}
+use Rattle.dw_tree.specs.Steps.{FirstsFit, unfinished_bytes}
 
 -- ---- the rows spell a tree with one open place
 
@@ -38,28 +37,6 @@ pub record IsSpelled (rows : List Row) (xs : List Token) (open_at : List ℕ) : 
   pub long : length rows ≡ length xs
   pub spelled : xs ≡ rows_before (spot_after xs).above (spot_after xs).left
   pub opened : open_at ≡ open_rows (spot_after xs).above
-
--- the declaration of what is read, and that some of its values are still to come
-pub record IsRead (t : Table) (values : ℕ) (r : Unfinished) : Type 0 where
-  pub decl : Declaration
-  pub declared : declared t r.code.value ≡ Some decl
-  pub children : decl.children ≡ r.children
-  pub count : length decl.pairs ≡ r.count
-  pub first : r.first ≤ values
-  pub short : values < r.first + r.count
-
--- what stood before the unfinished entry stays when its values go
-pub record CanUndo (t : Table) (rows : List Row) (values : List Stored) (pool : ℕ) (r : Unfinished) : Type 0 where
-  pub rows_fit : AllByRecursion (RowFits t r.first) rows
-  pub values_fit : AllByRecursion (StoredFits r.pool) (take r.first values)
-  pub within : r.pool ≤ pool
-
-pub record IsSound (t : Table) (rows : List Row) (values : List Stored) (pool : List ℕ) (open_at : List ℕ) (unfinished : Option Unfinished) : Type 0 where
-  pub rows_fit : AllByRecursion (RowFits t (length values)) rows
-  pub values_fit : AllByRecursion (StoredFits (length pool)) values
-  pub is_spelled : IsSpelled rows (tokens t rows values pool) open_at
-  pub is_read : IfSome unfinished (IsRead t (length values))
-  pub can_undo : IfSome unfinished (CanUndo t rows values (length pool))
 
 -- what was made room for
 pub record HasRoom (unfinished : Option Unfinished) (rows rows_cap open_len open_cap : ℕ) : Type 0 where
@@ -108,10 +85,49 @@ Stand k t at depth [] (x ∷ xs) = ⊥
 Stand k t at depth (r ∷ rows) [] = ⊥
 Stand k t at depth (r ∷ rows) (x ∷ xs) = ((r.offset ≡ at) × (r.depth ≡ depth) × TokenFits k t x × LevelFits x depth) × Stand k t (at + length (row_bytes k t x)) (level_after depth x) rows xs
 
--- the unfinished entry begins behind the rows, and its values so far have a spelling
-pub record IsUnfinishedEntry (k : Ctx) (t : Table) (start : ℕ) (xs : List Token) (values : List Stored) (pool : List ℕ) (r : Unfinished) : Type 0 where
+-- ---- an entry of which these values were given
+
+-- it begins behind these rows, its heads and contents behind theirs, and its values have a spelling under its first pairs
+pub record IsGivenEntry (k : Ctx) (t : Table) (start : ℕ) (xs : List Token) (vs : List Attribute) (r : Unfinished) : Type 0 where
+  pub decl : Declaration
+  pub declared : declared t r.code.value ≡ Some decl
+  pub children : decl.children ≡ r.children
+  pub count : length decl.pairs ≡ r.count
+  pub given : r.given ≡ length vs
+  pub within : r.given ≤ r.count
   pub offset : r.offset ≡ start + length (rows_bytes k t xs)
+  pub first : r.first ≡ length (rows_heads k t 0 xs)
+  pub from : r.pool ≡ length (held xs)
   pub code_fits : uleb.Fits (uleb_of r.code)
   pub not_null : is_null (uleb_of r.code) ≡ false
-  pub prefix_fits : FirstsFit k (declared_pairs (declared t r.code.value)) (contents (drop r.first values) pool)
+  pub prefix_fits : FirstsFit k (pairs_at t r.code.value) vs
   pub level : length (spot_after xs).above < nesting
+
+-- some of its values are still to come
+pub record IsUnfinished (k : Ctx) (t : Table) (start : ℕ) (xs : List Token) (vs : List Attribute) (r : Unfinished) : Type 0 where
+  pub entry : IsGivenEntry k t start xs vs r
+  pub short : r.given < r.count
+
+abbrev pub AreGiven : Ctx → Table → ℕ → List Token → List Attribute → Option Unfinished → Type 0
+AreGiven k t start xs vs None = vs ≡ []
+AreGiven k t start xs vs (Some r) = IsUnfinished k t start xs vs r
+
+-- the pairs of the unfinished entry
+abbrev pub pairs_given : Table → Option Unfinished → List Pair
+pairs_given t None = []
+pairs_given t (Some r) = pairs_at t r.code.value
+
+-- the unfinished entry with these values
+abbrev pub entry_with : List Attribute → Unfinished → UnfinishedEntry
+entry_with vs r = record { code = uleb_of r.code; values = vs; partial = None }
+
+-- ---- the lists are those of a tree with one open place: they have these rows, and the heads and contents of their values and of those of the unfinished entry, and no others
+pub record AreLists (k : Ctx) (t : Table) (start : ℕ) (rows : List Row) (hs pool : List ℕ) (open_at : List ℕ) (o : Option Unfinished) (here : ℕ) (xs : List Token) (vs : List Attribute) : Type 0 where
+  pub rows_are : RowsAre k t 0 0 rows xs
+  pub account : Account k t xs (pairs_given t o) vs hs pool
+  pub small : length pool < 2 ^ 64
+  pub is_spelled : IsSpelled rows xs open_at
+  pub stand : Stand k t start 1 rows xs
+  pub are_given : AreGiven k t start xs vs o
+  pub deep : length open_at ≤ nesting
+  pub here_is : here ≡ start + (length (rows_bytes k t xs) + length (unfinished_bytes k t (option_map (entry_with vs) o)))

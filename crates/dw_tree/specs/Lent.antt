@@ -1,23 +1,20 @@
 -- Entries and attributes as they are lent (sections 2.2, 2.3, 7.5.2 and 7.5.3).
 use Rattle.std.specs.Prelude.{◌≡◌, ◌<◌, ◌^◌, ℕ, suc, ◌+◌, ◌==◌, List, [], ◌∷◌, ◌++◌, length, drop, take, Option, Some, None, if◌then◌else◌}
-use Rattle.std.specs.List.{AllByRecursion}
 use Rattle.std.proofs.Common.{refl}
 use Rattle.std.specs.Coded.{Coded, code_by, coded×, coded_ℕ}
 use Rattle.dw_leb.specs.Number.{Unsigned}
 use Rattle.dw_form.specs.declared.shape.Ctx.{Ctx}
-use Rattle.dw_form.specs.declared.stored.Stored.{Stored}
 use Rattle.dw_form.specs.Form.{Attribute, IsContext}
-use Rattle.dw_form.specs.StoredView.{StoredFits}
 use Rattle.dw_form.specs.Lent.{attribute_of}
 use Rattle.dw_form.specs.Pieces.{form_in, spelling}
 use Rattle.dw_abbrev.specs.Table.{Pair, Declaration, Table, declared}
 use Rattle.dw_tree.specs.declared.attrs.AttrRef.{AttrRef}
-use Rattle.dw_tree.specs.Tree.{Tree, leaf, branch, Forest, none, more, values, declared_pairs}
+use Rattle.dw_tree.specs.Tree.{Tree, leaf, branch, Forest, none, more, declared_pairs}
 use Rattle.dw_tree.specs.Spelling.{entry_bytes, tree_bytes}
 use Rattle.dw_tree.specs.Row.{Token, leaf_row, branch_row, null_row, row_bytes, rows_bytes, rows_of, rest_of, head_of}
 use Rattle.dw_tree.specs.Offset.{node_at, offset_at, end_at}
 use Rattle.dw_tree.specs.Steps.{TreeAt}
-use Rattle.dw_tree.specs.Flat.{contents}
+use Rattle.dw_tree.specs.RowHeads.{Here, run_bytes}
 use Rattle.dw_tree.specs.DraftInvariant.{level_after, levels_after}
 use Rattle.dw_tree.specs.Codes.{context_code, table_code, tree_code}
 
@@ -47,12 +44,11 @@ abbrev pub first_named : ℕ → List LentAttribute → Option LentAttribute
 first_named name [] = None
 first_named name (a ∷ others) = if a.name == name then Some a else first_named name others
 
--- Values that are stored over a pool, one for each pair, the first of which begins at an offset: they have a spelling, which ends before 2 ^ 64.
-pub record AreLent (k : Ctx) (at : ℕ) (ps : List Pair) (stored : List Stored) (pool : List ℕ) : Type 0 where
+-- Values by their heads, one for each pair, the first of which begins at an offset: they have a spelling, which ends before 2 ^ 64.
+pub record AreLent (k : Ctx) (at : ℕ) (ps : List Pair) (hs pool : List ℕ) : Type 0 where
   pub context : IsContext k
-  pub inside : AllByRecursion (StoredFits (length pool)) stored
-  pub spelled : (values k ps).Fits (contents stored pool)
-  pub room : at + length ((values k ps).spell (contents stored pool)) < 2 ^ 64
+  pub here : Here k ps hs pool
+  pub room : at + length (run_bytes k ps hs pool) < 2 ^ 64
 
 -- ---- entries
 

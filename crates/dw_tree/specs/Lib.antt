@@ -10,6 +10,8 @@ pub mod Codes
 pub mod Place
 pub mod Steps
 pub mod Next
+pub mod RowHeads
+pub mod Runs
 pub mod Flat
 pub mod Completed
 pub mod DraftInvariant
@@ -21,3 +23,4 @@ pub mod Paths
 pub mod Ends
 pub mod Emptiness
 pub mod PoolBytes
+pub mod Sizes

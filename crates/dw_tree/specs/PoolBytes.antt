@@ -1,14 +1,9 @@
 -- The bytes of texts and blocks, joined in the order of the entries.
-use Rattle.std.specs.Prelude.{◌≡◌, ℕ, List, [], ◌∷◌, ◌++◌, length, drop, Option, None, Some, IfSome}
-use Rattle.dw_form.specs.declared.stored.Stored.{Stored}
+use Rattle.std.specs.Prelude.{ℕ, List, [], ◌∷◌, ◌++◌, Option, None, Some}
 use Rattle.dw_form.specs.Form.{Attribute}
 use Rattle.dw_form.specs.StoredView.{bytes_in}
-use Rattle.dw_abbrev.specs.Table.{Table}
-use Rattle.dw_tree.specs.declared.row.Row.{Row}
-use Rattle.dw_tree.specs.declared.row.Unfinished.{Unfinished}
 use Rattle.dw_tree.specs.Row.{Token, leaf_row, branch_row, null_row}
 use Rattle.dw_tree.specs.Place.{PartialValue, UnfinishedEntry, Place, rows_before}
-use Rattle.dw_tree.specs.Flat.{contents, tokens}
 
 -- of values
 abbrev pub joined : List Attribute → List ℕ
@@ -37,14 +32,3 @@ read_bytes (Some r) = joined r.values ++ partial_bytes r.partial
 -- of a tree with one open place
 abbrev pub held_in : Place → List ℕ
 held_in p = held (rows_before p.spot.above p.spot.left) ++ read_bytes p.unfinished
-
--- ---- what the pool has
-
-abbrev pub given_bytes : List Stored → List ℕ → Option Unfinished → List ℕ
-given_bytes values pool None = []
-given_bytes values pool (Some r) = joined (contents (drop r.first values) pool)
-
--- the pool has these bytes and no others, and those of the unfinished entry from where it began
-pub record Holds (t : Table) (rows : List Row) (values : List Stored) (pool : List ℕ) (unfinished : Option Unfinished) : Type 0 where
-  pub exact : pool ≡ held (tokens t rows values pool) ++ given_bytes values pool unfinished
-  pub from : IfSome unfinished (λ r. r.pool ≡ length (held (tokens t rows values pool)))

@@ -6,6 +6,7 @@ use Rattle.dw_leb.specs.Number.{Unsigned, uleb}
 use Rattle.dw_form.specs.declared.shape.Ctx.{Ctx}
 use Rattle.dw_form.specs.Form.{Attribute, attribute}
 use Rattle.dw_form.specs.StoredView.{text_or_block}
+use Rattle.dw_form.specs.HeadFront.{front_bytes}
 use Rattle.dw_abbrev.specs.Table.{Pair, Declaration, Table, declared}
 use Rattle.dw_tree.specs.Tree.{Tree, leaf, Forest, none, more, values, declared_pairs}
 use Rattle.dw_tree.specs.Row.{rows_bytes}
@@ -133,6 +134,10 @@ NextFits k t (Some r) v = FirstFits k (next_pairs t r) v
 abbrev pub next_bytes : Ctx → Table → Option UnfinishedEntry → Attribute → List ℕ
 next_bytes k t None v = []
 next_bytes k t (Some r) v = first_bytes k (next_pairs t r) v
+
+-- of these bytes those before its content; all of them, where it has none
+abbrev pub next_front : Ctx → Table → Option UnfinishedEntry → Attribute → List ℕ
+next_front k t o v = front_bytes v (next_bytes k t o v)
 
 -- ---- a whole tree
 

@@ -5,12 +5,13 @@ ghost use Rattle.dw_leb.specs.View.{uleb_of};
 ghost use Rattle.dw_form.specs.Lent.{attribute_of};
 ghost use Rattle.dw_form.specs.Pieces.{form_in};
 ghost use Rattle.dw_abbrev.specs.PairView.{pair_of};
-ghost use Rattle.dw_tree.specs.Flat.{contents};
+ghost use Rattle.dw_tree.specs.RowHeads.{values_at};
 ghost use Rattle.dw_tree.specs.Lent.{lent_attribute, lent_attributes};
 ghost use Rattle.dw_tree.specs.Lent.{AreLent, attr_of};
 
+use crate::write::behind;
 use dw_abbrev::Pair;
-use dw_form::{AttrValue, Ctx, Stored, size_of};
+use dw_form::{AttrValue, Ctx, lend_head, size_of};
 use dw_leb::Uleb;
 use std::marker::Model;
 
@@ -35,7 +36,8 @@ pub struct AttrRef<'a> {
 pub struct Attrs<'a> {
     ctx: Ctx,
     pairs: &'a [Pair],
-    stored: &'a [Stored],
+    /// The heads of their values are at the front.
+    heads: &'a [u8],
     pool: &'a [u8],
     /// Where the first value begins.
     at: u64,
@@ -44,33 +46,34 @@ pub struct Attrs<'a> {
 impl<'a> Model for Attrs<'a> {
     ghost use Rattle.std.specs.Prelude.{List, map};
     ghost use Rattle.dw_abbrev.specs.PairView.{pair_of};
-    ghost use Rattle.dw_tree.specs.Flat.{contents};
+    ghost use Rattle.dw_tree.specs.RowHeads.{values_at};
     ghost use Rattle.dw_tree.specs.Lent.{LentAttribute, lent_attributes};
     ghost use Rattle.dw_tree.specs.Lent.{AreLent};
 
     ghost Value = { List LentAttribute };
 
-    ghost view = { λ a. lent_attributes a.ctx a.at (map pair_of a.pairs.now) (contents a.stored.now a.pool.now) };
+    ghost view = { λ a. lent_attributes a.ctx a.at (map pair_of a.pairs.now) (values_at a.ctx (map pair_of a.pairs.now) a.heads.now a.pool.now) };
 
-    ghost invariant = { λ a. AreLent a.ctx a.at (map pair_of a.pairs.now) a.stored.now a.pool.now };
+    ghost invariant = { λ a. AreLent a.ctx a.at (map pair_of a.pairs.now) a.heads.now a.pool.now };
 }
 
 impl<'a> Attrs<'a> {
-    /// The values that are stored over a pool, one for each pair, of which the first begins at `at`.
+    /// The values whose heads are at the front of `heads`, one for each pair, of which the first begins
+    /// at `at`.
     pub(crate) fn of(
         ctx: Ctx,
         pairs: &'a [Pair],
-        stored: &'a [Stored],
+        heads: &'a [u8],
         pool: &'a [u8],
         at: u64,
     ) -> Attrs<'a>
-        requires { AreLent ctx at (map pair_of pairs.now) stored.now pool.now }
-        ensures { result ≡ lent_attributes ctx at (map pair_of pairs.now) (contents stored.now pool.now) }
+        requires { AreLent ctx at (map pair_of pairs.now) heads.now pool.now }
+        ensures { result ≡ lent_attributes ctx at (map pair_of pairs.now) (values_at ctx (map pair_of pairs.now) heads.now pool.now) }
     {
         Attrs {
             ctx,
             pairs,
-            stored,
+            heads,
             pool,
             at,
         }
@@ -86,14 +89,23 @@ impl<'a> Iterator for Attrs<'a> {
 
     fn next(&mut self) -> Option<AttrRef<'a>> {
         let (pair, pairs) = self.pairs.split_first()?;
-        let (stored, others) = self.stored.split_first()?;
-        let attr = stored.lend(self.pool);
-        let size = size_of(self.ctx, pair.form.value, &attr);
-        let first = attr_at(pair, &attr, self.at);
-        self.pairs = pairs;
-        self.stored = others;
-        self.at += size;
-        Some(first)
+        match lend_head(
+            self.ctx,
+            pair.form.value,
+            pair.constant,
+            self.heads,
+            self.pool,
+        ) {
+            Some((attr, own)) => {
+                let size = size_of(self.ctx, pair.form.value, &attr);
+                let first = attr_at(pair, &attr, self.at);
+                self.pairs = pairs;
+                self.heads = behind(self.heads, own);
+                self.at += size;
+                Some(first)
+            }
+            None => unreachable!(),
+        }
     }
 }
 

@@ -1,5 +1,5 @@
 //! A tree under construction.
-ghost use Rattle.std.specs.Prelude.{◌≡◌, ◌≢◌, ◌+◌, ◌<◌, ◌≤◌, ◌^◌, ◌-◌, [], length, option_map, IfOk, IfSome, None, Some, is_some, IsSome, OnOk, OnErr, vec_len, vec_capacity};
+ghost use Rattle.std.specs.Prelude.{◌≡◌, ◌≢◌, ◌+◌, ◌<◌, ◌≤◌, ◌^◌, ◌-◌, ◌*◌, [], length, option_map, IfOk, IfSome, None, Some, is_some, IsSome, OnOk, OnErr, vec_len, vec_capacity};
 ghost use Rattle.dw_leb.specs.Number.{uleb};
 ghost use Rattle.dw_leb.specs.View.{uleb_of};
 ghost use Rattle.dw_form.specs.Form.{IsContext};
@@ -7,16 +7,20 @@ ghost use Rattle.dw_form.specs.Lent.{attribute_of};
 ghost use Rattle.dw_abbrev.specs.PairView.{pair_of};
 ghost use Rattle.dw_abbrev.specs.Table.{declared, zero_of};
 ghost use Rattle.dw_tree.specs.Tree.{nesting, tree as part};
-ghost use Rattle.dw_tree.specs.Place.{nowhere};
-ghost use Rattle.dw_tree.specs.PoolBytes.{held_in};
+ghost use Rattle.dw_tree.specs.Place.{nowhere, rows_before};
+ghost use Rattle.dw_tree.specs.DraftView.{partial_of};
+ghost use Rattle.dw_tree.specs.Flat.{with_end as row_ending};
+ghost use Rattle.dw_tree.specs.PoolBytes.{held_in, partial_bytes};
+ghost use Rattle.dw_tree.specs.RowHeads.{heads_in};
 ghost use Rattle.dw_tree.specs.Emptiness.{is_bare};
-ghost use Rattle.dw_tree.specs.Completed.{settled_rows, settled_open, settled_unfinished};
-ghost use Rattle.dw_tree.specs.Steps.{begun_at, with_value, partial_in, partial_attribute, started, extended, ended, closed_at, undone, end_of, NextFits, next_bytes, next_pair, finished};
+ghost use Rattle.dw_tree.specs.declared.row.RowKind.TheVariants.{Null};
+ghost use Rattle.dw_tree.specs.Completed.{row_with, settled_rows, settled_open, settled_unfinished};
+ghost use Rattle.dw_tree.specs.Steps.{begun_at, with_value, partial_in, partial_attribute, started, extended, ended, closed_at, undone, end_of, NextFits, next_bytes, next_front, next_pair, finished};
 
 use crate::row::{PartialValue, Row, RowKind, Unfinished};
 use crate::tree::EntryTree;
 use dw_abbrev::{Pair, Table};
-use dw_form::{AttrValue, Ctx, Stored, Value};
+use dw_form::{AttrValue, Ctx, Value, put_found, put_head};
 use dw_leb::Uleb;
 use std::alloc::{AllocError, Global};
 use std::marker::Model;
@@ -35,7 +39,8 @@ pub struct TreeDraft {
     /// Where the next byte stands.
     here: u64,
     rows: Vec<Row>,
-    values: Vec<Stored>,
+    /// The heads of the values that were given, and the bytes of their texts and blocks.
+    heads: Vec<u8>,
     pool: Vec<u8>,
     /// The rows of the open entries, the outermost first.
     nested: Vec<usize>,
@@ -71,7 +76,7 @@ impl TreeDraft {
             start,
             here: start,
             rows: Vec::new(alloc),
-            values: Vec::new(alloc),
+            heads: Vec::new(alloc),
             pool: Vec::new(alloc),
             nested: Vec::new(alloc),
             unfinished: None,
@@ -95,43 +100,44 @@ impl TreeDraft {
             let unfinished = Unfinished {
                 code,
                 offset: self.here,
-                first: self.values.len(),
+                first: self.heads.len(),
+                given: 0,
                 count: decl.pairs().len(),
                 children: decl.has_children(),
                 pool: self.pool.len(),
             };
             self.here += code.width as u64;
-            self.unfinished = settle(
-                &mut self.rows,
-                &mut self.nested,
-                self.values.len(),
-                unfinished,
-            );
+            self.unfinished = settle(&mut self.rows, &mut self.nested, unfinished);
         }
         Ok(())
     }
 
-    /// The unfinished entry is given its next value, which has `size` bytes. With its last value it
-    /// is complete: closed where its declaration has no children, else open.
-    pub fn value(&mut self, value: &AttrValue<'_>, size: u64) -> Result<(), AllocError>
+    /// The unfinished entry is given its next value, which has `size` bytes. `front` are those of them
+    /// that come before the bytes of a text or block, or of any other value all. With its last value
+    /// the entry is complete: closed where its declaration has no children, else open.
+    pub fn value(
+        &mut self,
+        value: &AttrValue<'_>,
+        front: &[u8],
+        size: u64,
+    ) -> Result<(), AllocError>
         requires between { partial_in self.old.place.unfinished ≡ None }
         requires fits { NextFits self.old.context self.old.table self.old.place.unfinished (attribute_of value.now) }
+        requires front { front.now ≡ next_front self.old.context self.old.table self.old.place.unfinished (attribute_of value.now) }
         requires size { size ≡ length (next_bytes self.old.context self.old.table self.old.place.unfinished (attribute_of value.now)) }
         requires near { end_of self.old + size < 2 ^ 63 }
         ensures ok { OnOk result (self.new ≡ with_value (attribute_of value.now) self.old) }
         ensures err { OnErr result (self.new ≡ self.old) }
     {
-        self.values.reserve(1)?;
         if let Some(unfinished) = self.unfinished {
-            let stored = Stored::keep(value, &mut self.pool)?;
-            self.values.push_reserved(stored);
+            put_head(value, front, &mut self.heads, &mut self.pool)?;
             self.here += size;
-            self.unfinished = settle(
-                &mut self.rows,
-                &mut self.nested,
-                self.values.len(),
-                unfinished,
-            );
+            let given = unfinished.given + 1;
+            let unfinished = Unfinished {
+                given,
+                ..unfinished
+            };
+            self.unfinished = settle(&mut self.rows, &mut self.nested, unfinished);
         }
         Ok(())
     }
@@ -144,7 +150,7 @@ impl TreeDraft {
         ensures ok { OnOk result (self.new ≡ started (option_map uleb_of via) width self.old) }
         ensures err { OnErr result (self.new ≡ self.old) }
     {
-        self.values.reserve(1)?;
+        self.heads.reserve(48)?;
         let pool = self.pool.len();
         self.partial = Some(PartialValue { via, width, pool });
         Ok(())
@@ -160,24 +166,27 @@ impl TreeDraft {
     }
 
     /// The partial text or block has all its bytes. As the next value of the unfinished entry
-    ///  it has `size` bytes, those of its form, its length and its end included.
-    pub fn end_value(&mut self, size: u64)
+    /// it has `size` bytes, those of its form, its length and its end included, of which `front` come
+    /// before its own.
+    pub fn end_value(&mut self, front: &[u8], size: u64)
         requires fits { IfSome (partial_in self.old.place.unfinished) (λ b. NextFits self.old.context self.old.table self.old.place.unfinished (partial_attribute b)) }
+        requires front { IfSome (partial_in self.old.place.unfinished) (λ b. front.now ≡ next_front self.old.context self.old.table self.old.place.unfinished (partial_attribute b)) }
+        requires short { length front.now ≤ 32 }
         requires size { IfSome (partial_in self.old.place.unfinished) (λ b. size ≡ length (next_bytes self.old.context self.old.table self.old.place.unfinished (partial_attribute b))) }
         requires near { end_of self.old + size < 2 ^ 63 }
         ensures { self.new ≡ ended self.old }
     {
         if let (Some(unfinished), Some(partial)) = (self.unfinished, self.partial) {
-            let stored = Stored::of_end(partial.via, partial.width, partial.pool, &self.pool);
-            self.values.push_reserved(stored);
+            let value = so_far(&partial, &self.pool);
+            put_found(&value, front, partial.pool, &mut self.heads);
             self.here += size;
             self.partial = None;
-            self.unfinished = settle(
-                &mut self.rows,
-                &mut self.nested,
-                self.values.len(),
-                unfinished,
-            );
+            let given = unfinished.given + 1;
+            let unfinished = Unfinished {
+                given,
+                ..unfinished
+            };
+            self.unfinished = settle(&mut self.rows, &mut self.nested, unfinished);
         }
     }
 
@@ -186,7 +195,7 @@ impl TreeDraft {
         ensures { self.new ≡ undone self.old }
     {
         if let Some(unfinished) = self.unfinished {
-            self.values.truncate(unfinished.first);
+            self.heads.truncate(unfinished.first);
             self.pool.truncate(unfinished.pool);
             self.here = unfinished.offset;
             self.unfinished = None;
@@ -208,15 +217,9 @@ impl TreeDraft {
         if let Some(at) = self.nested.pop() {
             let end = self.rows.len() + 1;
             let row = self.rows[at];
-            self.rows[at] = Row { end, ..row };
-            self.rows.push_reserved(Row {
-                offset: self.here,
-                end,
-                first: self.values.len(),
-                code: null,
-                depth,
-                kind: RowKind::Null,
-            });
+            self.rows[at] = with_end(row, end);
+            self.rows
+                .push_reserved(null_row(null, self.here, end, depth));
             self.here += null.width as u64;
         }
         Ok(())
@@ -234,18 +237,8 @@ impl TreeDraft {
     pub fn partial_value(&self) -> Option<AttrValue<'_>>
         ensures { option_map attribute_of result ≡ option_map partial_attribute (partial_in self.now.place.unfinished) }
     {
-        match self.partial {
-            Some(partial) => {
-                let bytes = &self.pool[partial.pool..];
-                let value = match partial.width {
-                    Some(width) => Value::Block { width, bytes },
-                    None => Value::Text(bytes),
-                };
-                Some(AttrValue {
-                    via: partial.via,
-                    value,
-                })
-            }
+        match &self.partial {
+            Some(partial) => Some(so_far(partial, &self.pool)),
             None => None,
         }
     }
@@ -253,9 +246,28 @@ impl TreeDraft {
     /// The bytes of its texts and blocks, those of a partial one included, in the order in which
     /// they were given. It keeps no others.
     pub fn content(&self) -> &[u8]
-        ensures { result.now ≡ held_in self.now.place }
+        ensures exact { result.now ≡ held_in self.now.place }
+        ensures short { length result.now ≤ end_of self.now - self.now.start + length (partial_bytes (partial_in self.now.place.unfinished)) }
     {
         &self.pool
+    }
+
+    /// The heads of the values that were given, in that order: of each one what of its spelling is no
+    /// content, and what finds the content. It keeps no others.
+    pub fn heads(&self) -> &[u8]
+        ensures exact { result.now ≡ heads_in self.now.context self.now.table self.now.place }
+        ensures short { length result.now ≤ 16 * (end_of self.now - self.now.start) }
+    {
+        &self.heads
+    }
+
+    /// The count of its rows: one for each entry that has all its values, and one for each null. A row
+    /// is kept in 40 bytes.
+    pub fn row_count(&self) -> usize
+        ensures exact { result ≡ length (rows_before self.now.place.spot.above self.now.place.spot.left) }
+        ensures short { result ≤ end_of self.now - self.now.start }
+    {
+        self.rows.len()
     }
 
     /// The table of its entries' declarations.
@@ -273,8 +285,7 @@ impl TreeDraft {
     {
         let unfinished = self.unfinished?;
         let decl = self.table.get(unfinished.code.value)?;
-        let given = self.values.len() - unfinished.first;
-        Some(decl.pairs()[given])
+        Some(decl.pairs()[unfinished.given])
     }
 
     /// How many entries are open.
@@ -304,7 +315,7 @@ impl TreeDraft {
             start,
             here,
             rows,
-            values,
+            heads,
             pool,
             nested: _,
             unfinished: _,
@@ -316,9 +327,75 @@ impl TreeDraft {
             start,
             end: here,
             rows,
-            values,
+            heads,
             pool,
         }
+    }
+}
+
+/// The partial text or block, with its bytes so far, which are the pool's last.
+fn so_far<'a>(partial: &PartialValue, pool: &'a [u8]) -> AttrValue<'a>
+    requires { partial.now.pool ≤ length pool.now }
+    ensures value { attribute_of result ≡ partial_attribute (partial_of pool.now partial.now) }
+    ensures small { length pool.now < 2 ^ 64 }
+{
+    let _bounded = pool.len();
+    let bytes = &pool[partial.pool..];
+    let value = match partial.width {
+        Some(width) => Value::Block { width, bytes },
+        None => Value::Text(bytes),
+    };
+    AttrValue {
+        via: partial.via,
+        value,
+    }
+}
+
+/// The row with this end.
+fn with_end(row: Row, end: usize) -> Row
+    ensures { result ≡ row_ending row end }
+{
+    Row {
+        offset: row.offset,
+        end,
+        first: row.first,
+        code: row.code,
+        width: row.width,
+        depth: row.depth,
+        kind: row.kind,
+    }
+}
+
+/// The row of an entry, of this kind, end and level.
+fn entry_row(unfinished: Unfinished, kind: RowKind, end: usize, depth: u16) -> Row
+    ensures { result ≡ row_with unfinished kind end depth }
+{
+    Row {
+        offset: unfinished.offset,
+        end,
+        first: unfinished.first,
+        code: unfinished.code.value,
+        width: unfinished.code.width,
+        depth,
+        kind,
+    }
+}
+
+/// The row of a null.
+fn null_row(null: Uleb, offset: u64, end: usize, depth: u16) -> Row
+    ensures kind { result.kind ≡ Null }
+    ensures width { result.width ≡ null.width }
+    ensures offset { result.offset ≡ offset }
+    ensures depth { result.depth ≡ depth }
+{
+    Row {
+        offset,
+        end,
+        first: 0,
+        code: null.value,
+        width: null.width,
+        depth,
+        kind: RowKind::Null,
     }
 }
 
@@ -326,20 +403,18 @@ impl TreeDraft {
 fn settle(
     rows: &mut Vec<Row>,
     nested: &mut Vec<usize>,
-    values: usize,
     unfinished: Unfinished,
 ) -> Option<Unfinished>
     requires row { vec_len rows.old < vec_capacity rows.old }
     requires place { vec_len nested.old < vec_capacity nested.old }
-    requires first { unfinished.first ≤ values }
     requires level { vec_len nested.old < 2 ^ 15 }
-    ensures rows { rows.new.items ≡ settled_rows unfinished values (vec_len nested.old + 1) rows.old.items }
-    ensures nested { nested.new.items ≡ settled_open unfinished values (vec_len rows.old) nested.old.items }
-    ensures unfinished { result ≡ settled_unfinished unfinished values }
+    ensures rows { rows.new.items ≡ settled_rows unfinished (vec_len nested.old + 1) rows.old.items }
+    ensures nested { nested.new.items ≡ settled_open unfinished (vec_len rows.old) nested.old.items }
+    ensures unfinished { result ≡ settled_unfinished unfinished }
     ensures room { IsSome result → (vec_len rows.new < vec_capacity rows.new) }
     ensures open_room { IsSome result → (vec_len nested.new < vec_capacity nested.new) }
 {
-    if values - unfinished.first != unfinished.count {
+    if unfinished.given != unfinished.count {
         return Some(unfinished);
     }
     let at = rows.len();
@@ -350,13 +425,6 @@ fn settle(
     } else {
         (RowKind::Leaf, at + 1)
     };
-    rows.push_reserved(Row {
-        offset: unfinished.offset,
-        end,
-        first: unfinished.first,
-        code: unfinished.code,
-        depth,
-        kind,
-    });
+    rows.push_reserved(entry_row(unfinished, kind, end, depth));
     None
 }

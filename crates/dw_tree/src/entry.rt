@@ -1,5 +1,5 @@
 //! Entries as they are lent (sections 2.1, 2.3 and 7.5.2).
-ghost use Rattle.std.specs.Prelude.{◌≡◌, ◌≤◌, ◌+◌, length, take, drop, option_map};
+ghost use Rattle.std.specs.Prelude.{◌≡◌, option_map};
 ghost use Rattle.dw_leb.specs.View.{uleb_of};
 ghost use Rattle.dw_abbrev.specs.Table.{declared};
 ghost use Rattle.dw_tree.specs.Lent.{attr_of, attributes_of, first_named, code_of, tag_of, children_of, end_offset_of, root_of};
@@ -8,7 +8,7 @@ use crate::attrs::{AttrRef, Attrs};
 use crate::children::Children;
 use crate::row::RowKind;
 use crate::tree::EntryTree;
-use dw_form::Stored;
+use crate::write::behind;
 use dw_leb::Uleb;
 use std::marker::Model;
 
@@ -67,7 +67,7 @@ impl<'a> EntryRef<'a> {
         ensures { uleb_of result ≡ code_of self.now.node }
     {
         let tree = self.tree;
-        tree.rows[self.at].code
+        tree.rows[self.at].code()
     }
 
     /// The tag, `DW_TAG_..`, that the entry's declaration gives it (sections 2.1 and 7.5.3).
@@ -75,7 +75,7 @@ impl<'a> EntryRef<'a> {
         ensures { result ≡ tag_of (declared self.now.table (code_of self.now.node).value) }
     {
         let tree = self.tree;
-        match tree.table.get(tree.rows[self.at].code.value) {
+        match tree.table.get(tree.rows[self.at].code) {
             Some(decl) => decl.tag().value,
             None => unreachable!(),
         }
@@ -88,12 +88,12 @@ impl<'a> EntryRef<'a> {
     {
         let tree = self.tree;
         let row = tree.rows[self.at];
-        match tree.table.get(row.code.value) {
+        match tree.table.get(row.code) {
             Some(decl) => {
                 let pairs = decl.pairs();
-                let stored = span(&tree.values, row.first, pairs.len());
-                let at = row.offset + row.code.width as u64;
-                Attrs::of(tree.context, pairs, stored, &tree.pool, at)
+                let heads = behind(&tree.heads, row.first);
+                let at = row.offset + row.width as u64;
+                Attrs::of(tree.context, pairs, heads, &tree.pool, at)
             }
             None => unreachable!(),
         }
@@ -136,12 +136,4 @@ impl<'a> EntryRef<'a> {
             tree.end
         }
     }
-}
-
-/// So many values from this one on.
-pub(crate) fn span(values: &[Stored], first: usize, count: usize) -> &[Stored]
-    requires { first + count ≤ length values.now }
-    ensures { result.now ≡ take count (drop first values.now) }
-{
-    &values[first..first + count]
 }

@@ -1,22 +1,21 @@
 //! Writing a tree.
-ghost use Rattle.std.specs.Prelude.{◌≡◌, ◌-◌, length, map, None};
-ghost use Rattle.std.specs.List.{AllByRecursion};
+ghost use Rattle.std.specs.Prelude.{◌≡◌, ◌≤◌, ◌-◌, length, map, take, drop, None, Some, IfSome, IfOk};
 ghost use Rattle.dw_leb.specs.Watch.{inner_of, fault_of, writer_fault, Wrote};
 ghost use Rattle.dw_leb.specs.Number.{uleb};
 ghost use Rattle.dw_abbrev.specs.PairView.{pair_of};
 ghost use Rattle.dw_abbrev.specs.Table.{zero_of};
 ghost use Rattle.dw_form.specs.Form.{IsContext};
-ghost use Rattle.dw_form.specs.StoredView.{StoredFits, content};
-ghost use Rattle.dw_tree.specs.Tree.{values as value_parts, tree as part, nesting};
+ghost use Rattle.dw_tree.specs.Tree.{tree as part, nesting};
 ghost use Rattle.dw_tree.specs.Row.{row_bytes};
-ghost use Rattle.dw_tree.specs.Flat.{contents, value_part, token_of, RowFits};
+ghost use Rattle.dw_tree.specs.RowHeads.{Here, First, run_bytes, first_bytes, behind_first};
+ghost use Rattle.dw_tree.specs.Runs.{form_size};
+ghost use Rattle.dw_tree.specs.Flat.{token_at, RowReads};
 ghost use Rattle.dw_tree.specs.DraftInvariant.{TokenFits};
 
-use crate::entry::span;
 use crate::row::{Row, RowKind};
 use crate::tree::EntryTree;
 use dw_abbrev::{Pair, Table};
-use dw_form::{Ctx, Stored, write_value};
+use dw_form::{Ctx, Shape, lend_head, write_value};
 use dw_leb::{Uleb, Watched, WriteError, write_all};
 use std::io::Write;
 
@@ -36,7 +35,7 @@ impl EntryTree {
             write_row(
                 self.context,
                 &self.table,
-                &self.values,
+                &self.heads,
                 &self.pool,
                 *row,
                 writer,
@@ -51,29 +50,24 @@ impl EntryTree {
 fn write_row<W: Write>(
     ctx: Ctx,
     table: &Table,
-    values: &[Stored],
+    heads: &[u8],
     pool: &[u8],
     row: Row,
     writer: &mut Watched<W>,
 ) -> Result<(), WriteError>
     requires context { IsContext ctx }
-    requires inside { RowFits table.now (length values.now) row }
-    requires spans { AllByRecursion (StoredFits (length pool.now)) values.now }
-    requires fits { TokenFits ctx table.now (token_of table.now values.now pool.now row) }
+    requires reads { RowReads ctx table.now heads.now pool.now row }
+    requires fits { TokenFits ctx table.now (token_at ctx table.now heads.now pool.now row) }
     requires clear { fault_of writer.old ≡ None }
-    ensures written { Wrote (W.contents (inner_of writer.old)) (W.contents (inner_of writer.new)) (row_bytes ctx table.now (token_of table.now values.now pool.now row)) result }
+    ensures written { Wrote (W.contents (inner_of writer.old)) (W.contents (inner_of writer.new)) (row_bytes ctx table.now (token_at ctx table.now heads.now pool.now row)) result }
     ensures fault { fault_of writer.new ≡ writer_fault result }
 {
     if let RowKind::Null = row.kind {
-        return write_null(row.code.width, writer);
+        return write_null(row.width, writer);
     }
-    write_all(writer, row.code.bytes().as_slice())?;
-    match table.get(row.code.value) {
-        Some(decl) => {
-            let pairs = decl.pairs();
-            let stored = span(values, row.first, pairs.len());
-            write_values(ctx, pairs, stored, pool, writer)
-        }
+    write_all(writer, row.code().bytes().as_slice())?;
+    match table.get(row.code) {
+        Some(decl) => write_values(ctx, decl.pairs(), behind(heads, row.first), pool, writer),
         None => unreachable!(),
     }
 }
@@ -91,50 +85,95 @@ pub fn write_null<W: Write>(width: u8, writer: &mut Watched<W>) -> Result<(), Wr
     }
 }
 
-/// Writes values under the pairs of their declaration.
+/// Where the value at `size` ends, if its form tells its size.
+fn told_end(ctx: Ctx, form: u64, run: &[u8], size: usize) -> Option<usize>
+    requires context { IsContext ctx }
+    requires within { size ≤ length run.now }
+    ensures sized { IfSome result (λ end. form_size ctx form ≡ Some (end - size)) }
+    ensures behind { IfSome result (λ end. size ≤ end) }
+    ensures room { IfSome result (λ end. end ≤ length run.now) }
+{
+    let n = match Shape::of(form, ctx.address_size, ctx.format)? {
+        Shape::Fixed(n) => n as usize,
+        Shape::Present => 0,
+        Shape::Implicit => 0,
+        _ => return None,
+    };
+    if n <= run.len() - size {
+        Some(size + n)
+    } else {
+        None
+    }
+}
+
+/// The first `n` bytes.
+fn front(b: &[u8], n: usize) -> &[u8]
+    requires { n ≤ length b.now }
+    ensures { result.now ≡ take n b.now }
+{
+    &b[..n]
+}
+
+/// The bytes behind the first `n`.
+pub(crate) fn behind(b: &[u8], n: usize) -> &[u8]
+    requires { n ≤ length b.now }
+    ensures { result.now ≡ drop n b.now }
+{
+    &b[n..]
+}
+
+/// Writes values under the pairs of their declaration. Values whose size their form tells are written
+/// together, as they stand.
 fn write_values<W: Write>(
     ctx: Ctx,
     pairs: &[Pair],
-    stored: &[Stored],
+    heads: &[u8],
     pool: &[u8],
     writer: &mut Watched<W>,
 ) -> Result<(), WriteError>
     requires context { IsContext ctx }
-    requires spans { AllByRecursion (StoredFits (length pool.now)) stored.now }
-    requires fits { (value_parts ctx (map pair_of pairs.now)).Fits (contents stored.now pool.now) }
+    requires here { Here ctx (map pair_of pairs.now) heads.now pool.now }
     requires clear { fault_of writer.old ≡ None }
-    ensures written { Wrote (W.contents (inner_of writer.old)) (W.contents (inner_of writer.new)) ((value_parts ctx (map pair_of pairs.now)).spell (contents stored.now pool.now)) result }
+    ensures written { Wrote (W.contents (inner_of writer.old)) (W.contents (inner_of writer.new)) (run_bytes ctx (map pair_of pairs.now) heads.now pool.now) result }
     ensures fault { fault_of writer.new ≡ writer_fault result }
 {
-    let mut pairs_left = pairs;
-    let mut left = stored;
-    while let Some((pair, other_pairs)) = pairs_left.split_first() {
-        match left.split_first() {
-            Some((value, others)) => {
-                write_one(ctx, pair, value, pool, writer)?;
-                left = others;
+    let mut left = pairs;
+    let mut run = heads;
+    let mut size = 0;
+    while let Some((pair, others)) = left.split_first() {
+        match told_end(ctx, pair.form.value, run, size) {
+            Some(end) => size = end,
+            None => {
+                write_all(writer, front(run, size))?;
+                run = write_one(ctx, pair, behind(run, size), pool, writer)?;
+                size = 0;
             }
-            None => unreachable!(),
         }
-        pairs_left = other_pairs;
+        left = others;
     }
-    Ok(())
+    write_all(writer, front(run, size))
 }
 
-/// Writes the value of a pair.
-fn write_one<W: Write>(
+/// Writes the value of a pair, and gives what stands behind its head.
+fn write_one<'a, W: Write>(
     ctx: Ctx,
     pair: &Pair,
-    stored: &Stored,
-    pool: &[u8],
+    heads: &'a [u8],
+    pool: &'a [u8],
     writer: &mut Watched<W>,
-) -> Result<(), WriteError>
+) -> Result<&'a [u8], WriteError>
     requires context { IsContext ctx }
-    requires span { StoredFits (length pool.now) stored.now }
-    requires fits { (value_part ctx pair.now).Fits (content pool.now stored.now) }
     requires clear { fault_of writer.old ≡ None }
-    ensures written { Wrote (W.contents (inner_of writer.old)) (W.contents (inner_of writer.new)) ((value_part ctx pair.now).spell (content pool.now stored.now)) result }
+    requires first { First ctx (pair_of pair.now) heads.now pool.now }
+    ensures written { Wrote (W.contents (inner_of writer.old)) (W.contents (inner_of writer.new)) (first_bytes ctx (pair_of pair.now) heads.now pool.now) result }
+    ensures rest { IfOk result (λ x. x.now ≡ behind_first ctx (pair_of pair.now) heads.now pool.now) }
     ensures fault { fault_of writer.new ≡ writer_fault result }
 {
-    write_value(ctx, pair.form.value, &stored.lend(pool), writer)
+    match lend_head(ctx, pair.form.value, pair.constant, heads, pool) {
+        Some((value, size)) => {
+            write_value(ctx, pair.form.value, &value, writer)?;
+            Ok(behind(heads, size))
+        }
+        None => unreachable!(),
+    }
 }

@@ -9,6 +9,7 @@ use Rattle.dw_leb.specs.DecideNumber.{uleb_fits, length-uleb, initial-size}
 use Rattle.dw_leb.specs.declared.order.Order.{Order}
 use Rattle.dw_leb.specs.declared.order.Format.{Format}
 use Rattle.dw_leb.specs.declared.order.Format.TheVariants.{Dwarf32, Dwarf64}
+use Rattle.dw_form.specs.HeadFront.{front_bytes}
 use Rattle.dw_form.specs.Form.{Attribute}
 use Rattle.dw_form.specs.Pieces.{HasSpelling, spelling, has_spelling}
 use Rattle.dw_abbrev.specs.Build.{is_width}
@@ -160,6 +161,14 @@ next_sized d k v p same pair fits =
     let w = next_is (context_of d.header) v d.table d.place.unfinished p pair fits in
     let whole = has_spelling (context_of d.header) p.form.value p.constant v w.0 in
     subst (λ (x : Ctx). HasSpelling x p.form.value v × (length (spelling x p.form.value v) ≡ length (value_bytes d v))) (sym same) (whole.0, ap length (whole.1 ∙ sym w.1))
+
+-- and its front is that of those bytes
+pub next_fronted : (d : Drafted) (k : Ctx) (v : Attribute) (p : Pair) → k ≡ context_of d.header → next_pair d.table d.place.unfinished ≡ Some p → NextFits (context_of d.header) d.table d.place.unfinished v
+    → front_bytes v (spelling k p.form.value v) ≡ front_bytes v (value_bytes d v)
+next_fronted d k v p same pair fits =
+    let w = next_is (context_of d.header) v d.table d.place.unfinished p pair fits in
+    let whole = has_spelling (context_of d.header) p.form.value p.constant v w.0 in
+    subst (λ (x : Ctx). front_bytes v (spelling x p.form.value v) ≡ front_bytes v (value_bytes d v)) (sym same) (ap (front_bytes v) (whole.1 ∙ sym w.1))
 
 -- a partial text or block is given as a value
 pub begun_some : {X Y : Type 0} (f : X → Y) (o : Option X) (y : Y) → Some y ≡ option_map f o → (x : X) × (o ≡ Some x) × (y ≡ f x)

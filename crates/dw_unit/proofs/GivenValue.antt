@@ -1,17 +1,18 @@
 -- An unfinished entry is given one more value.
-use Rattle.std.proofs.Common.{None, ◌≡◌, ◌+◌, ◌<◌, ◌++◌, ◌∷◌, [], ℕ, suc, List, Some, length, drop, get_or, map, refl, sym, ap, ap₂, subst, ◌∙◌, arith}
-use Rattle.std.proofs.lemmas.List.{length-map}
+use Rattle.std.proofs.Common.{None, ◌≡◌, ◌≤◌, ◌+◌, ◌<◌, ◌++◌, ◌∷◌, [], ℕ, suc, List, Some, length, take, drop, get_or, map, refl, sym, ap, ap₂, subst, ◌∙◌, arith}
+use Rattle.std.proofs.lemmas.List.{length-map, take-append-le}
 use Rattle.std.specs.Prelude.{IsSome}
 use Rattle.dw_leb.specs.Number.{Unsigned}
 use Rattle.dw_form.specs.declared.shape.Ctx.{Ctx}
 use Rattle.dw_form.specs.Form.{Attribute, attribute}
+use Rattle.dw_form.specs.HeadFront.{front_size, front_bytes, front_within}
 use Rattle.dw_abbrev.specs.PairView.{pair_of}
 use Rattle.dw_abbrev.specs.declared.pair.Pair.{Pair as RustPair}
 use Rattle.dw_abbrev.specs.Table.{Pair, Declaration, declared}
 use Rattle.dw_tree.specs.Tree.{declared_pairs}
 use Rattle.dw_tree.specs.Flat.{value_part}
 use Rattle.dw_tree.specs.Place.{UnfinishedEntry}
-use Rattle.dw_tree.specs.Steps.{partial_in, Growing, settle, with_value, end_of, NextFits, next_bytes, FirstsFit, FirstFits, first_bytes}
+use Rattle.dw_tree.specs.Steps.{partial_in, Growing, settle, with_value, end_of, NextFits, next_bytes, next_front, FirstsFit, FirstFits, first_bytes}
 use Rattle.dw_tree.specs.Ends.{value_end}
 use Rattle.dw_unit.specs.Entries.{placed}
 use Rattle.dw_unit.proofs.EntryLemmas.{next_pair, settle_open, prefix_more}
@@ -49,6 +50,24 @@ module _ (old draft : Growing) (ctx : Ctx) (code : Unsigned) (d : Declaration) (
       ap (λ (g : Growing). length (next_bytes g.context g.table g.place.unfinished a)) open_is
       ∙ (ap (λ (qs : List Pair). length (first_bytes old.context qs a)) next_is
       ∙ ap (λ (k : Ctx). length ((attribute k (pair_of p).form.value (pair_of p).constant).spell a)) same)
+
+  next_spelled : next_bytes draft.context draft.table draft.place.unfinished a ≡ (value_part ctx p).spell a
+  next_spelled =
+      ap (λ (g : Growing). next_bytes g.context g.table g.place.unfinished a) open_is
+      ∙ (ap (λ (qs : List Pair). first_bytes old.context qs a) next_is
+      ∙ ap (λ (k : Ctx). (attribute k (pair_of p).form.value (pair_of p).constant).spell a) same)
+
+  -- the front of a value that is read is a beginning of the bytes there
+  module _ (bytes rest : List ℕ) (size : ℕ) (there : bytes ≡ (value_part ctx p).spell a ++ rest) (is_size : length ((value_part ctx p).spell a) ≡ size) where
+    pub front_short : front_size a size ≤ size
+    front_short = subst (λ (n : ℕ). front_size a n ≤ n) is_size (front_within ctx (pair_of p).form.value (pair_of p).constant a fits)
+
+    pub front_there : take (front_size a size) bytes ≡ next_front draft.context draft.table draft.place.unfinished a
+    front_there =
+        ap (take (front_size a size)) there
+        ∙ (take-append-le (front_size a size) ((value_part ctx p).spell a) rest (omega (arith, front_short, is_size))
+        ∙ (ap (λ (n : ℕ). take (front_size a n) ((value_part ctx p).spell a)) (sym is_size)
+        ∙ ap (front_bytes a) (sym next_spelled)))
 
   pub with_is : with_value a draft ≡ placed old (settle old.table old.place.spot code (vs ++ a ∷ []))
   with_is = ap (with_value a) open_is

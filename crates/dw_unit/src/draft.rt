@@ -1,6 +1,7 @@
 //! Units under construction, step by step (sections 2.3 and 7.5).
 ghost use Rattle.std.specs.Prelude.{◌≡◌, ◌≢◌, ◌≤◌, ◌<◌, ◌+◌, ◌↔◌, [], length, IsTrue, true, false, None, Some, is_some, IsSome, IfSome, option_map, OnOk, OnErr};
 ghost use Rattle.dw_leb.specs.View.{uleb_of};
+ghost use Rattle.dw_form.specs.HeadFront.{front_bytes};
 ghost use Rattle.dw_form.specs.Lent.{attribute_of};
 ghost use Rattle.dw_abbrev.specs.Build.{is_width};
 ghost use Rattle.dw_abbrev.specs.PairView.{pair_of};
@@ -12,12 +13,13 @@ ghost use Rattle.dw_tree.specs.Steps.{partial_in, NextFits, next_pair};
 ghost use Rattle.dw_header.specs.Header.{context_of};
 ghost use Rattle.dw_unit.specs.Unit.{UnitFits, bytes_of};
 ghost use Rattle.dw_header.specs.HeaderPlace.{header_size};
-ghost use Rattle.dw_unit.specs.Draft.{drafted_size, empty, begun, given, started, extended, ended, closed, padded, undone, finished, size_limit as limit_of, passes_limit, IsOnlyRoot, value_bytes, partial_of, PartialFits, PartialShort};
+ghost use Rattle.dw_unit.specs.Draft.{drafted_size, tree_in, empty, begun, given, started, extended, ended, closed, padded, undone, finished, size_limit as limit_of, passes_limit, IsOnlyRoot, value_bytes, partial_of, PartialFits, PartialShort};
 
 use crate::body::Body;
 use crate::unit::Unit;
+use arrayvec::ArrayVec;
 use dw_abbrev::{Pair, Table};
-use dw_form::{AttrValue, size_of};
+use dw_form::{AttrValue, size_of, value_front};
 use dw_header::Header;
 use dw_leb::{Format, Uleb};
 use dw_tree::TreeDraft;
@@ -109,8 +111,10 @@ impl Draft {
     {
         match self.next_pair() {
             Some(pair) => {
-                let size = size_of(self.header.context(), pair.form.value, value);
-                self.tree.value(value, size)
+                let context = self.header.context();
+                let size = size_of(context, pair.form.value, value);
+                let front = value_front(context, pair.form.value, value);
+                self.tree.value(value, front.as_slice(), size)
             }
             None => unreachable!(),
         }
@@ -148,19 +152,24 @@ impl Draft {
         ensures ended { self.new ≡ ended self.old }
         ensures size { IfSome (partial_of self.old) (λ v. drafted_size self.new ≡ drafted_size self.old + length (value_bytes self.old v)) }
     {
-        if let Some(size) = self.partial_size() {
-            self.tree.end_value(size);
+        if let Some((front, size)) = self.partial_size() {
+            self.tree.end_value(front.as_slice(), size);
         }
     }
 
-    /// The count of bytes of the partial text or block.
-    fn partial_size(&self) -> Option<u64>
+    /// The bytes of the partial text or block that come before its own, and the count of all.
+    fn partial_size(&self) -> Option<(ArrayVec<u8, 32>, u64)>
         requires { PartialFits self.now }
-        ensures { result ≡ option_map (λ v. length (value_bytes self.now v)) (partial_of self.now) }
+        ensures front { option_map (λ x. x.0.items) result ≡ option_map (λ v. front_bytes v (value_bytes self.now v)) (partial_of self.now) }
+        ensures size { option_map (λ x. x.1) result ≡ option_map (λ v. length (value_bytes self.now v)) (partial_of self.now) }
     {
         let partial = self.partial_value()?;
         match self.next_pair() {
-            Some(pair) => Some(size_of(self.header.context(), pair.form.value, &partial)),
+            Some(pair) => {
+                let context = self.header.context();
+                let size = size_of(context, pair.form.value, &partial);
+                Some((value_front(context, pair.form.value, &partial), size))
+            }
             None => unreachable!(),
         }
     }
@@ -270,6 +279,14 @@ impl Draft {
         ensures { result.now ≡ held_in self.now.place }
     {
         self.tree.content()
+    }
+
+    /// The tree that grows. What a draft takes in memory are its lists, whose lengths the tree tells:
+    /// `row_count`, `heads` and `content`.
+    pub fn tree(&self) -> &TreeDraft
+        ensures { result.now ≡ tree_in self.now }
+    {
+        &self.tree
     }
 
     /// How many entries are open.

@@ -1,10 +1,11 @@
 //! Reading the entries of a unit into a tree.
-ghost use Rattle.std.specs.Prelude.{◌≡◌, ◌≤◌, ◌<◌, ◌+◌, ◌-◌, ◌^◌, ℕ, length, drop, map, None, Some, IfOk, IfErr, IsSome};
+ghost use Rattle.std.specs.Prelude.{◌≡◌, ◌≤◌, ◌<◌, ◌+◌, ◌-◌, ◌^◌, ℕ, length, take, drop, map, None, Some, IfOk, IfErr, IsSome};
 ghost use Rattle.dw_leb.specs.Part.{Taken};
 ghost use Rattle.dw_leb.specs.Reader.{checked, Found};
 ghost use Rattle.dw_leb.specs.ReadNumber.{read_uleb};
 ghost use Rattle.dw_leb.specs.View.{uleb_of};
 ghost use Rattle.dw_form.specs.Form.{IsContext};
+ghost use Rattle.dw_form.specs.HeadFront.{front_size};
 ghost use Rattle.dw_form.specs.Lent.{attribute_of};
 ghost use Rattle.dw_abbrev.specs.PairView.{pair_of};
 ghost use Rattle.dw_abbrev.specs.Table.{declared, Declaration};
@@ -19,7 +20,7 @@ ghost use Rattle.dw_unit.specs.Outcomes.{IsNear};
 use crate::bad::BodyError;
 use crate::codes::{child_code, root_code};
 use dw_abbrev::{Pair, Table};
-use dw_form::{AttrValue, Ctx, lend_value};
+use dw_form::{AttrValue, Ctx, front_len, lend_value};
 use dw_leb::{Bad, Uleb};
 use dw_tree::{EntryTree, TreeDraft};
 use std::alloc::Global;
@@ -51,6 +52,16 @@ fn value_at<'a>(
     }
 }
 
+/// Of the bytes that spell a value at the place `at`, which are `size`, those before its text or block,
+/// or all.
+fn front_at<'a>(value: &AttrValue<'_>, size: usize, b: &'a [u8], at: usize) -> &'a [u8]
+    requires within { at + size ≤ length b.now }
+    requires front { front_size (attribute_of value.now) size ≤ size }
+    ensures { result.now ≡ take (front_size (attribute_of value.now) size) (drop at b.now) }
+{
+    &b[at..at + front_len(value, size)]
+}
+
 /// Puts an entry of this code, with its values that begin at the place `at`, one for each pair of its
 /// declaration. The result is the place behind them.
 fn entry_at(
@@ -80,7 +91,8 @@ fn entry_at(
     let mut here = at;
     for pair in pairs {
         let (value, size) = value_at(ctx, pair, b, here, lim)?;
-        draft.value(&value, size as u64)?;
+        let front = front_at(&value, size, b, here);
+        draft.value(&value, front, size as u64)?;
         here += size;
     }
     Ok(here)

@@ -88,6 +88,14 @@ impl Unit {
         self.tree.entry_at(offset)
     }
 
+    /// The tree of its entries. What a unit takes in memory are the tree's lists, whose lengths the
+    /// tree tells: `row_count`, `heads` and `content`.
+    pub fn tree(&self) -> &EntryTree
+        ensures { result.now ≡ tree_of self.now }
+    {
+        &self.tree
+    }
+
     /// All entries, each before those below it, as they are written (section 7.5.2).
     pub fn entries(&self) -> Entries<'_>
         ensures { result ≡ entries_of (tree_of self.now) }

@@ -4,7 +4,7 @@ use Rattle.std.specs.Prelude.{IsSome, IfSome}
 use Rattle.dw_form.specs.Form.{attribute, shaped, shape}
 use Rattle.dw_tree.specs.Tree.{Forest, nesting}
 use Rattle.dw_tree.specs.Place.{Frame, Spot, nowhere, enter, leave_from}
-use Rattle.dw_tree.specs.Steps.{Growing, begun_at, partial_in, partial_attribute, started, extended, ended, closed_at, NextFits, next_bytes, finished}
+use Rattle.dw_tree.specs.Steps.{Growing, begun_at, partial_in, partial_attribute, started, extended, ended, closed_at, NextFits, next_bytes, next_front, finished}
 use Rattle.dw_unit_tests.specs.Samples.{two_codes, bare_code, little, wide, a_name, a_size, with_name}
 
 -- ---- the value of an entry that was just begun
@@ -18,6 +18,10 @@ module _ (g : Growing) (w : ℕ) (context : g.context ≡ little) (table : g.tab
   unfolding attribute shaped shape
   name_size = rw (context, table) refl
 
+  pub name_front : [] ≡ next_front g.context g.table (begun_at (wide 1 w) g).place.unfinished a_name
+  unfolding attribute shaped shape
+  name_front = refl
+
   pub name_alone : partial_in (begun_at (wide 1 w) g).place.unfinished ≡ None
   name_alone = rw table refl
 
@@ -27,6 +31,10 @@ module _ (g : Growing) (w : ℕ) (context : g.context ≡ little) (table : g.tab
   pub size_fits : NextFits g.context g.table (begun_at (wide 2 w) g).place.unfinished a_size
   unfolding attribute shaped shape
   size_fits = rw (context, table) (omega arith)
+
+  pub size_front : 4 ∷ [] ≡ next_front g.context g.table (begun_at (wide 2 w) g).place.unfinished a_size
+  unfolding attribute shaped shape
+  size_front = rw (context, table) refl
 
   pub size_size : 1 ≡ length (next_bytes g.context g.table (begun_at (wide 2 w) g).place.unfinished a_size)
   unfolding attribute shaped shape
@@ -48,6 +56,10 @@ module _ (g : Growing) (context : g.context ≡ little) (table : g.table ≡ two
   pub pieces_size : IfSome (partial_in whole_name.place.unfinished) (λ b. 2 ≡ length (next_bytes g.context g.table whole_name.place.unfinished (partial_attribute b)))
   unfolding attribute shaped shape
   pieces_size = rw (context, table) refl
+
+  pub pieces_front : IfSome (partial_in whole_name.place.unfinished) (λ b. [] ≡ next_front g.context g.table whole_name.place.unfinished (partial_attribute b))
+  unfolding attribute shaped shape
+  pieces_front = rw (context, table) refl
 
 -- ---- entries that are each the only child of the one before
 

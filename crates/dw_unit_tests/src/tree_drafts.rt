@@ -72,7 +72,7 @@ fn named(draft: &mut TreeDraft, width: u8) -> Result<(), Fail>
         via: None,
         value: Value::Text(&[0x61]),
     };
-    draft.value(&name, 2)?;
+    draft.value(&name, &[], 2)?;
     Ok(())
 }
 
@@ -90,7 +90,7 @@ fn named_in_pieces(draft: &mut TreeDraft) -> Result<(), Fail>
     draft.bytes(&[])?;
     draft.bytes(&[0x61])?;
     near(draft)?;
-    draft.end_value(2);
+    draft.end_value(&[], 2);
     Ok(())
 }
 
@@ -109,7 +109,7 @@ fn sized(draft: &mut TreeDraft, width: u8) -> Result<(), Fail>
         via: None,
         value: Value::Num(4),
     };
-    draft.value(&size, 1)?;
+    draft.value(&size, &[4], 1)?;
     Ok(())
 }
 

@@ -1,4 +1,4 @@
-use Rattle.std.proofs.Common.{◌≡◌, ◌≢◌, ◌+◌, ◌-◌, ◌++◌, ◌∷◌, [], ℕ, suc, List, true, false, Option, Some, None, length, drop, take, map, refl, sym, ap, ap₂, subst, ◌∙◌, arith, length-drop}
+use Rattle.std.proofs.Common.{◌≡◌, ◌≢◌, ◌+◌, ◌-◌, ◌++◌, ◌∷◌, [], ℕ, suc, List, true, false, Some, None, length, drop, take, refl, sym, ap, ap₂, subst, ◌∙◌, arith, length-drop}
 use Rattle.std.proofs.lemmas.List.{take_all}
 use Rattle.std.proofs.lemmas.Bool.{eq-eqb, ne_eqb}
 use Rattle.std.proofs.lemmas.Result.{err_from_is_err_and}
@@ -7,10 +7,9 @@ use Rattle.dw_leb.specs.View.{uleb_of}
 use Rattle.dw_leb.specs.Reader.{Outcome, Found, Broken}
 use Rattle.dw_leb.specs.ItemSteps.{none_read}
 use Rattle.dw_form.specs.Form.{Attribute}
-use Rattle.dw_abbrev.specs.PairView.{pair_of}
-use Rattle.dw_abbrev.specs.Table.{Pair, Declaration, Table, declared, is_null}
-use Rattle.dw_tree.specs.Tree.{Forest, declared_pairs, declares_children, nesting}
-use Rattle.dw_tree.specs.ReadTree.{nodes_from, read_values, read_children}
+use Rattle.dw_abbrev.specs.Table.{Declaration, Table, declared, is_null}
+use Rattle.dw_tree.specs.Tree.{Forest, declares_children, nesting}
+use Rattle.dw_tree.specs.ReadTree.{nodes_from, read_children}
 use Rattle.dw_tree.specs.Place.{Frame}
 use Rattle.dw_tree.specs.Steps.{Growing, closed_at, end_of}
 use Rattle.dw_tree.specs.Ends.{closed_end}

@@ -16,7 +16,7 @@ use Rattle.dw_tree.specs.Steps.{Growing, begun_at, with_value, end_of}
 use Rattle.dw_tree.specs.Ends.{begun_end}
 use Rattle.dw_unit.specs.Entries.{put_front}
 use Rattle.dw_unit.proofs.EntryLemmas.{put_none, value_breaks, value_read, drop_past}
-use Rattle.dw_unit.proofs.GivenValue.{none_partial, next_fits, next_size, with_is, with_end, prefix_then}
+use Rattle.dw_unit.proofs.GivenValue.{none_partial, next_fits, next_size, front_short, front_there, with_is, with_end, prefix_then}
 use Rattle.dw_unit.proofs.entries.entry_at.Goals as goal
 
 pub loop-pair-init : goal.loop-pair-init
@@ -84,6 +84,20 @@ value-requires-clause-size c =
     let a : Attribute = attribute_of c.in_ok-value.value in
     let t : Taken (value_part c.args.ctx c.pair-item.result) (drop c.loop-pair.here c.args.b.now) (c.args.lim - c.loop-pair.here) a c.in_ok-value.size = c.in_ok-value.ensures.found in
     sym t.is_size ∙ sym (next_size c.args.draft.now c.loop-pair.draft c.args.ctx (uleb_of c.args.code) c.requires.known.0 c.args.pairs.now i.vs c.loop-pair.pair-index c.pair-item.result c.requires.same c.requires.known.1 c.requires.known.2 i.draft_is i.counted c.loop-pair-test.true c.pair-item.is i.prefix a t.fits)
+
+pub front_at-front-requires-clause-front : goal.front_at-front-requires-clause-front
+front_at-front-requires-clause-front c =
+    let i = c.loop-pair.invariant in
+    let a : Attribute = attribute_of c.in_ok-value.value in
+    let t : Taken (value_part c.args.ctx c.pair-item.result) (drop c.loop-pair.here c.args.b.now) (c.args.lim - c.loop-pair.here) a c.in_ok-value.size = c.in_ok-value.ensures.found in
+    front_short c.args.draft.now c.loop-pair.draft c.args.ctx (uleb_of c.args.code) c.requires.known.0 c.args.pairs.now i.vs c.loop-pair.pair-index c.pair-item.result c.requires.same c.requires.known.1 c.requires.known.2 i.draft_is i.counted c.loop-pair-test.true c.pair-item.is i.prefix a t.fits (drop c.loop-pair.here c.args.b.now) t.rest c.in_ok-value.size t.split t.is_size
+
+pub value-requires-clause-front : goal.value-requires-clause-front
+value-requires-clause-front c =
+    let i = c.loop-pair.invariant in
+    let a : Attribute = attribute_of c.in_ok-value.value in
+    let t : Taken (value_part c.args.ctx c.pair-item.result) (drop c.loop-pair.here c.args.b.now) (c.args.lim - c.loop-pair.here) a c.in_ok-value.size = c.in_ok-value.ensures.found in
+    c.front_at-front.ensures ∙ front_there c.args.draft.now c.loop-pair.draft c.args.ctx (uleb_of c.args.code) c.requires.known.0 c.args.pairs.now i.vs c.loop-pair.pair-index c.pair-item.result c.requires.same c.requires.known.1 c.requires.known.2 i.draft_is i.counted c.loop-pair-test.true c.pair-item.is i.prefix a t.fits (drop c.loop-pair.here c.args.b.now) t.rest c.in_ok-value.size t.split t.is_size
 
 pub value-requires-clause-near : goal.value-requires-clause-near
 value-requires-clause-near c =

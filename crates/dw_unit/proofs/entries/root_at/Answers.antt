@@ -1,13 +1,11 @@
-use Rattle.std.proofs.Common.{◌≡◌, ◌+◌, ◌-◌, [], ℕ, List, true, false, Option, Some, None, length, drop, map, sym, ap, ap₂, ◌∙◌, arith}
+use Rattle.std.proofs.Common.{◌≡◌, ◌+◌, ◌-◌, [], ℕ, true, false, Some, None, length, drop, sym, ap, ap₂, ◌∙◌, arith}
 use Rattle.std.proofs.lemmas.Result.{err_from_is_err_and}
 use Rattle.dw_leb.specs.declared.errors.Reason.{Reason}
 use Rattle.dw_leb.specs.View.{uleb_of}
 use Rattle.dw_leb.specs.Reader.{Outcome, Found, Broken}
-use Rattle.dw_form.specs.Form.{Attribute}
-use Rattle.dw_abbrev.specs.PairView.{pair_of}
-use Rattle.dw_abbrev.specs.Table.{Pair, Declaration, Table, declared}
-use Rattle.dw_tree.specs.Tree.{Forest, leaf, branch, declared_pairs, declares_children, nesting}
-use Rattle.dw_tree.specs.ReadTree.{nodes_from, read_values, read_children}
+use Rattle.dw_abbrev.specs.Table.{Declaration, Table, declared}
+use Rattle.dw_tree.specs.Tree.{Forest, leaf, branch, declares_children, nesting}
+use Rattle.dw_tree.specs.ReadTree.{nodes_from, read_children}
 use Rattle.dw_tree.specs.Place.{Place}
 use Rattle.dw_tree.specs.Steps.{Growing, closed_at}
 use Rattle.dw_unit.specs.declared.bad.BodyError.{BodyError}

@@ -1,33 +1,56 @@
-use Rattle.std.proofs.Common.{◌≡◌, ◌+◌, ℕ, length, map, sym, ap, subst, ◌∙◌, arith, rules}
+use Rattle.std.proofs.Common.{◌≡◌, ◌+◌, ◌∷◌, ℕ, List, length, map, drop, sym, ap, subst, ◌∙◌, arith, rules}
 use Rattle.dw_form.specs.Form.{Attribute}
-use Rattle.dw_form.specs.StoredView.{content}
 use Rattle.dw_form.specs.Pieces.{HasSpelling, spelling}
+use Rattle.dw_abbrev.specs.declared.pair.Pair.{Pair as RustPair}
 use Rattle.dw_abbrev.specs.PairView.{pair_of}
 use Rattle.dw_tree.specs.Lent.{AreLent}
-use Rattle.dw_tree.proofs.LentLemmas.{first_spelled, others_lent}
+use Rattle.dw_tree.proofs.LentLemmas.{first_value, first_spelled, first_size, others_lent}
 use Rattle.dw_tree.proofs.attrs.AttrsIterator.next.Goals as goal
 
 pub size_of-size-requires-clause-spelled : goal.size_of-size-requires-clause-spelled
 size_of-size-requires-clause-spelled c =
     let it = c.self.inside in
-    let p = c.in_ok-pair.pair.now in
-    subst (λ (a : Attribute). HasSpelling it.ctx p.form.value a) (sym c.lend-attr.ensures)
-    (first_spelled it.ctx it.at it.pool.now p c.in_ok-pair.pairs.now c.in_ok-stored.stored.now c.in_ok-stored.others.now (search rules) (search rules) c.self.invariant)
+    let k = it.ctx in
+    let p = pair_of c.in_ok-pair.pair.now in
+    let rest = map pair_of c.in_ok-pair.pairs.now in
+    let items : it.pairs.now ≡ c.in_ok-pair.pair.now ∷ c.in_ok-pair.pairs.now = search rules in
+    let is : map pair_of it.pairs.now ≡ p ∷ rest = ap (λ (xs : List RustPair). map pair_of xs) items in
+    let hs = it.heads.now in
+    let pool = it.pool.now in
+    let x = first_value k it.at hs pool (map pair_of it.pairs.now) p rest is c.self.invariant in
+    subst (λ (a : Attribute). HasSpelling k p.form.value a) (sym (c.in-Some.ensures.put x.value x.start x.rest x.fits x.lies x.split).0)
+    (first_spelled k it.at hs pool (map pair_of it.pairs.now) p rest is c.self.invariant)
 
 pub overflow_add-self : goal.overflow_add-self
 overflow_add-self c =
     let it = c.self.inside in
-    let p = c.in_ok-pair.pair.now in
-    let s = c.in_ok-stored.stored.now in
-    let size : c.size_of-size.result ≡ length (spelling it.ctx p.form.value (content it.pool.now s)) = c.size_of-size.ensures ∙ ap (λ (a : Attribute). length (spelling it.ctx p.form.value a)) c.lend-attr.ensures in
-    let room = (others_lent it.ctx it.at it.pool.now p c.in_ok-pair.pairs.now s c.in_ok-stored.others.now (search rules) (search rules) c.self.invariant).room in
-    omega (arith, size, room)
+    let k = it.ctx in
+    let p = pair_of c.in_ok-pair.pair.now in
+    let rest = map pair_of c.in_ok-pair.pairs.now in
+    let items : it.pairs.now ≡ c.in_ok-pair.pair.now ∷ c.in_ok-pair.pairs.now = search rules in
+    let is : map pair_of it.pairs.now ≡ p ∷ rest = ap (λ (xs : List RustPair). map pair_of xs) items in
+    let hs = it.heads.now in
+    let pool = it.pool.now in
+    let x = first_value k it.at hs pool (map pair_of it.pairs.now) p rest is c.self.invariant in
+    let lent = c.in-Some.ensures.put x.value x.start x.rest x.fits x.lies x.split in
+    let size : c.size_of-size.result ≡ length (spelling k p.form.value x.value) = c.size_of-size.ensures ∙ ap (λ (a : Attribute). length (spelling k p.form.value a)) lent.0 in
+    let others = others_lent k it.at hs pool (map pair_of it.pairs.now) p rest is c.self.invariant in
+    omega (arith, size, others.room)
 
 pub invariant_of-self : goal.invariant_of-self
 invariant_of-self c =
     let it = c.self.inside in
-    let p = c.in_ok-pair.pair.now in
-    let s = c.in_ok-stored.stored.now in
-    let size : c.size_of-size.result ≡ length (spelling it.ctx p.form.value (content it.pool.now s)) = c.size_of-size.ensures ∙ ap (λ (a : Attribute). length (spelling it.ctx p.form.value a)) c.lend-attr.ensures in
-    subst (λ (n : ℕ). AreLent it.ctx (it.at + n) (map pair_of c.in_ok-pair.pairs.now) c.in_ok-stored.others.now it.pool.now) (sym size)
-    (others_lent it.ctx it.at it.pool.now p c.in_ok-pair.pairs.now s c.in_ok-stored.others.now (search rules) (search rules) c.self.invariant)
+    let k = it.ctx in
+    let p = pair_of c.in_ok-pair.pair.now in
+    let rest = map pair_of c.in_ok-pair.pairs.now in
+    let items : it.pairs.now ≡ c.in_ok-pair.pair.now ∷ c.in_ok-pair.pairs.now = search rules in
+    let is : map pair_of it.pairs.now ≡ p ∷ rest = ap (λ (xs : List RustPair). map pair_of xs) items in
+    let hs = it.heads.now in
+    let pool = it.pool.now in
+    let x = first_value k it.at hs pool (map pair_of it.pairs.now) p rest is c.self.invariant in
+    let lent = c.in-Some.ensures.put x.value x.start x.rest x.fits x.lies x.split in
+    let size : c.size_of-size.result ≡ length (spelling k p.form.value x.value) = c.size_of-size.ensures ∙ ap (λ (a : Attribute). length (spelling k p.form.value a)) lent.0 in
+    let others = others_lent k it.at hs pool (map pair_of it.pairs.now) p rest is c.self.invariant in
+    let here : c.behind-self-inside.result.now ≡ drop (first_size k it.at hs pool (map pair_of it.pairs.now) p rest is c.self.invariant) hs = c.behind-self-inside.ensures ∙ ap (λ (n : ℕ). drop n hs) lent.1 in
+    subst (λ (n : ℕ). AreLent k (it.at + n) rest c.behind-self-inside.result.now pool) (sym size)
+    (subst (λ (b : List ℕ). AreLent k (it.at + length (spelling k p.form.value x.value)) rest b pool) (sym here) others)

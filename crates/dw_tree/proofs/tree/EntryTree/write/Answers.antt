@@ -1,14 +1,13 @@
-use Rattle.std.proofs.Common.{◌≡◌, ℕ, List, [], Option, length, subst}
+use Rattle.std.proofs.Common.{◌≡◌, ℕ, List, [], Option, subst}
 use Rattle.std.specs.List.{AllByRecursion}
 use Rattle.std.specs.Io.KnownBytes.{Appends}
 use Rattle.std.proofs.lemmas.Result.{err_from_is_err_and}
 use Rattle.dw_leb.specs.Watch.{inner_of, AppendsFront}
 use Rattle.dw_leb.specs.PartlyWritten.{PartlyWritten, partly_start, partly_step, partly_fails, partly_end}
 use Rattle.dw_abbrev.specs.Table.{Table}
-use Rattle.dw_form.specs.declared.stored.Stored.{Stored}
 use Rattle.dw_tree.specs.declared.row.Row.{Row}
 use Rattle.dw_tree.specs.Row.{row_bytes, rows_bytes}
-use Rattle.dw_tree.specs.Flat.{tokens, token_of, RowFits}
+use Rattle.dw_tree.specs.Flat.{tokens_at, token_at, RowReads}
 use Rattle.dw_tree.specs.DraftInvariant.{TokenFits}
 use Rattle.dw_tree.proofs.WriteLemmas.{rows_next, no_items}
 use Rattle.dw_tree.proofs.Written.{spelled_as, fits_as, tokens_fit}
@@ -18,10 +17,10 @@ pub loop-row-init : goal.loop-row-init
 loop-row-init g c =
     let a = c.self.inside in
     let w : Option (List ℕ) = g.W.Write.contents (inner_of c.args.writer.now) in
-    let all = rows_bytes a.context a.table.value (tokens a.table.value a.rows.items a.values.items a.pool.items) in
+    let all = rows_bytes a.context a.table.value (tokens_at a.context a.table.value a.rows.items a.heads.items a.pool.items) in
     record {
       written = rw c.as_slice-left.ensures.value (partly_start w all);
-      inside = rw c.as_slice-left.ensures.value c.self.invariant.rows_fit;
+      inside = rw c.as_slice-left.ensures.value c.self.invariant.rows_read;
       fits = rw c.as_slice-left.ensures.value (tokens_fit a c.self.invariant);
       clear = c.requires;
     }
@@ -31,46 +30,46 @@ returns-in_err-write_row-clause-written g c =
     let a = c.self.inside in
     let k = a.context in
     let t = a.table.value in
-    let vs = a.values.items in
+    let hs = a.heads.items in
     let pool = a.pool.items in
     let p = err_from_is_err_and c.from_residual.result c.from_residual.ensures.1 in
     let x : Option (List ℕ) = g.W.Write.contents (inner_of c.args.writer.now) in
     let y : Option (List ℕ) = g.W.Write.contents (inner_of c.loop-row.writer) in
     let z : Option (List ℕ) = g.W.Write.contents (inner_of c.write_row.new.writer) in
-    let all = rows_bytes k t (tokens t a.rows.items vs pool) in
+    let all = rows_bytes k t (tokens_at k t a.rows.items hs pool) in
     let row = c.in-Some.row.now in
-    let next = rows_next k t vs pool c.loop-row.left.now row c.in-Some.others.now c.in-Some.ensures.cases.0 in
+    let next = rows_next k t hs pool c.loop-row.left.now row c.in-Some.others.now c.in-Some.ensures.cases.0 in
     let to = subst (λ (s : List ℕ). PartlyWritten x y s all) next c.loop-row.invariant.written in
-    let one : AppendsFront y z (row_bytes k t (token_of t vs pool row)) =
-    subst (λ (q : Table). AppendsFront y z (row_bytes k q (token_of q vs pool row))) c.deref.ensures
-    (subst (λ (xs : List Stored). AppendsFront y z (row_bytes k c.deref.result.now (token_of c.deref.result.now xs pool row))) c.deref-in-Some.ensures.value
-    (subst (λ (ps : List ℕ). AppendsFront y z (row_bytes k c.deref.result.now (token_of c.deref.result.now c.deref-in-Some.result.now ps row))) c.deref-in-Some-2.ensures.value c.in_err-write_row.ensures.written)) in
+    let one : AppendsFront y z (row_bytes k t (token_at k t hs pool row)) =
+    subst (λ (q : Table). AppendsFront y z (row_bytes k q (token_at k q hs pool row))) c.deref.ensures
+    (subst (λ (xs : List ℕ). AppendsFront y z (row_bytes k c.deref.result.now (token_at k c.deref.result.now xs pool row))) c.deref-in-Some.ensures.value
+    (subst (λ (ps : List ℕ). AppendsFront y z (row_bytes k c.deref.result.now (token_at k c.deref.result.now c.deref-in-Some.result.now ps row))) c.deref-in-Some-2.ensures.value c.in_err-write_row.ensures.written)) in
     rw p.1 (subst (λ (s : List ℕ). AppendsFront x z s) (spelled_as a c.self.invariant c.args.self.now c.self.view_is)
-    (partly_fails x y z (row_bytes k t (token_of t vs pool row)) (rows_bytes k t (tokens t c.in-Some.others.now vs pool)) all to one))
+    (partly_fails x y z (row_bytes k t (token_at k t hs pool row)) (rows_bytes k t (tokens_at k t c.in-Some.others.now hs pool)) all to one))
 
 pub loop-row-preserved : goal.loop-row-preserved
 loop-row-preserved g c =
     let a = c.self.inside in
     let k = a.context in
     let t = a.table.value in
-    let vs = a.values.items in
+    let hs = a.heads.items in
     let pool = a.pool.items in
     let x : Option (List ℕ) = g.W.Write.contents (inner_of c.args.writer.now) in
     let y : Option (List ℕ) = g.W.Write.contents (inner_of c.loop-row.writer) in
     let z : Option (List ℕ) = g.W.Write.contents (inner_of c.write_row.new.writer) in
-    let all = rows_bytes k t (tokens t a.rows.items vs pool) in
+    let all = rows_bytes k t (tokens_at k t a.rows.items hs pool) in
     let row = c.in-Some.row.now in
     let is = c.in-Some.ensures.cases.0 in
-    let next = rows_next k t vs pool c.loop-row.left.now row c.in-Some.others.now is in
+    let next = rows_next k t hs pool c.loop-row.left.now row c.in-Some.others.now is in
     let to = subst (λ (s : List ℕ). PartlyWritten x y s all) next c.loop-row.invariant.written in
-    let one : Appends y z (row_bytes k t (token_of t vs pool row)) =
-    subst (λ (q : Table). Appends y z (row_bytes k q (token_of q vs pool row))) c.deref.ensures
-    (subst (λ (xs : List Stored). Appends y z (row_bytes k c.deref.result.now (token_of c.deref.result.now xs pool row))) c.deref-in-Some.ensures.value
-    (subst (λ (ps : List ℕ). Appends y z (row_bytes k c.deref.result.now (token_of c.deref.result.now c.deref-in-Some.result.now ps row))) c.deref-in-Some-2.ensures.value c.in_ok-write_row.ensures.written)) in
+    let one : Appends y z (row_bytes k t (token_at k t hs pool row)) =
+    subst (λ (q : Table). Appends y z (row_bytes k q (token_at k q hs pool row))) c.deref.ensures
+    (subst (λ (xs : List ℕ). Appends y z (row_bytes k c.deref.result.now (token_at k c.deref.result.now xs pool row))) c.deref-in-Some.ensures.value
+    (subst (λ (ps : List ℕ). Appends y z (row_bytes k c.deref.result.now (token_at k c.deref.result.now c.deref-in-Some.result.now ps row))) c.deref-in-Some-2.ensures.value c.in_ok-write_row.ensures.written)) in
     record {
-      written = partly_step x y z (row_bytes k t (token_of t vs pool row)) (rows_bytes k t (tokens t c.in-Some.others.now vs pool)) all to one;
-      inside = (subst (λ (rs : List Row). AllByRecursion (RowFits t (length vs)) rs) is c.loop-row.invariant.inside).1;
-      fits = (subst (λ (rs : List Row). AllByRecursion (TokenFits k t) (tokens t rs vs pool)) is c.loop-row.invariant.fits).1;
+      written = partly_step x y z (row_bytes k t (token_at k t hs pool row)) (rows_bytes k t (tokens_at k t c.in-Some.others.now hs pool)) all to one;
+      inside = (subst (λ (rs : List Row). AllByRecursion (RowReads k t hs pool) rs) is c.loop-row.invariant.inside).1;
+      fits = (subst (λ (rs : List Row). AllByRecursion (TokenFits k t) (tokens_at k t rs hs pool)) is c.loop-row.invariant.fits).1;
       clear = c.in_ok-write_row.ensures.fault;
     }
 
@@ -79,9 +78,9 @@ returns-clause-written g c =
     let a = c.self.inside in
     let x : Option (List ℕ) = g.W.Write.contents (inner_of c.args.writer.now) in
     let y : Option (List ℕ) = g.W.Write.contents (inner_of c.loop-row.writer) in
-    let all = rows_bytes a.context a.table.value (tokens a.table.value a.rows.items a.values.items a.pool.items) in
+    let all = rows_bytes a.context a.table.value (tokens_at a.context a.table.value a.rows.items a.heads.items a.pool.items) in
     let none : c.loop-row.left.now ≡ [] = no_items c.loop-row.left.now c.in_default.ensures.cases in
-    let to = subst (λ (rs : List Row). PartlyWritten x y (rows_bytes a.context a.table.value (tokens a.table.value rs a.values.items a.pool.items)) all) none c.loop-row.invariant.written in
+    let to = subst (λ (rs : List Row). PartlyWritten x y (rows_bytes a.context a.table.value (tokens_at a.context a.table.value rs a.heads.items a.pool.items)) all) none c.loop-row.invariant.written in
     subst (λ (s : List ℕ). Appends x y s) (spelled_as a c.self.invariant c.args.self.now c.self.view_is) (partly_end x y all to)
 
 pub returns-in_err-write_row-clause-fits : goal.returns-in_err-write_row-clause-fits

@@ -12,7 +12,7 @@ invariant_of-self c =
     let a = c.self.inside in
     let d : Drafted = record { header = a.header; table = a.tree.table; place = a.tree.place; padding = a.padding.items } in
     let new : Growing = c.end_value.new.self in
-    let x = begun_some (λ (v : Attribute). length (value_bytes d v)) (partial_of d) c.in-Some.size (c.in-Some.ensures ∙ ap (λ (y : Drafted). option_map (λ (v : Attribute). length (value_bytes y v)) (partial_of y)) (sym c.self.view_is)) in
+    let x = begun_some (λ (v : Attribute). length (value_bytes d v)) (partial_of d) c.in-Some.size (c.in-Some.ensures.size ∙ ap (λ (y : Drafted). option_map (λ (v : Attribute). length (value_bytes y v)) (partial_of y)) (sym c.self.view_is)) in
     let fits : NextFits (context_of d.header) d.table d.place.unfinished x.0 = subst (λ (o : Option Attribute). IfSome o (λ v. NextFits (context_of d.header) d.table d.place.unfinished v)) x.1 (subst (λ (y : Drafted). IfSome (partial_of y) (λ v. NextFits (context_of y.header) y.table y.place.unfinished v)) (sym c.self.view_is) c.requires.fits) in
     let short : passes_limit d (length (value_bytes d x.0)) ≡ false = subst (λ (o : Option Attribute). IfSome o (λ v. passes_limit d (length (value_bytes d v)) ≡ false)) x.1 (subst (λ (y : Drafted). IfSome (partial_of y) (λ v. passes_limit y (length (value_bytes y v)) ≡ false)) (sym c.self.view_is) c.requires.short) in
     value_kept d a.tree a.padded c.self.invariant x.0 fits new (c.end_value.ensures ∙ ended_value a.tree x.0 x.1) short

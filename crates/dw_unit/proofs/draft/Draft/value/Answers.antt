@@ -3,35 +3,52 @@ use Rattle.dw_form.specs.Form.{Attribute}
 use Rattle.dw_form.specs.Lent.{attribute_of}
 use Rattle.dw_abbrev.specs.PairView.{pair_of}
 use Rattle.dw_tree.specs.Next.{next_some}
-use Rattle.dw_tree.specs.Steps.{Growing, with_value, NextFits, next_bytes, end_of}
+use Rattle.dw_tree.specs.Steps.{Growing, with_value, NextFits, next_bytes, next_front, end_of}
 use Rattle.dw_header.specs.Header.{context_of}
 use Rattle.dw_unit.specs.Draft.{Drafted, tree_in, drafted_size, passes_limit, value_bytes}
-use Rattle.dw_unit.proofs.DraftLemmas.{either_way, on_ok, same_kept, value_place, new_is, value_kept, given_size, next_sized, short_near}
+use Rattle.dw_unit.proofs.DraftLemmas.{either_way, on_ok, same_kept, value_place, new_is, value_kept, given_size, next_sized, next_fronted, short_near}
 use Rattle.dw_unit.proofs.draft.Draft.value.Goals as goal
 
 pub size_of-size-requires-clause-spelled : goal.size_of-size-requires-clause-spelled
 size_of-size-requires-clause-spelled c =
     let d : Drafted = c.args.self.now in
-    let same : c.context.result ≡ context_of d.header = c.context.ensures.context ∙ ap (λ (x : Drafted). context_of x.header) c.self.view_is in
-    (next_sized d c.context.result (attribute_of c.args.value.now) (pair_of c.in-Some.pair) same (sym c.in-Some.ensures.pair) c.requires.fits).0
+    let same : c.context-context.result ≡ context_of d.header = c.context-context.ensures.context ∙ ap (λ (x : Drafted). context_of x.header) c.self.view_is in
+    (next_sized d c.context-context.result (attribute_of c.args.value.now) (pair_of c.in-Some.pair) same (sym c.in-Some.ensures.pair) c.requires.fits).0
 
 pub value-requires-clause-size : goal.value-requires-clause-size
 value-requires-clause-size c =
     let d : Drafted = c.args.self.now in
     let v : Attribute = attribute_of c.args.value.now in
-    let same : c.context.result ≡ context_of d.header = c.context.ensures.context ∙ ap (λ (x : Drafted). context_of x.header) c.self.view_is in
+    let same : c.context-context.result ≡ context_of d.header = c.context-context.ensures.context ∙ ap (λ (x : Drafted). context_of x.header) c.self.view_is in
     let tree : c.self.inside.tree ≡ tree_in d = c.self.invariant.tree_is ∙ ap tree_in c.self.view_is in
     c.size_of-size.ensures
-    ∙ ((next_sized d c.context.result v (pair_of c.in-Some.pair) same (sym c.in-Some.ensures.pair) c.requires.fits).1
+    ∙ ((next_sized d c.context-context.result v (pair_of c.in-Some.pair) same (sym c.in-Some.ensures.pair) c.requires.fits).1
     ∙ ap (λ (g : Growing). length (next_bytes g.context g.table g.place.unfinished v)) (sym tree))
+
+pub value_front-front-requires-clause-spelled : goal.value_front-front-requires-clause-spelled
+value_front-front-requires-clause-spelled c =
+    let d : Drafted = c.args.self.now in
+    let same : c.context-context.result ≡ context_of d.header = c.context-context.ensures.context ∙ ap (λ (x : Drafted). context_of x.header) c.self.view_is in
+    (next_sized d c.context-context.result (attribute_of c.args.value.now) (pair_of c.in-Some.pair) same (sym c.in-Some.ensures.pair) c.requires.fits).0
+
+pub value-requires-clause-front : goal.value-requires-clause-front
+value-requires-clause-front c =
+    let d : Drafted = c.args.self.now in
+    let v : Attribute = attribute_of c.args.value.now in
+    let same : c.context-context.result ≡ context_of d.header = c.context-context.ensures.context ∙ ap (λ (x : Drafted). context_of x.header) c.self.view_is in
+    let tree : c.self.inside.tree ≡ tree_in d = c.self.invariant.tree_is ∙ ap tree_in c.self.view_is in
+    c.as_slice.ensures.value
+    ∙ (c.value_front-front.ensures
+    ∙ (next_fronted d c.context-context.result v (pair_of c.in-Some.pair) same (sym c.in-Some.ensures.pair) c.requires.fits
+    ∙ ap (λ (g : Growing). next_front g.context g.table g.place.unfinished v) (sym tree)))
 
 pub value-requires-clause-near : goal.value-requires-clause-near
 value-requires-clause-near c =
     let d : Drafted = c.args.self.now in
     let v : Attribute = attribute_of c.args.value.now in
-    let same : c.context.result ≡ context_of d.header = c.context.ensures.context ∙ ap (λ (x : Drafted). context_of x.header) c.self.view_is in
+    let same : c.context-context.result ≡ context_of d.header = c.context-context.ensures.context ∙ ap (λ (x : Drafted). context_of x.header) c.self.view_is in
     let tree : c.self.inside.tree ≡ tree_in d = c.self.invariant.tree_is ∙ ap tree_in c.self.view_is in
-    let size : c.size_of-size.result ≡ length (value_bytes d v) = c.size_of-size.ensures ∙ (next_sized d c.context.result v (pair_of c.in-Some.pair) same (sym c.in-Some.ensures.pair) c.requires.fits).1 in
+    let size : c.size_of-size.result ≡ length (value_bytes d v) = c.size_of-size.ensures ∙ (next_sized d c.context-context.result v (pair_of c.in-Some.pair) same (sym c.in-Some.ensures.pair) c.requires.fits).1 in
     omega (arith, ap end_of tree, size, short_near d (length (value_bytes d v)) c.requires.short)
 
 pub unreachable-requires : goal.unreachable-requires
