@@ -8,7 +8,8 @@ use Rattle.dw_leb.specs.declared.errors.SectionId.TheVariants.{Info, Abbrev}
 use Rattle.dw_form.specs.Form.{shape}
 use Rattle.dw_form.specs.ReadForm.{read_attribute}
 use Rattle.dw_abbrev.specs.ReadTable.{read_table, read_table_at}
-use Rattle.dw_header.specs.declared.kind.Kind.TheVariants.{Compile, Partial, TypeUnit, Skeleton}
+use Rattle.dw_header.specs.declared.kind.Kind.TheVariants.{Compile, Partial, TypeUnit, Skeleton, Four}
+use Rattle.dw_header.specs.declared.versions.Versions.TheVariants.{Five, FourAndFive}
 use Rattle.dw_tree.specs.Tree.{nesting}
 use Rattle.dw_tree.specs.ReadTree.{read_children, read_tree}
 use Rattle.dw_header.specs.ReadHeader.{read_fields}
@@ -126,6 +127,64 @@ offset_cut = refl
 type_offset_past_the_unit : read_unit Little first_table (0x13 ∷ 0x00 ∷ 0x00 ∷ 0x00 ∷ 0x05 ∷ 0x00 ∷ 0x02 ∷ 0x08 ∷ 0x00 ∷ 0x00 ∷ 0x00 ∷ 0x00 ∷ 0x88 ∷ 0x77 ∷ 0x66 ∷ 0x55 ∷ 0x44 ∷ 0x33 ∷ 0x22 ∷ 0x11 ∷ 0x18 ∷ 0x00 ∷ 0x00 ∷ 0x00 ∷ []) ≡ Fault Info 20 PastUnit
 unfolding shape read_attribute read_table read_table_at read_fields read_children read_tree read_unit_under nesting
 type_offset_past_the_unit = refl
+
+-- ---- version 4, where it is accepted and where it isn't
+
+four_unit : read_unit_under FourAndFive Little first_table (0x0a ∷ 0x00 ∷ 0x00 ∷ 0x00 ∷ 0x04 ∷ 0x00 ∷ 0x00 ∷ 0x00 ∷ 0x00 ∷ 0x00 ∷ 0x08 ∷ 0x01 ∷ 0x61 ∷ 0x00 ∷ []) ≡ Unit (unit_of first (headed Little Dwarf32 Four) named) 14
+unfolding shape read_attribute read_table read_table_at read_fields read_children read_tree read_unit_under nesting
+four_unit = refl
+
+sixty_four_bit_four_unit : read_unit_under FourAndFive Little first_table (0xff ∷ 0xff ∷ 0xff ∷ 0xff ∷ 0x0e ∷ 0x00 ∷ 0x00 ∷ 0x00 ∷ 0x00 ∷ 0x00 ∷ 0x00 ∷ 0x00 ∷ 0x04 ∷ 0x00 ∷ 0x00 ∷ 0x00 ∷ 0x00 ∷ 0x00 ∷ 0x00 ∷ 0x00 ∷ 0x00 ∷ 0x00 ∷ 0x08 ∷ 0x01 ∷ 0x61 ∷ 0x00 ∷ []) ≡ Unit (unit_of first (headed Little Dwarf64 Four) named) 26
+unfolding shape read_attribute read_table read_table_at read_fields read_children read_tree read_unit_under nesting
+sixty_four_bit_four_unit = refl
+
+big_endian_four_unit : read_unit_under FourAndFive Big first_table (0x00 ∷ 0x00 ∷ 0x00 ∷ 0x0a ∷ 0x00 ∷ 0x04 ∷ 0x00 ∷ 0x00 ∷ 0x00 ∷ 0x00 ∷ 0x08 ∷ 0x01 ∷ 0x61 ∷ 0x00 ∷ []) ≡ Unit (unit_of first (headed Big Dwarf32 Four) named) 14
+unfolding shape read_attribute read_table read_table_at read_fields read_children read_tree read_unit_under nesting
+big_endian_four_unit = refl
+
+big_endian_sixty_four_bit_four_unit : read_unit_under FourAndFive Big first_table (0xff ∷ 0xff ∷ 0xff ∷ 0xff ∷ 0x00 ∷ 0x00 ∷ 0x00 ∷ 0x00 ∷ 0x00 ∷ 0x00 ∷ 0x00 ∷ 0x0e ∷ 0x00 ∷ 0x04 ∷ 0x00 ∷ 0x00 ∷ 0x00 ∷ 0x00 ∷ 0x00 ∷ 0x00 ∷ 0x00 ∷ 0x00 ∷ 0x08 ∷ 0x01 ∷ 0x61 ∷ 0x00 ∷ []) ≡ Unit (unit_of first (headed Big Dwarf64 Four) named) 26
+unfolding shape read_attribute read_table read_table_at read_fields read_children read_tree read_unit_under nesting
+big_endian_sixty_four_bit_four_unit = refl
+
+compile_unit_beside_version_four : read_unit_under FourAndFive Little first_table (0x0b ∷ 0x00 ∷ 0x00 ∷ 0x00 ∷ 0x05 ∷ 0x00 ∷ 0x01 ∷ 0x08 ∷ 0x00 ∷ 0x00 ∷ 0x00 ∷ 0x00 ∷ 0x01 ∷ 0x61 ∷ 0x00 ∷ []) ≡ Unit (unit_of first (headed Little Dwarf32 Compile) named) 15
+unfolding shape read_attribute read_table read_table_at read_fields read_children read_tree read_unit_under nesting
+compile_unit_beside_version_four = refl
+
+four_unit_unasked : read_unit_under Five Little first_table (0x0a ∷ 0x00 ∷ 0x00 ∷ 0x00 ∷ 0x04 ∷ 0x00 ∷ 0x00 ∷ 0x00 ∷ 0x00 ∷ 0x00 ∷ 0x08 ∷ 0x01 ∷ 0x61 ∷ 0x00 ∷ []) ≡ Fault Info 4 BadVersion
+unfolding shape read_attribute read_table read_table_at read_fields read_children read_tree read_unit_under nesting
+four_unit_unasked = refl
+
+four_past_the_unit : read_unit_under FourAndFive Little first_table (0x02 ∷ 0x00 ∷ 0x00 ∷ 0x00 ∷ 0x04 ∷ 0x00 ∷ []) ≡ Fault Info 6 PastUnit
+unfolding shape read_attribute read_table read_table_at read_fields read_children read_tree read_unit_under nesting
+four_past_the_unit = refl
+
+four_past_the_unit_unasked : read_unit_under Five Little first_table (0x02 ∷ 0x00 ∷ 0x00 ∷ 0x00 ∷ 0x04 ∷ 0x00 ∷ []) ≡ Fault Info 4 BadVersion
+unfolding shape read_attribute read_table read_table_at read_fields read_children read_tree read_unit_under nesting
+four_past_the_unit_unasked = refl
+
+version_three : read_unit_under FourAndFive Little first_table (0x0a ∷ 0x00 ∷ 0x00 ∷ 0x00 ∷ 0x03 ∷ 0x00 ∷ 0x00 ∷ 0x00 ∷ 0x00 ∷ 0x00 ∷ 0x08 ∷ 0x01 ∷ 0x61 ∷ 0x00 ∷ []) ≡ Fault Info 4 BadVersion
+unfolding shape read_attribute read_table read_table_at read_fields read_children read_tree read_unit_under nesting
+version_three = refl
+
+version_six : read_unit_under FourAndFive Little first_table (0x0a ∷ 0x00 ∷ 0x00 ∷ 0x00 ∷ 0x06 ∷ 0x00 ∷ 0x00 ∷ 0x00 ∷ 0x00 ∷ 0x00 ∷ 0x08 ∷ 0x01 ∷ 0x61 ∷ 0x00 ∷ []) ≡ Fault Info 4 BadVersion
+unfolding shape read_attribute read_table read_table_at read_fields read_children read_tree read_unit_under nesting
+version_six = refl
+
+four_address_size_zero : read_unit_under FourAndFive Little first_table (0x0a ∷ 0x00 ∷ 0x00 ∷ 0x00 ∷ 0x04 ∷ 0x00 ∷ 0x00 ∷ 0x00 ∷ 0x00 ∷ 0x00 ∷ 0x00 ∷ 0x01 ∷ 0x61 ∷ 0x00 ∷ []) ≡ Fault Info 10 BadAddressSize
+unfolding shape read_attribute read_table read_table_at read_fields read_children read_tree read_unit_under nesting
+four_address_size_zero = refl
+
+four_address_size_nine : read_unit_under FourAndFive Little first_table (0x0a ∷ 0x00 ∷ 0x00 ∷ 0x00 ∷ 0x04 ∷ 0x00 ∷ 0x00 ∷ 0x00 ∷ 0x00 ∷ 0x00 ∷ 0x09 ∷ 0x01 ∷ 0x61 ∷ 0x00 ∷ []) ≡ Fault Info 10 BadAddressSize
+unfolding shape read_attribute read_table read_table_at read_fields read_children read_tree read_unit_under nesting
+four_address_size_nine = refl
+
+four_offset_cut : read_unit_under FourAndFive Little first_table (0x0a ∷ 0x00 ∷ 0x00 ∷ 0x00 ∷ 0x04 ∷ 0x00 ∷ 0x00 ∷ 0x00 ∷ []) ≡ Fault Info 6 Truncated
+unfolding shape read_attribute read_table read_table_at read_fields read_children read_tree read_unit_under nesting
+four_offset_cut = refl
+
+four_address_size_cut : read_unit_under FourAndFive Little first_table (0x0a ∷ 0x00 ∷ 0x00 ∷ 0x00 ∷ 0x04 ∷ 0x00 ∷ 0x00 ∷ 0x00 ∷ 0x00 ∷ 0x00 ∷ []) ≡ Fault Info 10 Truncated
+unfolding shape read_attribute read_table read_table_at read_fields read_children read_tree read_unit_under nesting
+four_address_size_cut = refl
 
 -- ---- the order of faults
 

@@ -5,7 +5,7 @@ use Rattle.dw_leb.specs.declared.order.Order.TheVariants.{Little, Big}
 use Rattle.dw_leb.specs.declared.order.Format.TheVariants.{Dwarf32, Dwarf64}
 use Rattle.dw_form.specs.Form.{shape, shaped, attribute, Num, Text}
 use Rattle.dw_abbrev.specs.Table.{Table}
-use Rattle.dw_header.specs.declared.kind.Kind.TheVariants.{Compile, TypeUnit, Skeleton}
+use Rattle.dw_header.specs.declared.kind.Kind.TheVariants.{Compile, TypeUnit, Skeleton, Four}
 use Rattle.dw_tree.specs.Tree.{Tree, leaf, branch, none, more, children, nesting}
 use Rattle.dw_unit.specs.Unit.{bytes_of}
 use Rattle.dw_tree.specs.Spelling.{tree_bytes}
@@ -61,6 +61,14 @@ skeleton_unit_written = refl
 type_unit_written : bytes_of (unit_of first (headed Little Dwarf32 (TypeUnit 0x1122334455667788 24)) named) ≡ 0x17 ∷ 0x00 ∷ 0x00 ∷ 0x00 ∷ 0x05 ∷ 0x00 ∷ 0x02 ∷ 0x08 ∷ 0x00 ∷ 0x00 ∷ 0x00 ∷ 0x00 ∷ 0x88 ∷ 0x77 ∷ 0x66 ∷ 0x55 ∷ 0x44 ∷ 0x33 ∷ 0x22 ∷ 0x11 ∷ 0x18 ∷ 0x00 ∷ 0x00 ∷ 0x00 ∷ 0x01 ∷ 0x61 ∷ 0x00 ∷ []
 unfolding shape attribute shaped children nesting
 type_unit_written = refl
+
+four_unit_written : bytes_of (unit_of first (headed Little Dwarf32 Four) named) ≡ 0x0a ∷ 0x00 ∷ 0x00 ∷ 0x00 ∷ 0x04 ∷ 0x00 ∷ 0x00 ∷ 0x00 ∷ 0x00 ∷ 0x00 ∷ 0x08 ∷ 0x01 ∷ 0x61 ∷ 0x00 ∷ []
+unfolding shape attribute shaped children nesting
+four_unit_written = refl
+
+sixty_four_bit_big_endian_four_unit_written : bytes_of (unit_of first (headed Big Dwarf64 Four) named) ≡ 0xff ∷ 0xff ∷ 0xff ∷ 0xff ∷ 0x00 ∷ 0x00 ∷ 0x00 ∷ 0x00 ∷ 0x00 ∷ 0x00 ∷ 0x00 ∷ 0x0e ∷ 0x00 ∷ 0x04 ∷ 0x00 ∷ 0x00 ∷ 0x00 ∷ 0x00 ∷ 0x00 ∷ 0x00 ∷ 0x00 ∷ 0x00 ∷ 0x08 ∷ 0x01 ∷ 0x61 ∷ 0x00 ∷ []
+unfolding shape attribute shaped children nesting
+sixty_four_bit_big_endian_four_unit_written = refl
 
 root_with_a_child_written : bytes_of (compiled base_types with_a_child) ≡ 0x0e ∷ 0x00 ∷ 0x00 ∷ 0x00 ∷ 0x05 ∷ 0x00 ∷ 0x01 ∷ 0x08 ∷ 0x00 ∷ 0x00 ∷ 0x00 ∷ 0x00 ∷ 0x01 ∷ 0x61 ∷ 0x00 ∷ 0x02 ∷ 0x04 ∷ 0x00 ∷ []
 unfolding shape attribute shaped children nesting
