@@ -6,7 +6,7 @@ Usage: scripts/measure.py PROGRAM [COUNT]
 PROGRAM is the built `dwarf` (crates/dwarf/out/dwarf). A C program of COUNT structures and as many functions
 (12,000 by default) is written, compiled as one unit by each compiler that is there, copied and shown. Printed
 are the size of the section, and of each run the time, the peak memory of the process, and that peak by the
-section's bytes. The status is 1 where a copy differs from the section, a run fails or takes more than 24 bytes a
+section's bytes. The status is 1 where a copy differs from the section, a run fails or takes more than 12 bytes a
 byte, or no compiler is there, else 0.
 """
 
@@ -21,7 +21,7 @@ SECTIONS = os.path.join(os.path.dirname(os.path.abspath(__file__)), "sections.sh
 COMPILERS = [["gcc", "-gdwarf-5"], ["gcc", "-gdwarf-5", "-gdwarf64"], ["clang", "-gdwarf-5"]]
 
 # The most memory, in bytes for each byte of the section.
-LIMIT = 24
+LIMIT = 12
 
 
 def source(count):

@@ -16,6 +16,7 @@ use dw_leb::constants::form::DW_FORM_INDIRECT;
 use dw_leb::{Order, Sleb, Uleb};
 
 /// A number of `n` bytes at the front.
+#[inline(always)]
 fn word(order: Order, n: u8, b: &[u8]) -> Option<u64>
     requires some { 1 ≤ n }
     requires most { n ≤ 8 }
@@ -84,6 +85,7 @@ fn part(pool: &[u8], start: u64, n: u64) -> Option<&[u8]>
 }
 
 /// Whether the values of a shape are texts or blocks.
+#[inline(always)]
 fn holds(shape: Shape) -> bool
     ensures { result ≡ has_content shape }
 {
@@ -113,6 +115,7 @@ fn placed<'a>(ctx: Ctx, shape: Shape, b: &[u8], pool: &'a [u8]) -> Option<(Value
 }
 
 /// The form that an indirect value names.
+#[inline(always)]
 fn via(form: u64, b: &[u8]) -> Option<Option<Uleb>>
     ensures exact { option_map (option_map uleb_of) result ≡ via_at (form == 0x16) b.now }
     ensures room { IfSome result (λ v. via_width (option_map uleb_of v) ≤ length b.now) }
@@ -125,6 +128,7 @@ fn via(form: u64, b: &[u8]) -> Option<Option<Uleb>>
 }
 
 /// A value without content, by its spelling.
+#[inline(always)]
 fn spelled(ctx: Ctx, shape: Shape, implicit: Option<Sleb>, b: &[u8]) -> Option<(Value<'_>, usize)>
     requires { ShapeFits shape }
     ensures exact { option_map (λ x. (value_of x.0, x.1)) result ≡ spelled_at ctx (option_map sleb_of implicit) shape b.now }
@@ -137,6 +141,7 @@ fn spelled(ctx: Ctx, shape: Shape, implicit: Option<Sleb>, b: &[u8]) -> Option<(
 }
 
 /// A value of a shape, by what of its head follows the form that an indirect value names.
+#[inline(always)]
 fn by_shape<'a>(
     ctx: Ctx,
     shape: Shape,
@@ -156,6 +161,7 @@ fn by_shape<'a>(
 }
 
 /// A value of a form.
+#[inline(always)]
 fn by_form<'a>(
     ctx: Ctx,
     form: u64,
@@ -172,6 +178,7 @@ fn by_form<'a>(
 }
 
 /// The same behind the form that an indirect value names.
+#[inline(always)]
 fn behind<'a>(
     ctx: Ctx,
     form: u64,
@@ -199,6 +206,7 @@ fn behind<'a>(
 }
 
 #[tactic(auto, unfolding(crate::specs::Head::head_at))]
+#[inline(always)]
 fn by_head<'a>(
     ctx: Ctx,
     form: u64,
@@ -215,6 +223,7 @@ fn by_head<'a>(
 }
 
 /// The count of bytes, which a word holds.
+#[inline(always)]
 fn size(b: &[u8]) -> usize
     ensures exact { result ≡ length b.now }
     ensures small { length b.now < 2 ^ 64 }
@@ -227,6 +236,7 @@ fn size(b: &[u8]) -> usize
 ///
 /// `form` and `implicit` are those with which the head was made, the form of the value and the constant
 /// of its declaration. Heads may follow, and the pool may have bytes before and behind the content.
+#[inline(always)]
 pub fn lend_head<'a>(
     ctx: Ctx,
     form: u64,

@@ -1,6 +1,6 @@
 //! Heads of values, made and kept in a list of bytes. A head has what of the value's spelling
 //! comes before its content, and after that what finds the content in a pool.
-ghost use Rattle.std.specs.Prelude.{◌≡◌, ◌≤◌, ◌<◌, ◌^◌, ◌+◌, ◌++◌, length, IfSome, OnOk, OnErr, vec_len, vec_capacity};
+ghost use Rattle.std.specs.Prelude.{◌≡◌, ◌≤◌, ◌<◌, ◌^◌, ◌+◌, ◌++◌, [], length, IfSome, OnOk, OnErr, vec_len, vec_capacity};
 ghost use Rattle.dw_leb.specs.Number.{uleb, UlebFits};
 ghost use Rattle.dw_form.specs.Form.{IsContext, ShapeFits, shape};
 ghost use Rattle.dw_form.specs.Pieces.{head_of, HeadFits, via_bytes, form_in, HasSpelling, spelling};
@@ -16,6 +16,7 @@ use dw_leb::{Order, Uleb, write_fixed};
 use std::alloc::AllocError;
 
 /// The bytes of the form that an indirect value names.
+#[inline(always)]
 fn via_part(value: &AttrValue<'_>) -> ArrayVec<u8, 16>
     ensures { result.items ≡ via_bytes (attribute_of value.now).via }
 {
@@ -58,6 +59,7 @@ fn number_part(ctx: Ctx, shape: Shape, value: &Value<'_>) -> ArrayVec<u8, 16>
 }
 
 /// What finds the content, which begins at `start`.
+#[inline(always)]
 fn finder_part(start: usize, value: &Value<'_>) -> ArrayVec<u8, 16>
     ensures { result.items ≡ finder start (value_of value.now) }
 {
@@ -86,6 +88,7 @@ fn joined(a: &[u8], b: &[u8]) -> ArrayVec<u8, 32>
 }
 
 /// The content of a text or block.
+#[inline(always)]
 fn content<'a>(value: &Value<'a>) -> &'a [u8]
     ensures { result.now ≡ value_bytes (value_of value.now) }
 {
@@ -138,6 +141,7 @@ pub fn value_front(ctx: Ctx, form: u64, value: &AttrValue<'_>) -> ArrayVec<u8, 3
 
 /// How many of the bytes that spell a value, `all`, are of its front: so a reader has the front from
 /// the bytes that it read.
+#[inline(always)]
 pub fn front_len(value: &AttrValue<'_>, all: usize) -> usize
     ensures { result ≡ front_size (attribute_of value.now) all }
 {
@@ -154,6 +158,7 @@ pub fn front_len(value: &AttrValue<'_>, all: usize) -> usize
 
 /// Keeps a value whose front is `front`: its head goes to the end of `heads`, its text or block to the
 /// end of the pool. On an error both hold what they held.
+#[inline(always)]
 pub fn put_head(
     value: &AttrValue<'_>,
     front: &[u8],
@@ -167,8 +172,26 @@ pub fn put_head(
     ensures heads_kept { OnErr result (heads.new.items ≡ heads.old.items) }
     ensures pool_kept { OnErr result (pool.new.items ≡ pool.old.items) }
 {
-    let finder = finder_part(pool.len(), &value.value);
-    put_three(front, finder.as_slice(), content(&value.value), heads, pool)
+    match value.value {
+        Value::Block { .. } | Value::Text(_) => {
+            let finder = finder_part(pool.len(), &value.value);
+            put_three(front, finder.as_slice(), content(&value.value), heads, pool)
+        }
+        _ => put_alone(front, heads, pool),
+    }
+}
+
+/// Appends the head of a value without content.
+#[inline(always)]
+fn put_alone(front: &[u8], heads: &mut Vec<u8>, pool: &mut Vec<u8>) -> Result<(), AllocError>
+    ensures heads { OnOk result (heads.new.items ≡ heads.old.items ++ (front.now ++ [])) }
+    ensures heads_kept { OnErr result (heads.new.items ≡ heads.old.items) }
+    ensures pool { pool.new.items ≡ pool.old.items ++ [] }
+    ensures pool_kept { pool.new.items ≡ pool.old.items }
+    ensures small { length pool.new.items < 2 ^ 64 }
+{
+    let _bounded = pool.len();
+    heads.extend_from_slice(front)
 }
 
 /// Appends to both, or to none.

@@ -11,7 +11,7 @@ use Rattle.dw_form.specs.Pieces.{constant_in, HasSpelling, spelling}
 use Rattle.dw_tree.specs.Lent.{AreLent}
 use Rattle.dw_form.specs.Head.{head}
 use Rattle.dw_abbrev.specs.Table.{Pair}
-use Rattle.dw_tree.specs.RowHeads.{values_at, put_in, Here, run_bytes, First, first_found, Next, next_here}
+use Rattle.dw_tree.specs.RowHeads.{Here, run_bytes, First, Next, next_here}
 
 -- ---- the constant of a declaration tells nothing that its value doesn't
 
@@ -81,9 +81,3 @@ module _ (k : Ctx) (at : ℕ) (hs pool : List ℕ) (ps : List Pair) (p : Pair) (
         let tail = ap (λ (b : List ℕ). length (run_bytes k rest b pool)) behind_first_is in
         omega (arith, lent.room, all, tail, own, length-append ((attribute k p.form.value p.constant).spell first_value.value) (run_bytes k rest first_value.rest pool));
   }
-
-  -- the values are the first one and the others
-  pub values_are : values_at k ps hs pool ≡ first_value.value ∷ values_at k rest (drop first_size hs) pool
-  values_are =
-      ap (λ (qs : List Pair). values_at k qs hs pool) is
-      ∙ ap (λ (o : Option (Attribute × ℕ)). put_in o (λ n. values_at k rest (drop n hs) pool)) (first_found k p hs pool first_value)

@@ -41,15 +41,6 @@ lies_next pool start xs ys h = record {
   at = length-append h.before xs ∙ ap (λ (n : ℕ). n + length xs) h.at;
 }
 
--- a pool that grows at its end
-pub lies_grown : (pool more : List ℕ) (start : ℕ) (bytes : List ℕ) → Lies pool start bytes → Lies (pool ++ more) start bytes
-lies_grown pool more start bytes h = record {
-  before = h.before;
-  after = h.after ++ more;
-  split = ap (λ (b : List ℕ). b ++ more) h.split ∙ (append_assoc h.before (bytes ++ h.after) more ∙ ap (λ (b : List ℕ). h.before ++ b) (append_assoc bytes h.after more));
-  at = h.at;
-}
-
 -- values are read back from their heads, whatever follows
 pub values_there : (k : Ctx) (ps : List Pair) (vs : List Attribute) (start : ℕ) (rest pool : List ℕ) → (values k ps).Fits vs → Lies pool start (joined vs) → length pool < 256 ^ 8
     → values_at k ps (heads k ps start vs ++ rest) pool ≡ vs

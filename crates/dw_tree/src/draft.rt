@@ -115,6 +115,7 @@ impl TreeDraft {
     /// The unfinished entry is given its next value, which has `size` bytes. `front` are those of them
     /// that come before the bytes of a text or block, or of any other value all. With its last value
     /// the entry is complete: closed where its declaration has no children, else open.
+    #[inline(always)]
     pub fn value(
         &mut self,
         value: &AttrValue<'_>,
@@ -400,6 +401,7 @@ fn null_row(null: Uleb, offset: u64, end: usize, depth: u16) -> Row
 }
 
 /// Where an entry has all its values, its row is put; else it is read on.
+#[inline(always)]
 fn settle(
     rows: &mut Vec<Row>,
     nested: &mut Vec<usize>,

@@ -86,6 +86,7 @@ pub fn write_null<W: Write>(width: u8, writer: &mut Watched<W>) -> Result<(), Wr
 }
 
 /// Where the value at `size` ends, if its form tells its size.
+#[inline(always)]
 fn told_end(ctx: Ctx, form: u64, run: &[u8], size: usize) -> Option<usize>
     requires context { IsContext ctx }
     requires within { size ≤ length run.now }
@@ -107,6 +108,7 @@ fn told_end(ctx: Ctx, form: u64, run: &[u8], size: usize) -> Option<usize>
 }
 
 /// The first `n` bytes.
+#[inline(always)]
 fn front(b: &[u8], n: usize) -> &[u8]
     requires { n ≤ length b.now }
     ensures { result.now ≡ take n b.now }
@@ -115,6 +117,7 @@ fn front(b: &[u8], n: usize) -> &[u8]
 }
 
 /// The bytes behind the first `n`.
+#[inline(always)]
 pub(crate) fn behind(b: &[u8], n: usize) -> &[u8]
     requires { n ≤ length b.now }
     ensures { result.now ≡ drop n b.now }

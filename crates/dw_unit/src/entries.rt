@@ -54,6 +54,7 @@ fn value_at<'a>(
 
 /// Of the bytes that spell a value at the place `at`, which are `size`, those before its text or block,
 /// or all.
+#[inline(always)]
 fn front_at<'a>(value: &AttrValue<'_>, size: usize, b: &'a [u8], at: usize) -> &'a [u8]
     requires within { at + size ≤ length b.now }
     requires front { front_size (attribute_of value.now) size ≤ size }
