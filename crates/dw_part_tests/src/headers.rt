@@ -1,9 +1,9 @@
-//! What no clause says: headers whose bytes come from section 7.5.1 of the standard, and headers that
-//! are refused. That units of all kinds are read and written is tested with them.
+//! What no clause says: headers whose bytes come from section 7.5.1 of the standard, and from section
+//! 7.5.1.1 of DWARF 4, and headers that are refused. That units of all kinds are read and written is tested with them.
 ghost use Rattle.dw_leb.specs.Number.{FitsLength};
 
 use dw_header::laws::{one_outcome, one_spelling, outcomes_are_stable};
-use dw_header::{Header, Kind, read_header, write_header};
+use dw_header::{Header, Kind, Versions, read_header, read_header_as, write_header};
 use dw_leb::{Fault, Format, Order, Reason, SectionId, Watched, WriteError};
 use std::alloc::Global;
 use std::test::Fail;
@@ -34,6 +34,12 @@ const SKELETON_32_LITTLE: [u8; 20] = [
 const SKELETON_64_BIG: [u8; 32] = [
     0xff, 0xff, 0xff, 0xff, 0, 0, 0, 0, 0, 0, 0, 0x17, 0, 0x05, 0x04, 0x08, 0, 0, 0, 0, 0, 0, 0x01,
     0x02, 0x01, 0x02, 0x03, 0x04, 0x05, 0x06, 0x07, 0x08,
+];
+
+const FOUR_32_LITTLE: [u8; 11] = [0x07, 0, 0, 0, 0x04, 0, 0x02, 0x01, 0, 0, 0x08];
+
+const FOUR_64_BIG: [u8; 23] = [
+    0xff, 0xff, 0xff, 0xff, 0, 0, 0, 0, 0, 0, 0, 0x0b, 0, 0x04, 0, 0, 0, 0, 0, 0, 0x01, 0x02, 0x01,
 ];
 
 const SIGNATURE: u64 = 0x1122334455667788;
@@ -86,6 +92,36 @@ fn headers_of_the_kinds(rt: HostRuntime) -> Result<(), Fail> {
             read_header(order, bytes).ok() == Some((header, unit_length)),
             "{header:?}"
         );
+    }
+    Ok(())
+}
+
+/// Whether the header is read of these bytes where version 4 is accepted, and refused at `version` where
+/// it isn't.
+fn stands_as_four(header: Header, unit_length: u64, version: u64, bytes: &[u8]) -> bool {
+    let order = header.order();
+    let refused = Err(Fault {
+        section: SectionId::Info,
+        offset: version,
+        reason: Reason::BadVersion,
+    });
+    read_header_as(order, Versions::FourAndFive, bytes) == Ok((header, unit_length))
+        && read_header_as(order, Versions::Five, bytes) == refused
+        && read_header(order, bytes) == refused
+}
+
+#[test]
+fn headers_of_version_four(rt: HostRuntime) -> Result<(), Fail> {
+    for (order, format, address_size, unit_length, version, bytes) in [
+        (Order::Little, Format::Dwarf32, 8, 7, 4, &FOUR_32_LITTLE[..]),
+        (Order::Big, Format::Dwarf64, 1, 11, 12, &FOUR_64_BIG[..]),
+    ] {
+        let header = Header::new(order, format, Kind::Four, address_size, TABLE).ok_or(
+            "no header",
+        )?;
+        assert!(rt; spells(rt.alloc(), header, unit_length, bytes)?);
+        assert!(rt; header.size() == bytes.len() as u64);
+        assert!(rt; stands_as_four(header, unit_length, version, bytes));
     }
     Ok(())
 }
@@ -196,7 +232,7 @@ fn headers_at_the_edges(rt: HostRuntime) {
         (Format::Dwarf64, 8, u64::MAX, true),
         (Format::Dwarf64, 9, 0, false),
     ] {
-        for kind in [Kind::Compile, Kind::Partial, TYPE_32, SKELETON] {
+        for kind in [Kind::Compile, Kind::Partial, TYPE_32, SKELETON, Kind::Four] {
             let header = Header::new(Order::Big, format, kind, address_size, offset);
             let held = header.map(|header| (
                 header.format(),

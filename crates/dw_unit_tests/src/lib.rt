@@ -24,3 +24,5 @@ mod tree_drafts;
 mod trees;
 #[cfg(test)]
 mod units;
+#[cfg(test)]
+mod versions;
