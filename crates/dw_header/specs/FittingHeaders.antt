@@ -1,6 +1,6 @@
 -- Headers that fit, and their fields.
-use Rattle.std.proofs.Common.{◌≡◌, ◌≤◌, ◌<◌, ◌^◌, ℕ, zero, suc, Bool, true, false, cond, List, [], ◌∷◌, Option, Some, None, refl, sym, ap, ◌∙◌, arith}
-use Rattle.std.specs.Prelude.{nat_lt, ◌==◌, ◌&&◌, if◌then◌else◌}
+use Rattle.std.proofs.Common.{◌≡◌, ◌≤◌, ◌<◌, ◌^◌, ℕ, zero, suc, Bool, true, false, cond, List, [], ◌∷◌, Some, None, refl, sym, ap, ◌∙◌, arith}
+use Rattle.std.specs.Prelude.{nat_lt, ◌==◌, ◌&&◌}
 use Rattle.std.proofs.lemmas.Bool.{eqb-true, ltb-true, lt-ltb, and_parts}
 use Rattle.dw_leb.specs.declared.errors.Reason.TheVariants.{BadAddressSize, BadUnitType, BadVersion}
 use Rattle.dw_leb.specs.declared.order.Order.{Order}
@@ -209,11 +209,3 @@ version_by versions order format v f good false e fits = five_version order form
 -- the version of what follows a version that is accepted is that version
 pub version_there : (versions : Versions) (order : Order) (format : Format) (v : ℕ) (f : Fields) → bad_version_under versions v ≡ None → (fields_behind order format (v == 4)).Fits f → version_of f.kind ≡ v
 version_there versions order format v f good fits = version_by versions order format v f good (v == 4) refl fits
-
--- the kind of version 5 that its number and its fields give
-pub kind_back : (k : Kind) → 1 ≤ kind_number k → kind_from (kind_number k) (kind_fields k) ≡ k
-kind_back Compile some = refl
-kind_back Partial some = refl
-kind_back (TypeUnit s o) some = refl
-kind_back (Skeleton id) some = refl
-kind_back Four some = absurd (omega (arith, some))

@@ -12,7 +12,7 @@ use Rattle.dw_leb.specs.DecideNumber.{initial_length_decides, initial-size, init
 use Rattle.dw_header.specs.declared.versions.Versions.{Versions}
 use Rattle.dw_header.specs.Header.{Header, Fields, fields, fields_under, fields_of}
 use Rattle.dw_header.specs.HeaderPlace.{HeaderBreaksUnder, HeaderAtUnder, header_size}
-use Rattle.dw_header.specs.ReadHeader.{read_fields, header_from, Heading, head_fields, head_length, read_head}
+use Rattle.dw_header.specs.ReadHeader.{read_fields, Heading, head_fields, head_length, read_head}
 use Rattle.dw_header.specs.DecideHeader.{fields_decides}
 
 abbrev pub HeadSays : Versions → Order → List ℕ → Outcome Heading → Type 0

@@ -94,6 +94,16 @@ abbrev pub FrontsAreTruncatedUnder : Versions → Type 0
 FrontsAreTruncatedUnder versions = (abbreviations : List ℕ) (u : WholeUnit) (front : List ℕ) (b : ℕ) (more : List ℕ) → AllByRecursion (λ b. b < 256) front → Accepts versions u.header.kind → TableAt abbreviations u.header.abbrev_offset u.table → UnitFits u → bytes_of u ≡ front ++ b ∷ more
     → (offset : ℕ) × FailsUnder versions u.header.order abbreviations front Info offset Truncated
 
+-- ---- other versions
+
+-- a unit at the front is of a version that is accepted
+abbrev pub UnitsAreAccepted : Type 0
+UnitsAreAccepted = (versions : Versions) (abbreviations : List ℕ) (order : Order) (bytes : List ℕ) (u : WholeUnit) (size : ℕ) → UnitAtUnder versions abbreviations order bytes u size → Accepts versions u.header.kind
+
+-- and it stands there wherever that version is accepted
+abbrev pub UnitsStandWhereAccepted : Type 0
+UnitsStandWhereAccepted = (versions others : Versions) (abbreviations : List ℕ) (order : Order) (bytes : List ℕ) (u : WholeUnit) (size : ℕ) → UnitAtUnder versions abbreviations order bytes u size → Accepts others u.header.kind → UnitAtUnder others abbreviations order bytes u size
+
 -- ---- the round trip
 
 -- the bytes of a unit are read as that unit, whatever follows, where its table stands

@@ -13,10 +13,10 @@ use Rattle.dw_header.specs.declared.versions.Versions.{Versions}
 use Rattle.dw_header.specs.Header.{Header, Accepts, versions_for}
 use Rattle.dw_header.specs.FittingHeaders.{accepted}
 use Rattle.dw_header.specs.Laws.{one_header, headers_stay}
-use Rattle.dw_unit.specs.Unit.{WholeUnit, body_bytes, bytes_of, UnitFits, UnitFrontUnder, UnitBreaksUnder, UnitAtUnder, FailsUnder, ReadAsUnder}
+use Rattle.dw_unit.specs.Unit.{WholeUnit, body_bytes, bytes_of, UnitFits, UnitFrontUnder, UnitBreaksUnder, UnitAtUnder, FailsUnder}
 use Rattle.dw_unit.specs.ReadUnit.{Answer, Unit, Fault, read_over, read_unit_under}
 use Rattle.dw_unit.specs.DecideUnit.{OverSays, over_take, over_fault, over_says, unit_header, unit_take, unit_fault, unit_says, AnswerSays, break_fails, front_stays, break_stays}
-use Rattle.dw_unit.specs.Laws.{OneUnitOverUnder, OneBreakUnder, NotUnitAndBreakUnder, UnitOrBreakUnder, FrontsAreCutUnder, OneUnitUnder, OneFaultUnder, NotBothUnder, SomeAnswerUnder, FrontsAreTruncatedUnder, WrittenIsRead, WrittenIsReadUnder, ReadIsWrittenUnder}
+use Rattle.dw_unit.specs.Laws.{OneUnitOverUnder, OneBreakUnder, NotUnitAndBreakUnder, UnitOrBreakUnder, FrontsAreCutUnder, OneUnitUnder, OneFaultUnder, NotBothUnder, SomeAnswerUnder, FrontsAreTruncatedUnder, WrittenIsRead, WrittenIsReadUnder, ReadIsWrittenUnder, UnitsAreAccepted, UnitsStandWhereAccepted}
 
 -- ---- over a table
 
@@ -99,6 +99,17 @@ fronts_are_truncated versions abbreviations u front b more fit accepts place fit
     let whole = whole_front versions u (front ++ b ∷ more) accepts fits is in
     let cut = front_cut versions u front b more whole (read_over versions u.header.order u.table front) (over_says versions u.header.order u.table front fit) in
     (cut.0, truncated_by versions abbreviations u front (b ∷ more) (length (front ++ b ∷ more)) whole place cut.0 Truncated cut.1)
+
+-- ---- other versions
+
+pub units_are_accepted : UnitsAreAccepted
+units_are_accepted versions abbreviations order bytes u size h = h.front.accepted
+
+pub units_stand_where_accepted : UnitsStandWhereAccepted
+units_stand_where_accepted versions others abbreviations order bytes u size h accepts = record {
+  table_at = h.table_at;
+  front = record { order_is = h.front.order_is; accepted = accepts; fits = h.front.fits; rest = h.front.rest; split = h.front.split; is_size = h.front.is_size };
+}
 
 -- ---- the round trip
 
