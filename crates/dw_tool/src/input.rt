@@ -11,7 +11,10 @@ use std::io::Read;
 ///
 /// `Io` is answered exactly where the reader failed, with the kind that `fault()` tells then. After
 /// that or `NoMemory` some bytes were taken. A `Fault` doesn't come.
-pub(crate) fn read_all<R: Read>(alloc: Global, reader: &mut Watched<R>) -> Result<Vec<u8>, ReadError>
+pub(crate) fn read_all<R: Read>(
+    alloc: Global,
+    reader: &mut Watched<R>,
+) -> Result<Vec<u8>, ReadError>
     requires { fault_of reader.old ≡ None }
     ensures bytes { ReadsAll vec_items
         (R.remaining (inner_of reader.old))

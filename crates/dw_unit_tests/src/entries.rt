@@ -1,5 +1,5 @@
 //! What no clause says: the root of units whose bytes and offsets come from the standard.
-use crate::common::{little};
+use crate::common::little;
 use dw_unit::{EntryRef, Unit};
 use std::process::Abort;
 use std::test::Fail;

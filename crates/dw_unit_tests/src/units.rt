@@ -1,6 +1,8 @@
 //! What no clause says: units whose values are known from the standard, each call once with memory
 //! to spare, and writers that take little or fail.
-use crate::common::{FIFTEEN, NAMED, SIXTY_FOUR, in_info, little, read, refusal, refuses, same, writes};
+use crate::common::{
+    FIFTEEN, NAMED, SIXTY_FOUR, in_info, little, read, refusal, refuses, same, writes,
+};
 use dw_leb::devices::Stepped;
 use dw_leb::{Fault, Format, Order, Reason, Section, Watched, WriteError};
 use dw_unit::{AttrRef, Header, Kind, Unit, read_header, write_unit};
