@@ -1,4 +1,10 @@
+pub mod Moments
+pub mod NumberMoments
+pub mod ByteLists
+pub mod FormMoments
+pub mod HeaderMoments
 pub mod NeverTruncated
 pub mod UnitNeverTruncated
+pub mod CodeMoments
 pub mod Feed
 pub mod Laws

@@ -12,14 +12,11 @@ use Rattle.dw_form.specs.declared.shape.Ctx.{Ctx}
 use Rattle.dw_form.specs.declared.shape.Shape.{Shape}
 use Rattle.dw_form.specs.declared.shape.Shape.TheVariants as shapes
 use Rattle.dw_form.specs.Form.{Value, shape, constant, shaped, shaped_if, formed, bad_inner, by_indirection, attribute}
+use Rattle.dw_feed.specs.Moments.{Judges, refuses_where, refuses_unless}
 
 -- bytes that reach the unit's end don't break as cut by the input's end
 abbrev pub NeverTruncated : Breaks → Type 0
 NeverTruncated P = (bytes : List ℕ) (lim offset : ℕ) (reason : Reason) → lim ≤ length bytes → P bytes lim offset reason → reason ≢ Truncated
-
--- a meaning that is refused is not refused as cut
-abbrev pub Judges : {X : Type 0} → (X → Option Reason) → Type 0
-Judges {X} meaning = (x : X) → meaning x ≡ Some Truncated → ⊥
 
 -- ---- the combinators
 
@@ -99,15 +96,6 @@ pub groups_never_truncated : NeverTruncated groups.Break
 groups_never_truncated bytes lim offset reason le h =
     let m : min (length bytes) lim ≡ lim = omega arith in
     λ e. unmarked_never_truncated (min (length bytes) lim) lim m (sym h.2 ∙ e)
-
--- a meaning that is refused for one reason
-pub refuses_where : (b : Bool) (why : Reason) → why ≢ Truncated → cond b (Some why) None ≡ Some Truncated → ⊥
-refuses_where true why ne h = ne cc
-refuses_where false why ne h = cc
-
-pub refuses_unless : (b : Bool) (why : Reason) → why ≢ Truncated → cond b None (Some why) ≡ Some Truncated → ⊥
-refuses_unless true why ne h = cc
-refuses_unless false why ne h = ne cc
 
 pub uleb_never_truncated : NeverTruncated uleb.Break
 uleb_never_truncated = judged_never_truncated (viewed uleb_groups UlebHolds groups) above_u64 groups_never_truncated (λ u. refuses_unless (nat_lt u.value (2 ^ 64)) LebTooBig (λ e. cc))

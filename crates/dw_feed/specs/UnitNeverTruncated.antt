@@ -2,7 +2,7 @@
 use Rattle.std.proofs.Common.{Bool, true, false, ◌≡◌, ℕ, zero, suc, ◌-◌, List, [], ◌∷◌, Option, Some, None, inl, inr}
 use Rattle.std.specs.Prelude.{if◌then◌else◌, nat_lt, ◌==◌, ◌&&◌}
 use Rattle.dw_leb.specs.Part.{Part, ◌then◌, judged, optional, refused}
-use Rattle.dw_leb.specs.declared.errors.Reason.TheVariants.{Truncated, BadVersion, BadUnitType, BadAddressSize, NoRoot, TooDeep, SecondRoot}
+use Rattle.dw_leb.specs.declared.errors.Reason.TheVariants.{Truncated, BadUnitType, BadAddressSize, NoRoot, TooDeep, SecondRoot}
 use Rattle.dw_leb.specs.declared.order.Order.{Order}
 use Rattle.dw_leb.specs.declared.order.Format.{Format}
 use Rattle.dw_leb.specs.Number.{offset_size, Unsigned, uleb, fixed}
@@ -11,10 +11,11 @@ use Rattle.dw_form.specs.Form.{attribute}
 use Rattle.dw_abbrev.specs.Table.{Pair, Table, is_null, declared}
 use Rattle.dw_tree.specs.Tree.{Forest, Body, values, declared_pairs, declares_children, unless_declared, bad_root, bad_child, body, children, tree, nesting, nulls, not_null, MoreBreaks, PaddingBreaks}
 use Rattle.dw_header.specs.declared.versions.Versions.{Versions}
-use Rattle.dw_header.specs.declared.versions.Versions.TheVariants.{Five, FourAndFive}
 use Rattle.dw_header.specs.Header.{added_sizes, numbers, bad_version_under, bad_type, bad_address_size, five_part, four_part, fields_behind, fields_under}
 use Rattle.dw_unit.specs.Unit.{EntriesBreak}
-use Rattle.dw_feed.specs.NeverTruncated.{NeverTruncated, Judges, After_never_truncated, then_never_truncated, judged_never_truncated, nothing_never_truncated, refused_never_truncated, optional_never_truncated, repeated_never_truncated, Short_never_truncated, uleb_never_truncated, attribute_never_truncated, refuses_unless}
+use Rattle.dw_feed.specs.Moments.{Judges, refuses_unless}
+use Rattle.dw_feed.specs.HeaderMoments.{version_judges}
+use Rattle.dw_feed.specs.NeverTruncated.{NeverTruncated, After_never_truncated, then_never_truncated, judged_never_truncated, nothing_never_truncated, refused_never_truncated, optional_never_truncated, repeated_never_truncated, Short_never_truncated, uleb_never_truncated, attribute_never_truncated}
 
 -- ---- headers
 
@@ -44,15 +45,6 @@ behind_never_truncated : (order : Order) (format : Format) (four : Bool) → Nev
 behind_never_truncated order format true = four_never_truncated order format
 behind_never_truncated order format false = five_never_truncated order format
 
-version_judges : (versions : Versions) → Judges (bad_version_under versions)
-version_judges Five v = refuses_unless (v == 5) BadVersion (λ e. cc)
-version_judges FourAndFive v = by (v == 5) (v == 4)
-  where
-    by : (b c : Bool) → (if b then None else (if c then None else Some BadVersion)) ≡ Some Truncated → ⊥
-    by true c h = cc
-    by false true h = cc
-    by false false h = cc
-
 pub fields_never_truncated : (versions : Versions) (order : Order) (format : Format) → NeverTruncated (fields_under versions order format).Break
 fields_never_truncated versions order format =
     then_never_truncated (judged (fixed order 2) (bad_version_under versions)) (λ version. fields_behind order format (version == 4)) (judged_never_truncated (fixed order 2) (bad_version_under versions) (Short_never_truncated 2) (version_judges versions)) λ version.
@@ -68,14 +60,14 @@ undeclared : (d : Option _) → unless_declared d ≡ Some Truncated → ⊥
 undeclared None h = cc
 undeclared (Some d) h = cc
 
-root_judges : (t : Table) → Judges (bad_root t)
+pub root_judges : (t : Table) → Judges (bad_root t)
 root_judges t code = by (is_null code)
   where
     by : (v : Bool) → (if v then Some NoRoot else unless_declared (declared t code.value)) ≡ Some Truncated → ⊥
     by true h = cc
     by false h = undeclared (declared t code.value) h
 
-child_judges : (t : Table) (room : Bool) → Judges (bad_child t room)
+pub child_judges : (t : Table) (room : Bool) → Judges (bad_child t room)
 child_judges t room code = by (is_null code) room
   where
     by : (v w : Bool) → (if v then None else (if w then unless_declared (declared t code.value) else Some TooDeep)) ≡ Some Truncated → ⊥
