@@ -8,3 +8,4 @@ pub mod UnitNeverTruncated
 pub mod CodeMoments
 pub mod Feed
 pub mod Laws
+pub mod OtherVersions
