@@ -9,3 +9,8 @@ pub mod CodeMoments
 pub mod Feed
 pub mod Laws
 pub mod OtherVersions
+pub mod Progress
+pub mod PlaceBytes
+pub mod BodyFeed
+pub mod HeadAnswers
+pub mod HeldCounts
