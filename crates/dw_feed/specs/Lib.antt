@@ -14,3 +14,12 @@ pub mod PlaceBytes
 pub mod BodyFeed
 pub mod HeadAnswers
 pub mod HeldCounts
+pub mod FieldPlace
+pub mod BreaksBehind
+pub mod PlaceBreaks
+pub mod NextPlace
+pub mod FieldFound
+pub mod NextField
+pub mod UnitAtPlace
+pub mod FieldReader
+pub mod FieldOutcomes
