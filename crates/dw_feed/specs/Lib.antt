@@ -23,3 +23,13 @@ pub mod NextField
 pub mod UnitAtPlace
 pub mod FieldReader
 pub mod FieldOutcomes
+pub mod FeedInvariant
+pub mod FeedAnswers
+pub mod PlainFeed
+pub mod FeedSteps
+pub mod EveryCut
+pub mod PlainHeadFeed
+pub mod PartialValues
+pub mod RowBytes
+pub mod PlaceRows
+pub mod HeldBounds
