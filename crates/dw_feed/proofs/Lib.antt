@@ -1,2 +1,5 @@
 pub mod Cut
 pub mod Taking
+mod Samples
+mod BodyFeedRows
+mod HeadFeedRows
