@@ -26,7 +26,7 @@ use Rattle.dw_unit.specs.DecideUnit.{unit_fault, fault_stays}
 use Rattle.dw_unit.specs.ReadUnit.{Fault}
 use Rattle.dw_feed.specs.Feed.{escape, InField, IsField, FieldRefused, UnitHeld}
 use Rattle.dw_feed.specs.Laws.{HoldsUnit}
-use Rattle.dw_feed.specs.Moments.{refuses_where, refuses_unless}
+use Rattle.dw_leb.specs.Moments.{refuses_where, refuses_unless}
 use Rattle.dw_feed.specs.UnitNeverTruncated.{fields_never_truncated, entries_never_truncated}
 
 abbrev length_bytes : Order → Format × ℕ → List ℕ

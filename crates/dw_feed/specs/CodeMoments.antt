@@ -5,8 +5,8 @@ use Rattle.dw_leb.specs.Reader.{checked}
 use Rattle.dw_leb.specs.ReadNumber.{read_uleb}
 use Rattle.dw_abbrev.specs.Table.{Table, is_null}
 use Rattle.dw_tree.specs.Tree.{bad_root, bad_child, not_null}
-use Rattle.dw_feed.specs.Moments.{HasMoment, checked_moment, refuses_unless}
-use Rattle.dw_feed.specs.NumberMoments.{leb_moment, uleb_has}
+use Rattle.dw_leb.specs.Moments.{HasMoment, checked_moment, refuses_unless}
+use Rattle.dw_leb.specs.NumberMoments.{leb_moment, uleb_has}
 use Rattle.dw_feed.specs.UnitNeverTruncated.{root_judges, child_judges}
 
 pub root_code_has : (t : Table) → HasMoment (checked read_uleb (bad_root t)) leb_moment

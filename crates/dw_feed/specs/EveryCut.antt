@@ -15,7 +15,7 @@ use Rattle.dw_header.specs.Header.{Header}
 use Rattle.dw_header.specs.Laws.{HasHeaderBytes}
 use Rattle.dw_tree.specs.Tree.{bad_root, Tree}
 use Rattle.dw_unit.specs.Unit.{WholeUnit}
-use Rattle.dw_feed.specs.Moments.{IsCut}
+use Rattle.dw_leb.specs.Moments.{IsCut}
 use Rattle.dw_feed.specs.NextField.{nothing_of, next_has}
 use Rattle.dw_feed.specs.FieldReader.{PlaceBehind}
 use Rattle.dw_feed.specs.Progress.{Progress}

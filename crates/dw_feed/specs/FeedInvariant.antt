@@ -16,8 +16,8 @@ use Rattle.dw_tree.specs.Tree.{Forest, none}
 use Rattle.dw_tree.specs.Spelling.{tree_bytes}
 use Rattle.dw_tree.specs.Place.{Frame, Place}
 use Rattle.dw_unit.specs.Unit.{left_behind, UnitBreaksUnder}
-use Rattle.dw_feed.specs.HeaderMoments.{header_front_waits}
-use Rattle.dw_feed.specs.ByteLists.{front_is_bytes}
+use Rattle.dw_header.specs.HeaderMoments.{header_front_waits}
+use Rattle.dw_leb.specs.ByteLists.{front_is_bytes}
 use Rattle.dw_feed.specs.PlaceBytes.{place_bytes}
 use Rattle.dw_feed.specs.FieldPlace.{PlaceFits}
 use Rattle.dw_feed.specs.NextPlace.{bytes_at}

@@ -12,8 +12,8 @@ use Rattle.dw_header.specs.Laws.{HasHeaderBytes}
 use Rattle.dw_tree.specs.Tree.{Tree, Forest, none, more}
 use Rattle.dw_tree.specs.Place.{Frame, UnfinishedEntry}
 use Rattle.dw_unit.specs.Unit.{bytes_of, UnitFits, left_behind}
-use Rattle.dw_feed.specs.Moments.{IsCut, HasMoment, fewer_or_enough, there, front_stands}
-use Rattle.dw_feed.specs.ByteLists.{front_is_bytes, joined_are_bytes}
+use Rattle.dw_leb.specs.Moments.{IsCut, HasMoment, fewer_or_enough, there, front_stands}
+use Rattle.dw_leb.specs.ByteLists.{front_is_bytes, joined_are_bytes}
 use Rattle.dw_feed.specs.PlaceBytes.{place_bytes}
 use Rattle.dw_feed.specs.FieldPlace.{PlaceFits}
 use Rattle.dw_feed.specs.NextField.{nothing_of, read_next, next_moment, next_has, GoesOn}

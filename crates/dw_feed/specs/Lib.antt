@@ -1,14 +1,8 @@
-pub mod Moments
-pub mod NumberMoments
-pub mod ByteLists
-pub mod FormMoments
-pub mod HeaderMoments
 pub mod NeverTruncated
 pub mod UnitNeverTruncated
 pub mod CodeMoments
 pub mod Feed
 pub mod Laws
-pub mod OtherVersions
 pub mod Progress
 pub mod PlaceBytes
 pub mod BodyFeed
@@ -30,6 +24,5 @@ pub mod FeedSteps
 pub mod EveryCut
 pub mod PlainHeadFeed
 pub mod PartialValues
-pub mod RowBytes
 pub mod PlaceRows
 pub mod HeldBounds

@@ -12,7 +12,7 @@ use Rattle.dw_form.specs.declared.shape.Ctx.{Ctx}
 use Rattle.dw_form.specs.declared.shape.Shape.{Shape}
 use Rattle.dw_form.specs.declared.shape.Shape.TheVariants as shapes
 use Rattle.dw_form.specs.Form.{Value, shape, constant, shaped, shaped_if, formed, bad_inner, by_indirection, attribute}
-use Rattle.dw_feed.specs.Moments.{Judges, refuses_where, refuses_unless}
+use Rattle.dw_leb.specs.Moments.{Judges, refuses_where, refuses_unless}
 
 -- bytes that reach the unit's end don't break as cut by the input's end
 abbrev pub NeverTruncated : Breaks → Type 0

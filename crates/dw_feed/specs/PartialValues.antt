@@ -16,8 +16,8 @@ use Rattle.dw_form.specs.StoredView.{text_or_block}
 use Rattle.dw_abbrev.specs.Table.{Pair}
 use Rattle.dw_tree.specs.Place.{PartialValue}
 use Rattle.dw_tree.specs.Steps.{partial_attribute, first_bytes, longer}
-use Rattle.dw_feed.specs.NumberMoments.{is_zero, text_wants}
-use Rattle.dw_feed.specs.FormMoments.{shaped_moment, shaped_moment_if, formed_moment, attribute_moment, block_wants, uleb_block_wants, named_wants, plain_wants}
+use Rattle.dw_leb.specs.NumberMoments.{is_zero, text_wants}
+use Rattle.dw_form.specs.FormMoments.{shaped_moment, shaped_moment_if, formed_moment, attribute_moment, block_wants, uleb_block_wants, named_wants, plain_wants}
 use Rattle.dw_feed.specs.BodyFeed.{first_form, count_bytes, count_if, partial_taken}
 
 -- ---- a partial value with all its bytes: what was taken of it, with what ends it, is its spelling

@@ -10,7 +10,7 @@ use Rattle.dw_tree.specs.Row.{branch_row, all_rows, rows_bytes}
 use Rattle.dw_tree.specs.Place.{Frame, rows_before}
 use Rattle.dw_tree.specs.Steps.{unfinished_bytes}
 use Rattle.dw_unit.specs.Draft.{Drafted, drafted_size}
-use Rattle.dw_feed.specs.RowBytes.{bytes_append, rows_are_forest}
+use Rattle.dw_tree.specs.RowBytes.{bytes_append, rows_are_forest}
 use Rattle.dw_feed.specs.PlaceBytes.{open_bytes, place_bytes}
 
 module _ (k : Ctx) (t : Table) where

@@ -16,9 +16,9 @@ use Rattle.dw_header.specs.HeaderPlace.{HeaderAtUnder, HeaderFaultUnder, header_
 use Rattle.dw_header.specs.ReadHeader.{Heading, read_head}
 use Rattle.dw_header.specs.HeaderFound.{HeadSays, head_says, head_size}
 use Rattle.dw_header.specs.Laws.{heading, head_take, headers_are_spelled, headers_are_accepted}
-use Rattle.dw_feed.specs.Moments.{IsCut, fewer_or_enough, front_stands}
-use Rattle.dw_feed.specs.HeaderMoments.{head_moment, head_has, head_waits}
-use Rattle.dw_feed.specs.ByteLists.{front_is_bytes}
+use Rattle.dw_leb.specs.Moments.{IsCut, fewer_or_enough, front_stands}
+use Rattle.dw_header.specs.HeaderMoments.{head_moment, head_has, head_waits}
+use Rattle.dw_leb.specs.ByteLists.{front_is_bytes}
 use Rattle.dw_feed.specs.Progress.{Progress}
 use Rattle.dw_feed.specs.Progress as answers
 use Rattle.dw_feed.specs.HeadAnswers.{HeadStandsFirst, SaysHead}

@@ -18,7 +18,7 @@ use Rattle.dw_tree.specs.Spelling.{tree_bytes}
 use Rattle.dw_tree.specs.Structure.{spelled_by_structure}
 use Rattle.dw_tree.specs.Place.{Frame, UnfinishedEntry}
 use Rattle.dw_unit.specs.Unit.{WholeUnit, body_bytes, bytes_of, UnitFits, left_behind, EntriesBreak, UnitBreaksUnder}
-use Rattle.dw_feed.specs.Moments.{IsCut, front_cut}
+use Rattle.dw_leb.specs.Moments.{IsCut, front_cut}
 use Rattle.dw_feed.specs.PlaceBytes.{place_bytes}
 use Rattle.dw_feed.specs.FieldPlace.{PaddingFits, PlaceFits, NextBreaks}
 use Rattle.dw_feed.specs.PlaceBreaks.{place_breaks}

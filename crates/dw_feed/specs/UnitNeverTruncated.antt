@@ -13,8 +13,8 @@ use Rattle.dw_tree.specs.Tree.{Forest, Body, values, declared_pairs, declares_ch
 use Rattle.dw_header.specs.declared.versions.Versions.{Versions}
 use Rattle.dw_header.specs.Header.{added_sizes, numbers, bad_version_under, bad_type, bad_address_size, five_part, four_part, fields_behind, fields_under}
 use Rattle.dw_unit.specs.Unit.{EntriesBreak}
-use Rattle.dw_feed.specs.Moments.{Judges, refuses_unless}
-use Rattle.dw_feed.specs.HeaderMoments.{version_judges}
+use Rattle.dw_leb.specs.Moments.{Judges, refuses_unless}
+use Rattle.dw_header.specs.HeaderMoments.{version_judges}
 use Rattle.dw_feed.specs.NeverTruncated.{NeverTruncated, After_never_truncated, then_never_truncated, judged_never_truncated, nothing_never_truncated, refused_never_truncated, optional_never_truncated, repeated_never_truncated, Short_never_truncated, uleb_never_truncated, attribute_never_truncated}
 
 -- ---- headers

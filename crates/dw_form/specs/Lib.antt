@@ -11,3 +11,4 @@ pub mod Head
 pub mod HeadLent
 pub mod HeadFront
 pub mod HeadSize
+pub mod FormMoments

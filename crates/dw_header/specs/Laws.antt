@@ -53,6 +53,10 @@ SpelledHeadersStandUnder versions = (h : Header) (n : ℕ) (rest : List ℕ) →
 abbrev pub HeadersAreAccepted : Type 0
 HeadersAreAccepted = (versions : Versions) (order : Order) (bytes : List ℕ) (h : Header) (n : ℕ) → HeaderAtUnder versions order bytes h n → Accepts versions h.kind
 
+-- and it stands there wherever that version is accepted
+abbrev pub HeadersStandWhereAccepted : Type 0
+HeadersStandWhereAccepted = (versions others : Versions) (order : Order) (bytes : List ℕ) (h : Header) (n : ℕ) → HeaderAtUnder versions order bytes h n → Accepts others h.kind → HeaderAtUnder others order bytes h n
+
 -- a header breaks at one place, for one reason
 abbrev pub OneHeaderBreakUnder : Versions → Type 0
 OneHeaderBreakUnder versions = (order : Order) (bytes : List ℕ) (m n : ℕ) (r q : Reason) → HeaderBreaksUnder versions order bytes m r → HeaderBreaksUnder versions order bytes n q → (m ≡ n) × (r ≡ q)
@@ -178,8 +182,22 @@ headers_are_spelled versions order bytes h n (order_is, rest, headed) = (
     split_of : (h : Header) (n : ℕ) (bytes rest : List ℕ) → SpelledHeaderUnder versions h.order bytes h.format n (fields_of h) rest → bytes ≡ header_bytes h n ++ rest
     split_of h n bytes rest g = g.split ∙ sym (append_assoc (length_bytes h.order h.format n) (field_bytes h.order h) rest)
 
+abbrev in_order : Order → Header → Header
+in_order order h = record { order = order; format = h.format; kind = h.kind; address_size = h.address_size; abbrev_offset = h.abbrev_offset }
+
 pub headers_are_accepted : HeadersAreAccepted
-headers_are_accepted versions order bytes h n stands = header_accepted versions (record { order = order; format = h.format; kind = h.kind; address_size = h.address_size; abbrev_offset = h.abbrev_offset }) stands.2.fields_fit
+headers_are_accepted versions order bytes h n stands = header_accepted versions (in_order order h) stands.2.fields_fit
+
+pub spelled_where_accepted : (versions others : Versions) (order : Order) (bytes : List ℕ) (h : Header) (n : ℕ) (rest : List ℕ) → Accepts others h.kind → SpelledHeaderUnder versions order bytes h.format n (fields_of h) rest → SpelledHeaderUnder others order bytes h.format n (fields_of h) rest
+spelled_where_accepted versions others order bytes h n rest accepts there = record {
+  length_fits = there.length_fits;
+  fields_fit = fields_fit others (in_order order h) accepts (header_fits versions (in_order order h) there.fields_fit);
+  split = there.split;
+  within = there.within;
+}
+
+pub headers_stand_where_accepted : HeadersStandWhereAccepted
+headers_stand_where_accepted versions others order bytes h n stands accepts = (stands.0, stands.1, spelled_where_accepted versions others order bytes h n stands.1 accepts stands.2)
 
 pub one_header_break : (versions : Versions) → OneHeaderBreakUnder versions
 one_header_break versions order bytes m n r q one two = same_break m n r q (sym (head_fault versions order bytes m r one) ∙ head_fault versions order bytes n q two)

@@ -6,3 +6,4 @@ pub mod FittingHeaders
 pub mod DecideHeader
 pub mod HeaderFound
 pub mod Laws
+pub mod HeaderMoments

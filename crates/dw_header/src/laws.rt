@@ -6,11 +6,12 @@ ghost use Rattle.dw_leb.specs.declared.order.Order.{Order};
 ghost use Rattle.dw_leb.specs.declared.order.Format.{Format};
 ghost use Rattle.dw_header.specs.declared.versions.Versions.{Versions};
 ghost use Rattle.dw_header.specs.Header.{fields, fields_under};
-ghost use Rattle.dw_header.specs.Laws.{NoHeaderBegins, HeadersAreAccepted, HeadersAreSpelled, HeadersAreSpelledUnder, SpelledHeadersStand, SpelledHeadersStandUnder, OneHeaderBreak, OneHeaderBreakUnder, NoHeaderAndBreak, NoHeaderAndBreakUnder, HeaderOrBreak, HeaderOrBreakUnder, HeaderBreaksStay, HeaderBreaksStayUnder, HeadersStay, HeadersStayUnder};
+ghost use Rattle.dw_header.specs.Laws.{NoHeaderBegins, HeadersAreAccepted, HeadersStandWhereAccepted, HeadersAreSpelled, HeadersAreSpelledUnder, SpelledHeadersStand, SpelledHeadersStandUnder, OneHeaderBreak, OneHeaderBreakUnder, NoHeaderAndBreak, NoHeaderAndBreakUnder, HeaderOrBreak, HeaderOrBreakUnder, HeaderBreaksStay, HeaderBreaksStayUnder, HeadersStay, HeadersStayUnder};
 
 /// One spelling: no spelling of a header's fields begins another, nor with the initial length before
 /// them (sections 7.2.2 and 7.5.1) in one byte order. So each header with its unit_length has one
-/// spelling, and a header of a version that is accepted is at the front exactly where that spelling is.
+/// spelling, and a header of a version that is accepted is at the front exactly where that spelling is,
+/// whatever other versions are accepted.
 pub fn one_spelling()
     ensures fields { (order : Order) (format : Format) → NoneBegins (fields order format) }
     ensures none_begins { NoHeaderBegins }
@@ -18,6 +19,7 @@ pub fn one_spelling()
     ensures stand { SpelledHeadersStand }
     ensures fields_under { (versions : Versions) (order : Order) (format : Format) → NoneBegins (fields_under versions order format) }
     ensures accepted { HeadersAreAccepted }
+    ensures stand_where_accepted { HeadersStandWhereAccepted }
     ensures spelled_under { (versions : Versions) → HeadersAreSpelledUnder versions }
     ensures stand_under { (versions : Versions) → SpelledHeadersStandUnder versions }
 {}

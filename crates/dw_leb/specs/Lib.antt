@@ -19,3 +19,6 @@ pub mod View
 pub mod ItemSteps
 pub mod PartlyWritten
 pub mod Outcomes
+pub mod Moments
+pub mod NumberMoments
+pub mod ByteLists

@@ -28,7 +28,7 @@ use Rattle.dw_tree.proofs.Bytes.{stand_at}
 use Rattle.std.specs.List.{AllByRecursion}
 use Rattle.dw_tree.specs.Tree.{Forest}
 use Rattle.dw_tree.specs.Lent.{chain}
-use Rattle.dw_tree.proofs.Bytes.{bytes_append}
+use Rattle.dw_tree.specs.RowBytes.{bytes_append}
 use Rattle.dw_tree.proofs.Rows.{below_leaf, next_offset, same_length, RowIs, row_is, ends_chain, ends_of, offset_behind, chain_step, null_chain, end_chain, children_at, entries_step, entries_skip, no_entries}
 
 abbrev pub node_at : TreeAt → ℕ → Tree

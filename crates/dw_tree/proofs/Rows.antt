@@ -16,7 +16,8 @@ use Rattle.dw_tree.specs.Flat.{code_in, row_values_at, kind_token, token_at, tok
 use Rattle.dw_tree.specs.DraftInvariant.{EntryFits, TokenFits, LevelFits, level_after, levels_after, Stand, EndsAt, HaveEnds}
 use Rattle.dw_tree.specs.Lent.{StandsAt, chain_at, chain, chain_from, children_of, below, code_of, values_in, own_bytes, offset_of_row, level_of_row, entry_at_row, entries_in, entries_from}
 use Rattle.dw_tree.proofs.Fits.{levels_append}
-use Rattle.dw_tree.proofs.Bytes.{bytes_append, rows_are_tree, take_to, take_one, levels_positive, level_behind, stand_at}
+use Rattle.dw_tree.specs.RowBytes.{bytes_append, rows_are_tree}
+use Rattle.dw_tree.proofs.Bytes.{take_to, take_one, levels_positive, level_behind, stand_at}
 
 pub drop_length : {X : Type 0} (xs : List X) → drop (length xs) xs ≡ []
 drop_length [] = refl

@@ -13,7 +13,7 @@ use Rattle.dw_tree.specs.Spelling.{entry_bytes}
 use Rattle.dw_tree.specs.Row.{Token, null_row, rows_of, all_rows, row_bytes, rows_bytes}
 use Rattle.dw_tree.specs.DraftInvariant.{TokenFits, Stand, level_after}
 use Rattle.dw_tree.proofs.Fits.{AllFit, stand_fit, fit_front, fit_back, tree_level, first_level, one_and_more}
-use Rattle.dw_tree.proofs.Bytes.{bytes_append}
+use Rattle.dw_tree.specs.RowBytes.{bytes_append}
 
 -- each row has a spelling
 pub all_tokens_fit : (k : Ctx) (t : Table) (at depth : ℕ) (rows : List Row) (xs : List Token) → Stand k t at depth rows xs → AllByRecursion (TokenFits k t) xs

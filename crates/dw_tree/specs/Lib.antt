@@ -24,3 +24,4 @@ pub mod Ends
 pub mod Emptiness
 pub mod PoolBytes
 pub mod Sizes
+pub mod RowBytes

@@ -104,6 +104,16 @@ UnitsAreAccepted = (versions : Versions) (abbreviations : List ℕ) (order : Ord
 abbrev pub UnitsStandWhereAccepted : Type 0
 UnitsStandWhereAccepted = (versions others : Versions) (abbreviations : List ℕ) (order : Order) (bytes : List ℕ) (u : WholeUnit) (size : ℕ) → UnitAtUnder versions abbreviations order bytes u size → Accepts others u.header.kind → UnitAtUnder others abbreviations order bytes u size
 
+-- where a header stands at the front, a unit breaks alike wherever the header's version is accepted
+abbrev pub UnitsBreakWhereAccepted : Type 0
+UnitsBreakWhereAccepted = (versions others : Versions) (order : Order) (t : Table) (bytes : List ℕ) (h : Header) (n : ℕ) → HeaderAtUnder versions order bytes h n → Accepts others h.kind
+    → (offset : ℕ) (reason : Reason) → UnitBreaksUnder versions order t bytes offset reason → UnitBreaksUnder others order t bytes offset reason
+
+-- and so it has the same fault over a section
+abbrev pub UnitsFailWhereAccepted : Type 0
+UnitsFailWhereAccepted = (versions others : Versions) (order : Order) (abbreviations bytes : List ℕ) (h : Header) (n : ℕ) → HeaderAtUnder versions order bytes h n → Accepts others h.kind
+    → (s : SectionId) (offset : ℕ) (reason : Reason) → FailsUnder versions order abbreviations bytes s offset reason → FailsUnder others order abbreviations bytes s offset reason
+
 -- ---- the round trip
 
 -- the bytes of a unit are read as that unit, whatever follows, where its table stands

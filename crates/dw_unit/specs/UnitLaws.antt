@@ -4,7 +4,7 @@ use Rattle.std.proofs.lemmas.List.{length-append, take_at}
 use Rattle.dw_leb.specs.declared.errors.Reason.{Reason}
 use Rattle.dw_leb.specs.declared.errors.Reason.TheVariants.{Truncated}
 use Rattle.dw_leb.specs.declared.errors.SectionId.{SectionId}
-use Rattle.dw_leb.specs.declared.errors.SectionId.TheVariants.{Info}
+use Rattle.dw_leb.specs.declared.errors.SectionId.TheVariants.{Info, Abbrev}
 use Rattle.dw_leb.specs.declared.order.Order.{Order}
 use Rattle.dw_leb.specs.Reader.{Outcome, Found, Broken}
 use Rattle.dw_leb.specs.Decide.{found_value, broken_value, found_broken}
@@ -12,11 +12,12 @@ use Rattle.dw_abbrev.specs.Table.{Table, TableAt}
 use Rattle.dw_header.specs.declared.versions.Versions.{Versions}
 use Rattle.dw_header.specs.Header.{Header, Accepts, versions_for}
 use Rattle.dw_header.specs.FittingHeaders.{accepted}
-use Rattle.dw_header.specs.Laws.{one_header, headers_stay}
-use Rattle.dw_unit.specs.Unit.{WholeUnit, body_bytes, bytes_of, UnitFits, UnitFrontUnder, UnitBreaksUnder, UnitAtUnder, FailsUnder}
+use Rattle.dw_header.specs.HeaderPlace.{HeaderAtUnder, HeaderBreaksUnder}
+use Rattle.dw_header.specs.Laws.{one_header, no_header_and_break, headers_stay, spelled_where_accepted, headers_stand_where_accepted}
+use Rattle.dw_unit.specs.Unit.{WholeUnit, body_bytes, bytes_of, UnitFits, UnitFrontUnder, BodyBreaksUnder, UnitBreaksUnder, UnitAtUnder, FailsUnder}
 use Rattle.dw_unit.specs.ReadUnit.{Answer, Unit, Fault, read_over, read_unit_under}
 use Rattle.dw_unit.specs.DecideUnit.{OverSays, over_take, over_fault, over_says, unit_header, unit_take, unit_fault, unit_says, AnswerSays, break_fails, front_stays, break_stays}
-use Rattle.dw_unit.specs.Laws.{OneUnitOverUnder, OneBreakUnder, NotUnitAndBreakUnder, UnitOrBreakUnder, FrontsAreCutUnder, OneUnitUnder, OneFaultUnder, NotBothUnder, SomeAnswerUnder, FrontsAreTruncatedUnder, WrittenIsRead, WrittenIsReadUnder, ReadIsWrittenUnder, UnitsAreAccepted, UnitsStandWhereAccepted}
+use Rattle.dw_unit.specs.Laws.{OneUnitOverUnder, OneBreakUnder, NotUnitAndBreakUnder, UnitOrBreakUnder, FrontsAreCutUnder, OneUnitUnder, OneFaultUnder, NotBothUnder, SomeAnswerUnder, FrontsAreTruncatedUnder, WrittenIsRead, WrittenIsReadUnder, ReadIsWrittenUnder, UnitsAreAccepted, UnitsStandWhereAccepted, UnitsBreakWhereAccepted, UnitsFailWhereAccepted}
 
 -- ---- over a table
 
@@ -110,6 +111,34 @@ units_stand_where_accepted versions others abbreviations order bytes u size h ac
   table_at = h.table_at;
   front = record { order_is = h.front.order_is; accepted = accepts; fits = h.front.fits; rest = h.front.rest; split = h.front.split; is_size = h.front.is_size };
 }
+
+module _ (versions others : Versions) (order : Order) (bytes : List ℕ) (h : Header) (n : ℕ) (stands : HeaderAtUnder versions order bytes h n) (accepts : Accepts others h.kind) where
+  accepts_too : (g : Header) (m : ℕ) → HeaderAtUnder versions order bytes g m → Accepts others g.kind
+  accepts_too g m there = subst (λ (x : Header). Accepts others x.kind) (one_header versions order bytes h g n m stands there).0 accepts
+
+  body_where_accepted : (IsTable : ℕ → Table → Type 0) (offset : ℕ) (reason : Reason) → BodyBreaksUnder versions order IsTable bytes offset reason → BodyBreaksUnder others order IsTable bytes offset reason
+  body_where_accepted IsTable offset reason b = record {
+    header = b.header;
+    count = b.count;
+    stands = (b.stands.0, b.stands.1, spelled_where_accepted versions others order bytes b.header b.count b.stands.1 (accepts_too b.header b.count b.stands) b.stands.2);
+    table = b.table;
+    is_table = b.is_table;
+    own = b.own;
+    sum = b.sum;
+    breaks = b.breaks;
+  }
+
+  header_never_breaks : (offset : ℕ) (reason : Reason) → HeaderBreaksUnder versions order bytes offset reason → HeaderBreaksUnder others order bytes offset reason
+  header_never_breaks offset reason one = absurd (no_header_and_break versions order bytes h n offset reason stands one)
+
+pub units_break_where_accepted : UnitsBreakWhereAccepted
+units_break_where_accepted versions others order t bytes h n stands accepts offset reason (inl one) = inl (header_never_breaks versions others order bytes h n stands accepts offset reason one)
+units_break_where_accepted versions others order t bytes h n stands accepts offset reason (inr two) = inr (body_where_accepted versions others order bytes h n stands accepts (λ _ s. s ≡ t) offset reason two)
+
+pub units_fail_where_accepted : UnitsFailWhereAccepted
+units_fail_where_accepted versions others order abbreviations bytes h n stands accepts Info offset reason (inl one) = inl (header_never_breaks versions others order bytes h n stands accepts offset reason one)
+units_fail_where_accepted versions others order abbreviations bytes h n stands accepts Info offset reason (inr two) = inr (body_where_accepted versions others order bytes h n stands accepts (TableAt abbreviations) offset reason two)
+units_fail_where_accepted versions others order abbreviations bytes h n stands accepts Abbrev offset reason (g, m, there, breaks) = (g, m, headers_stand_where_accepted versions others order bytes g m there (accepts_too versions others order bytes h n stands accepts g m there), breaks)
 
 -- ---- the round trip
 

@@ -7,7 +7,7 @@ ghost use Rattle.dw_form.specs.declared.shape.Ctx.{Ctx};
 ghost use Rattle.dw_header.specs.declared.versions.Versions.{Versions};
 ghost use Rattle.dw_abbrev.specs.Table.{Table};
 ghost use Rattle.dw_tree.specs.Tree.{tree};
-ghost use Rattle.dw_unit.specs.Laws.{OneUnitOver, OneUnitOverUnder, OneBreak, OneBreakUnder, NotUnitAndBreak, NotUnitAndBreakUnder, UnitOrBreak, UnitOrBreakUnder, FrontsStay, FrontsStayUnder, BreaksStay, BreaksStayUnder, FrontsAreCut, FrontsAreCutUnder, UnitsOverSections, UnitsOverSectionsUnder, BreaksAreFaults, BreaksAreFaultsUnder, OneUnit, OneUnitUnder, OneFault, OneFaultUnder, NotBoth, NotBothUnder, SomeAnswer, SomeAnswerUnder, UnitsStay, UnitsStayUnder, FaultsStay, FaultsStayUnder, FrontsAreTruncated, FrontsAreTruncatedUnder, WrittenIsRead, WrittenIsReadUnder, ReadIsWritten, ReadIsWrittenUnder, UnitsAreAccepted, UnitsStandWhereAccepted, LentByPaths, LentAreSpelled, OneOffset, OffsetsRise, OnePath};
+ghost use Rattle.dw_unit.specs.Laws.{OneUnitOver, OneUnitOverUnder, OneBreak, OneBreakUnder, NotUnitAndBreak, NotUnitAndBreakUnder, UnitOrBreak, UnitOrBreakUnder, FrontsStay, FrontsStayUnder, BreaksStay, BreaksStayUnder, FrontsAreCut, FrontsAreCutUnder, UnitsOverSections, UnitsOverSectionsUnder, BreaksAreFaults, BreaksAreFaultsUnder, OneUnit, OneUnitUnder, OneFault, OneFaultUnder, NotBoth, NotBothUnder, SomeAnswer, SomeAnswerUnder, UnitsStay, UnitsStayUnder, FaultsStay, FaultsStayUnder, FrontsAreTruncated, FrontsAreTruncatedUnder, WrittenIsRead, WrittenIsReadUnder, ReadIsWritten, ReadIsWrittenUnder, UnitsAreAccepted, UnitsStandWhereAccepted, UnitsBreakWhereAccepted, UnitsFailWhereAccepted, LentByPaths, LentAreSpelled, OneOffset, OffsetsRise, OnePath};
 
 /// One spelling: no spelling of a tree of entries begins another, and bytes have at most one unit at
 /// the front, of one size: over a table that is handed in, and over an abbreviation section.
@@ -58,10 +58,13 @@ pub fn outcomes_are_stable()
 
 /// What is accepted judges the version alone: a unit at the front is of a version that is accepted, and it
 /// stands there wherever that version is. So what a caller who accepts version 5 alone reads, one who
-/// accepts version 4 too reads as well.
+/// accepts version 4 too reads as well. Behind a header at the front, a break of a unit or a fault is the same
+/// wherever the header's version is accepted.
 pub fn versions_judge_versions_alone()
     ensures accepted { UnitsAreAccepted }
     ensures stand { UnitsStandWhereAccepted }
+    ensures breaks { UnitsBreakWhereAccepted }
+    ensures faults { UnitsFailWhereAccepted }
 {}
 
 /// Where a header's table stands in the abbreviation section at the header's offset, a unit over that

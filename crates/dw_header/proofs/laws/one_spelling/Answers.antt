@@ -1,7 +1,7 @@
 use Rattle.dw_leb.specs.PartLaws.{one_front}
 use Rattle.dw_header.specs.declared.versions.Versions.TheVariants.{Five}
 use Rattle.dw_header.specs.DecideHeader.{fields_decides}
-use Rattle.dw_header.specs.Laws.{no_header_begins, headers_are_accepted, headers_are_spelled, spelled_headers_stand}
+use Rattle.dw_header.specs.Laws.{no_header_begins, headers_are_accepted, headers_stand_where_accepted, headers_are_spelled, spelled_headers_stand}
 use Rattle.dw_header.proofs.laws.one_spelling.Goals as goal
 
 pub returns-clause-fields : goal.returns-clause-fields
@@ -21,6 +21,9 @@ returns-clause-fields_under c = λ versions order format. one_front _ _ (fields_
 
 pub returns-clause-accepted : goal.returns-clause-accepted
 returns-clause-accepted c = headers_are_accepted
+
+pub returns-clause-stand_where_accepted : goal.returns-clause-stand_where_accepted
+returns-clause-stand_where_accepted c = headers_stand_where_accepted
 
 pub returns-clause-spelled_under : goal.returns-clause-spelled_under
 returns-clause-spelled_under c = headers_are_spelled

@@ -18,9 +18,9 @@ use Rattle.dw_header.specs.HeaderPlace.{HeaderBreaksUnder, header_bytes}
 use Rattle.dw_header.specs.ReadHeader.{read_numbers, five_from, read_five, four_from, read_four, read_behind, read_fields, header_from, Heading, head_fields, head_length, read_head}
 use Rattle.dw_header.specs.HeaderFound.{HeadSays, head_says}
 use Rattle.dw_header.specs.Laws.{HasHeaderBytes, head_take, spelled_headers_stand}
-use Rattle.dw_feed.specs.Moments.{Moment, IsCut, HasMoment, Judges, refuses_unless, at_no_byte, moment_then, bounded, bounded_by, returned_moment, made_moment, checked_moment, then_moment, bounded_moment, same_moment, front_cut}
-use Rattle.dw_feed.specs.NumberMoments.{count_moment, length_moment, fixed_has, length_has}
-use Rattle.dw_feed.specs.ByteLists.{front_is_bytes, joined_are_bytes, fixed_is_bytes, length_is_bytes}
+use Rattle.dw_leb.specs.Moments.{Moment, IsCut, HasMoment, Judges, refuses_unless, at_no_byte, moment_then, bounded, bounded_by, returned_moment, made_moment, checked_moment, then_moment, bounded_moment, same_moment, front_cut}
+use Rattle.dw_leb.specs.NumberMoments.{count_moment, length_moment, fixed_has, length_has}
+use Rattle.dw_leb.specs.ByteLists.{front_is_bytes, joined_are_bytes, fixed_is_bytes, length_is_bytes}
 
 -- ---- the fields behind the version
 

@@ -12,7 +12,7 @@ use Rattle.dw_leb.specs.Number.{unended, unmarked, above_u64, outside_i64, exten
 use Rattle.dw_leb.specs.Reader.{Outcome, Found, Broken, Reader, ◌and_then◌, made, checked, read_optional}
 use Rattle.dw_leb.specs.ReadNumber.{undigits, ordered, bytes_of, read_fixed, before_zero, text_outcome, read_text, groups_of, groups_outcome, read_groups, uleb_from, sleb_from, read_uleb, read_sleb, initial_from, read_length_field, read_length}
 use Rattle.dw_leb.specs.Decide.{Decides, found, broken, found_value}
-use Rattle.dw_feed.specs.Moments.{Moment, IsCut, HasMoment, Judges, fewer_or_enough, refuses_where, refuses_unless, behind_moment, moment_then, optional_when, made_moment, checked_moment, one_field_moment, then_moment, optional_moment}
+use Rattle.dw_leb.specs.Moments.{Moment, IsCut, HasMoment, Judges, fewer_or_enough, refuses_where, refuses_unless, behind_moment, moment_then, optional_when, made_moment, checked_moment, one_field_moment, then_moment, optional_moment}
 
 -- ---- n bytes: none where they pass the unit's end, else all
 

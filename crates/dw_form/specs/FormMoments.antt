@@ -15,8 +15,8 @@ use Rattle.dw_form.specs.declared.shape.Shape.{Shape}
 use Rattle.dw_form.specs.declared.shape.Shape.TheVariants as shapes
 use Rattle.dw_form.specs.Form.{shape, Uleb, Sleb, Block, Text, Present, Implicit, bad_inner}
 use Rattle.dw_form.specs.ReadForm.{fixed_from, read_constant, read_shaped, read_shaped_if, read_formed, read_indirect, direct_from, indirect_from, read_by_indirection, read_attribute}
-use Rattle.dw_feed.specs.Moments.{Moment, HasMoment, Judges, refuses_where, at_no_byte, moment_then, returned_moment, failing_moment, made_moment, checked_moment, one_field_moment, then_moment}
-use Rattle.dw_feed.specs.NumberMoments.{count_moment, leb_moment, text_moment, count_has, fixed_has, uleb_has, sleb_has, text_has, count_wants, count_faults, behind_spelled}
+use Rattle.dw_leb.specs.Moments.{Moment, HasMoment, Judges, refuses_where, at_no_byte, moment_then, returned_moment, failing_moment, made_moment, checked_moment, one_field_moment, then_moment}
+use Rattle.dw_leb.specs.NumberMoments.{count_moment, leb_moment, text_moment, count_has, fixed_has, uleb_has, sleb_has, text_has, count_wants, count_faults, behind_spelled}
 
 abbrev pub shaped_moment : Ctx → Shape → Moment
 shaped_moment k (shapes.Fixed n) = count_moment n
