@@ -24,5 +24,6 @@ pub mod FeedSteps
 pub mod EveryCut
 pub mod PlainHeadFeed
 pub mod PartialValues
+pub mod PartialSteps
 pub mod PlaceRows
 pub mod HeldBounds
