@@ -1,5 +1,6 @@
 -- One step of a feed in its piece: the field at its place wants more, is refused, or is found and leads to the next place. A loop
--- over fields keeps At, from kept_at on; its ways out are more_says, fault_says and done_says, and it goes on by goes_on.
+-- over fields keeps At, from kept_at on; its ways out are more_says, fault_says, done_says and no_memory_says, and it goes on by
+-- goes_on, and by at_same_field within a field.
 use Rattle.std.proofs.Common.{◌≡◌, ◌≢◌, ◌⊎◌, ℕ, zero, suc, ◌+◌, ◌-◌, ◌<◌, ◌≤◌, List, [], ◌∷◌, ◌++◌, length, take, drop, Option, Some, None, refl, sym, ap, subst, ◌∙◌, append_assoc, arith, inl, inr, length-append, length-drop, take-append-drop}
 use Rattle.std.proofs.lemmas.List.{length-take-le, take_at}
 use Rattle.std.proofs.Math.Seq.{take-append-add}
@@ -20,8 +21,8 @@ use Rattle.dw_feed.specs.NextField.{nothing_of, read_next, next_moment, next_has
 use Rattle.dw_feed.specs.UnitAtPlace.{unit_done}
 use Rattle.dw_feed.specs.FieldReader.{PlaceBehind, is_next, Follows, follows}
 use Rattle.dw_feed.specs.Progress as answers
-use Rattle.dw_feed.specs.BodyFeed.{PartialUnit, Reading, Refused, Finished, started, part, before, stream, SameUnit, StandsFirst, SaysMore, SaysDone, FeedsBody}
-use Rattle.dw_feed.specs.FeedInvariant.{Keeps, Kept, IsUnended, body_so_far, frames_of, chain_of, context, left, next, wanted, found_first, moved_to, keeps_on}
+use Rattle.dw_feed.specs.BodyFeed.{PartialUnit, Reading, Refused, Finished, started, part, before, stream, SameUnit, StandsFirst, SaysMore, SaysDone, FeedsBody, EndsBody}
+use Rattle.dw_feed.specs.FeedInvariant.{Keeps, Kept, IsUnended, body_so_far, frames_of, chain_of, context, left, next, wanted, cut_at_field, refused, found_first, moved_to, keeps_on}
 use Rattle.dw_feed.specs.FeedAnswers.{says_more, says_fault, same_first}
 use Rattle.dw_feed.specs.PlainFeed.{field_at, holding, Ran, ran, fault_at, whole_at, root_if_whole, unit_with, held_before, held_wanted, held_keeps, keeps_held}
 
@@ -185,6 +186,10 @@ module _ (g0 : PartialUnit) (piece : List ℕ) where
         (at.keeps, fit, inl wants),
       )
 
+  -- NoMemory: whatever was taken
+  pub no_memory_says : (over : ℕ) → over ≤ length piece → RanSays (ran answers.NoMemory Finished over)
+  no_memory_says over within = (within, omega arith, tt)
+
   -- Fault: the field is refused for good
   pub fault_says : (g : PartialUnit) (bytes : List ℕ) → At g bytes → wanted g bytes ≤ length bytes → (offset : ℕ) (reason : Reason) → next g bytes ≡ Broken offset reason
       → RanSays (ran (answers.Fault (fault_at g reason)) (Refused (fault_at g reason)) (length bytes - wanted g bytes))
@@ -297,3 +302,13 @@ kept_at g piece kept fit = at_first g piece kept.0 (joined_are_bytes (part g) pi
     by : (length (part g) < wanted g (part g)) ⊎ (g ≡ started g.header g.unit_length g.table) → (length (part g) < wanted g (part g)) ⊎ (part g ≡ [])
     by (inl short) = inl short
     by (inr new) = inr (ap part new)
+
+-- ---- where the input ends
+
+-- of the field at the place fewer bytes are there than it wants: it is cut off there
+pub waiting_ends : (g : PartialUnit) → Keeps g → AreBytes (part g) → length (part g) < wanted g (part g) → EndsBody (Reading g) (Some (fault_at g Truncated))
+waiting_ends g keeps fit short = cut_at_field g keeps (part g) fit short
+
+-- what is there of it is refused
+pub refused_ends : (g : PartialUnit) → Keeps g → AreBytes (part g) → (own : ℕ) (reason : Reason) → field_at g (part g) (left g) ≡ Broken own reason → EndsBody (Reading g) (Some (fault_at g reason))
+refused_ends g keeps fit own reason e = refused g keeps (part g) own reason fit (next_is g (part g) (Broken own reason) e)
