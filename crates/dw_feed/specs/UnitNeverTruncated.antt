@@ -44,7 +44,7 @@ behind_never_truncated : (order : Order) (format : Format) (four : Bool) → Nev
 behind_never_truncated order format true = four_never_truncated order format
 behind_never_truncated order format false = five_never_truncated order format
 
-version_judges : (versions : Versions) → Judges (bad_version_under versions)
+pub version_judges : (versions : Versions) → Judges (bad_version_under versions)
 version_judges Five v = refuses_unless (v == 5) BadVersion (λ e. cc)
 version_judges FourAndFive v = by (v == 5) (v == 4)
   where
