@@ -13,8 +13,8 @@ use Rattle.dw_header.specs.declared.kind.Kind.TheVariants.{Four}
 use Rattle.dw_tree.specs.Tree.{Tree, nesting, leaf}
 use Rattle.dw_tree.specs.Spelling.{tree_bytes}
 use Rattle.dw_unit.specs.Unit.{WholeUnit}
-use Rattle.dw_feed.specs.Progress.{Progress}
-use Rattle.dw_feed.specs.Progress as answers
+use Rattle.dw_feed.specs.declared.progress.Progress.{Progress}
+use Rattle.dw_feed.specs.declared.progress.Progress.TheVariants as answers
 use Rattle.dw_feed.specs.BodyFeed.{PartialUnit, Reading, started, part, before, stream}
 use Rattle.dw_feed.specs.FeedInvariant.{next, wanted}
 use Rattle.dw_feed.specs.HeldCounts.{held_by}

@@ -8,7 +8,7 @@ use Rattle.dw_header.specs.declared.kind.Kind.TheVariants.{Four}
 use Rattle.dw_header.specs.declared.versions.Versions.TheVariants.{Five, FourAndFive}
 use Rattle.dw_header.specs.ReadHeader.{read_fields}
 use Rattle.dw_header.specs.HeaderMoments.{head_moment}
-use Rattle.dw_feed.specs.Progress as answers
+use Rattle.dw_feed.specs.declared.progress.Progress.TheVariants as answers
 use Rattle.dw_feed.specs.PlainHeadFeed.{feed_head}
 use Rattle.dw_feed.proofs.Samples.{headed, header, header_is, older_header_is}
 

@@ -1,5 +1,6 @@
 pub mod Cut
 pub mod Taking
+pub mod HeadSteps
 mod Samples
 mod BodyFeedRows
 mod HeadFeedRows

@@ -17,8 +17,8 @@ use Rattle.dw_tree.specs.Place.{PartialValue, UnfinishedEntry, Place, nowhere}
 use Rattle.dw_tree.specs.Steps.{partial_in, next_pairs}
 use Rattle.dw_unit.specs.Unit.{WholeUnit, bytes_of, UnitFits, UnitBreaksUnder}
 use Rattle.dw_feed.specs.PlaceBytes.{place_bytes}
-use Rattle.dw_feed.specs.Progress.{Progress}
-use Rattle.dw_feed.specs.Progress as answers
+use Rattle.dw_feed.specs.declared.progress.Progress.{Progress}
+use Rattle.dw_feed.specs.declared.progress.Progress.TheVariants as answers
 
 -- ---- the value of a feed
 

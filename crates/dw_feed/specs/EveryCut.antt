@@ -18,8 +18,8 @@ use Rattle.dw_unit.specs.Unit.{WholeUnit}
 use Rattle.dw_leb.specs.Moments.{IsCut}
 use Rattle.dw_feed.specs.NextField.{nothing_of, next_has}
 use Rattle.dw_feed.specs.FieldReader.{PlaceBehind}
-use Rattle.dw_feed.specs.Progress.{Progress}
-use Rattle.dw_feed.specs.Progress as answers
+use Rattle.dw_feed.specs.declared.progress.Progress.{Progress}
+use Rattle.dw_feed.specs.declared.progress.Progress.TheVariants as answers
 use Rattle.dw_feed.specs.BodyFeed.{PartialUnit, BodyFeed, Reading, Refused, Finished, started, part, FeedsBody, EndsBody}
 use Rattle.dw_feed.specs.FeedInvariant.{Kept, frames_of, chain_of, context, left, next, wanted, refused, start_keeps, moved_to}
 use Rattle.dw_feed.specs.PlainFeed.{field_at, holding, Ran, ran, fault_at, root_if_whole, when_whole, by_field, if_short, run, feed_plainly, held_part, held_wanted}

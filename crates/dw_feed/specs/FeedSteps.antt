@@ -20,7 +20,7 @@ use Rattle.dw_feed.specs.FieldPlace.{PlaceFits}
 use Rattle.dw_feed.specs.NextField.{nothing_of, read_next, next_moment, next_has, GoesOn}
 use Rattle.dw_feed.specs.UnitAtPlace.{unit_done}
 use Rattle.dw_feed.specs.FieldReader.{PlaceBehind, is_next, Follows, follows}
-use Rattle.dw_feed.specs.Progress as answers
+use Rattle.dw_feed.specs.declared.progress.Progress.TheVariants as answers
 use Rattle.dw_feed.specs.BodyFeed.{PartialUnit, Reading, Refused, Finished, started, part, before, stream, SameUnit, StandsFirst, SaysMore, SaysDone, FeedsBody, EndsBody}
 use Rattle.dw_feed.specs.FeedInvariant.{Keeps, Kept, IsUnended, body_so_far, frames_of, chain_of, context, left, next, wanted, cut_at_field, refused, found_first, moved_to, keeps_on}
 use Rattle.dw_feed.specs.FeedAnswers.{says_more, says_fault, same_first}

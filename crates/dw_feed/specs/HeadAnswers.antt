@@ -7,8 +7,8 @@ use Rattle.dw_header.specs.declared.versions.Versions.{Versions}
 use Rattle.dw_header.specs.Header.{Header, Accepts}
 use Rattle.dw_header.specs.HeaderPlace.{HeaderBreaksUnder, HeaderFaultUnder, header_bytes}
 use Rattle.dw_header.specs.Laws.{HasHeaderBytes}
-use Rattle.dw_feed.specs.Progress.{Progress}
-use Rattle.dw_feed.specs.Progress as answers
+use Rattle.dw_feed.specs.declared.progress.Progress.{Progress}
+use Rattle.dw_feed.specs.declared.progress.Progress.TheVariants as answers
 
 -- the input's end cuts the bytes off in a header
 abbrev pub HeadIsCutOff : Versions → Order → List ℕ → Type 0

@@ -3,7 +3,9 @@ pub mod UnitNeverTruncated
 pub mod CodeMoments
 pub mod Feed
 pub mod Laws
-pub mod Progress
+pub mod HeaderCut
+pub mod HeadFeed
+pub mod HeadFeedView
 pub mod PlaceBytes
 pub mod BodyFeed
 pub mod HeadAnswers

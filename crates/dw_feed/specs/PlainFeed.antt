@@ -16,8 +16,8 @@ use Rattle.dw_feed.specs.PlaceBytes.{place_bytes}
 use Rattle.dw_feed.specs.FieldPlace.{PaddingFits, PlaceFits}
 use Rattle.dw_feed.specs.NextField.{next_moment, GoesOn}
 use Rattle.dw_feed.specs.FieldReader.{PlaceBehind, read_field}
-use Rattle.dw_feed.specs.Progress.{Progress}
-use Rattle.dw_feed.specs.Progress as answers
+use Rattle.dw_feed.specs.declared.progress.Progress.{Progress}
+use Rattle.dw_feed.specs.declared.progress.Progress.TheVariants as answers
 use Rattle.dw_feed.specs.BodyFeed.{PartialUnit, BodyFeed, Reading, Refused, Finished, value_part, part, before}
 use Rattle.dw_feed.specs.FeedInvariant.{Keeps, frames_of, chain_of, context, left, wanted, moved_to}
 

@@ -19,8 +19,8 @@ use Rattle.dw_header.specs.Laws.{heading, head_take, headers_are_spelled, header
 use Rattle.dw_leb.specs.Moments.{IsCut, fewer_or_enough, front_stands}
 use Rattle.dw_header.specs.HeaderMoments.{head_moment, head_has, head_waits}
 use Rattle.dw_leb.specs.ByteLists.{front_is_bytes}
-use Rattle.dw_feed.specs.Progress.{Progress}
-use Rattle.dw_feed.specs.Progress as answers
+use Rattle.dw_feed.specs.declared.progress.Progress.{Progress}
+use Rattle.dw_feed.specs.declared.progress.Progress.TheVariants as answers
 use Rattle.dw_feed.specs.HeadAnswers.{HeadStandsFirst, SaysHead}
 use Rattle.dw_feed.specs.FeedSteps.{cut_end}
 

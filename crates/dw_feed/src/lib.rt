@@ -3,8 +3,12 @@
 #![tactic(auto)]
 
 mod bytes;
+mod head;
 pub mod laws;
+mod progress;
 mod reader;
 
 pub use bytes::unit_bytes;
+pub use head::HeadFeed;
+pub use progress::Progress;
 pub use reader::{read_unit_from, read_unit_from_as};

@@ -15,6 +15,8 @@ mod entries;
 #[cfg(test)]
 mod feeds;
 #[cfg(test)]
+mod head_feeds;
+#[cfg(test)]
 mod kinds;
 #[cfg(test)]
 mod large;

@@ -1,0 +1,59 @@
+-- A feed of a header, as its callers see it, and what each of its calls answers.
+use Rattle.std.specs.Prelude.{◌≡◌, ◌≢◌, ℕ, ◌≤◌, List, [], ◌∷◌, ◌++◌, length, take, Option, Some, None}
+use Rattle.dw_leb.specs.declared.errors.Reason.TheVariants.{Truncated}
+use Rattle.dw_leb.specs.declared.errors.Fault.{Fault as TheFault}
+use Rattle.dw_leb.specs.declared.order.Order.{Order}
+use Rattle.dw_header.specs.declared.versions.Versions.{Versions}
+use Rattle.dw_header.specs.Header.{Header, Accepts}
+use Rattle.dw_header.specs.HeaderPlace.{HeaderFaultUnder, header_bytes}
+use Rattle.dw_header.specs.Laws.{HasHeaderBytes}
+use Rattle.dw_feed.specs.declared.progress.Progress.{Progress}
+use Rattle.dw_feed.specs.declared.progress.Progress.TheVariants.{More, Done, Fault, NoMemory, Spent}
+use Rattle.dw_feed.specs.HeaderCut.{IsCut}
+
+-- What was answered so far: nothing yet, and these bytes were taken; a fault; or the header.
+pub data HeadState : Type 0 where
+  Reading : List ℕ → HeadState
+  Refused : TheFault → HeadState
+  Finished : HeadState
+
+pub record HeadFeed : Type 0 where
+  pub order : Order
+  pub versions : Versions
+  pub state : HeadState
+
+-- a header with its unit_length, both of this order and these versions, and no byte more
+pub record IsHeader (versions : Versions) (order : Order) (bytes : List ℕ) (h : Header) (n : ℕ) : Type 0 where
+  pub order_is : h.order ≡ order
+  pub accepted : Accepts versions h.kind
+  pub fits : HasHeaderBytes h n
+  pub all : bytes ≡ header_bytes h n
+
+-- Without their last byte the bytes are cut off. So no fewer bytes are a header, or have another break.
+abbrev pub IsFirst : Versions → Order → List ℕ → Type 0
+IsFirst versions order bytes = (front : List ℕ) (b : ℕ) → bytes ≡ front ++ b ∷ [] → IsCut versions order front
+
+-- What a call answers that is handed a piece, and takes n bytes of it. All bytes that were taken, in all calls, are called the
+-- stream. While more is needed the whole piece was taken, and the stream is cut off. A header is the whole stream, and a fault
+-- is the stream's, and both are answered with the first byte that shows them. After a fault the fault is answered again, after a
+-- header that there is no more, and nothing is taken.
+abbrev pub Answers : Versions → Order → HeadState → List ℕ → ℕ → Progress (Header × ℕ) → HeadState → Type 0
+Answers versions order (Reading old) piece n More (Reading new) = (n ≡ length piece) × (new ≡ old ++ piece) × IsCut versions order new
+Answers versions order (Reading old) piece n (Done x) Finished = (n ≤ length piece) × IsHeader versions order (old ++ take n piece) x.0 x.1 × IsFirst versions order (old ++ take n piece)
+Answers versions order (Reading old) piece n (Fault f) (Refused g) = (n ≤ length piece) × (g ≡ f) × HeaderFaultUnder versions order (old ++ take n piece) f × (f.reason ≢ Truncated) × IsFirst versions order (old ++ take n piece)
+Answers versions order (Refused f) piece n (Fault g) (Refused h) = (n ≡ 0) × (g ≡ f) × (h ≡ f)
+Answers versions order Finished piece n Spent Finished = n ≡ 0
+Answers versions order old piece n answer new = ⊥
+
+-- the feed stays one of the same headers
+pub record FeedsHead (old : HeadFeed) (piece : List ℕ) (n : ℕ) (answer : Progress (Header × ℕ)) (new : HeadFeed) : Type 0 where
+  pub order_is : new.order ≡ old.order
+  pub versions_is : new.versions ≡ old.versions
+  pub answers : Answers old.versions old.order old.state piece n answer new.state
+
+-- Where the input ends, the stream is cut off there; a fault that was answered is answered again.
+abbrev pub Ends : Versions → Order → HeadState → Option TheFault → Type 0
+Ends versions order (Reading taken) (Some f) = HeaderFaultUnder versions order taken f × (f.reason ≡ Truncated)
+Ends versions order (Refused f) (Some g) = g ≡ f
+Ends versions order Finished None = Unit {0}
+Ends versions order state answer = ⊥

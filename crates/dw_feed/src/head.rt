@@ -1,0 +1,177 @@
+//! A header that is pushed in pieces.
+ghost use Rattle.std.specs.Prelude.{◌≡◌, ◌++◌, ◌∷◌, []};
+ghost use Rattle.dw_leb.specs.declared.errors.Reason.TheVariants.{Truncated};
+ghost use Rattle.dw_header.specs.declared.versions.Versions.TheVariants.{Five};
+ghost use Rattle.dw_header.specs.HeaderPlace.{HeaderFaultUnder};
+ghost use Rattle.dw_feed.specs.HeaderCut.{IsCut};
+ghost use Rattle.dw_feed.specs.HeadFeed.{FeedsHead, Answers, Ends, Reading};
+ghost use Rattle.dw_feed.specs.HeadFeedView.{state_of, ended, JudgedAs, ShowsHead};
+
+use crate::progress::Progress;
+use arrayvec::ArrayVec;
+use dw_header::{Header, Versions, read_header_as};
+use dw_leb::{Fault, Order, Reason};
+use std::marker::Model;
+
+/// The most bytes of a header, with its initial length: those of a type unit in the 64-bit format (section
+/// 7.5.1).
+const MOST: usize = 40;
+
+/// What ended a feed.
+#[derive(Clone, Copy, Debug)]
+pub(crate) enum Answered {
+    Fault(Fault),
+    Header,
+}
+
+/// A unit's header that is pushed in pieces of any size, with the initial length before it (sections 7.2.2
+/// and 7.5.1). The header, or its fault, is answered at the first byte that shows it. No memory is taken.
+#[derive(Debug, Drop)]
+pub struct HeadFeed {
+    order: Order,
+    versions: Versions,
+    /// The bytes that were taken.
+    taken: ArrayVec<u8, MOST>,
+    answered: Option<Answered>,
+}
+
+impl Model for HeadFeed {
+    ghost use Rattle.dw_feed.specs.HeadFeed.{HeadFeed as TheFeed};
+    ghost use Rattle.dw_feed.specs.HeadFeedView.{state_of, IsFeed};
+
+    ghost Value = { TheFeed };
+
+    ghost view = { λ a. record { order = a.order; versions = a.versions; state = state_of a.taken.items a.answered } };
+
+    ghost invariant = { λ a. IsFeed a.versions a.order (state_of a.taken.items a.answered) };
+}
+
+impl HeadFeed {
+    /// A feed of a header of version 5, in this byte order, that took no bytes yet.
+    pub fn new(order: Order) -> HeadFeed
+        ensures { result ≡ record { order = order; versions = Five; state = Reading [] } }
+    {
+        HeadFeed::new_as(order, Versions::Five)
+    }
+
+    /// The same of a header of one of these versions.
+    pub fn new_as(order: Order, versions: Versions) -> HeadFeed
+        ensures { result ≡ record { order = order; versions = versions; state = Reading [] } }
+    {
+        HeadFeed {
+            order,
+            versions,
+            taken: ArrayVec::new(),
+            answered: None,
+        }
+    }
+
+    /// Takes bytes of the piece, and answers how many, and what they show together with those that were
+    /// taken before.
+    ///
+    /// - `More`: the whole piece was taken, and a longer one is needed.
+    /// - `Done`: the header and its unit_length, as `read_header_as` gives them. The last byte that was taken
+    ///   is the header's last.
+    /// - `Fault`: the header's fault, in `.debug_info`, never `Truncated`; its offset counts from the first
+    ///   byte of all. The last byte that was taken shows it first. Every later call answers it again.
+    /// - `Spent`, after the header was answered.
+    /// - never `NoMemory`.
+    pub fn feed(&mut self, piece: &[u8]) -> (usize, Progress<(Header, u64)>)
+        ensures { FeedsHead self.old piece.now result.0 result.1 self.new }
+    {
+        match self.answered {
+            None => {
+                let (count, answer) = take_head(self.order, self.versions, &mut self.taken, piece);
+                self.answered = ended(&answer);
+                (count, answer)
+            }
+            Some(Answered::Fault(fault)) => (0, Progress::Fault(fault)),
+            Some(Answered::Header) => (0, Progress::Spent),
+        }
+    }
+
+    /// The end of the input: the fault of a header of which bytes are missing (`Truncated`), or the fault
+    /// that was answered before. None where the header was.
+    pub fn end(self) -> Option<Fault>
+        ensures { Ends self.versions self.order self.state result }
+    {
+        match self.answered {
+            None => Some(cut_off(self.order, self.versions, self.taken.as_slice())),
+            Some(Answered::Fault(fault)) => Some(fault),
+            Some(Answered::Header) => None,
+        }
+    }
+}
+
+/// Takes bytes of the piece while more are needed, and answers how many.
+fn take_head(
+    order: Order,
+    versions: Versions,
+    taken: &mut ArrayVec<u8, MOST>,
+    piece: &[u8],
+) -> (usize, Progress<(Header, u64)>)
+    requires { IsCut versions order taken.old.items }
+    ensures { Answers versions order (Reading taken.old.items) piece.now result.0 result.1 (state_of taken.new.items (ended result.1)) }
+{
+    let mut left = piece;
+    while let Some((byte, rest)) = left.split_first() {
+        left = rest;
+        match take_byte(order, versions, taken, *byte) {
+            Progress::More => {}
+            answer => return (piece.len() - left.len(), answer),
+        }
+    }
+    (piece.len(), Progress::More)
+}
+
+/// Takes one byte.
+fn take_byte(
+    order: Order,
+    versions: Versions,
+    taken: &mut ArrayVec<u8, MOST>,
+    byte: u8,
+) -> Progress<(Header, u64)>
+    requires { IsCut versions order taken.old.items }
+    ensures shows { ShowsHead versions order (taken.old.items ++ byte ∷ []) result }
+    ensures taken { taken.new.items ≡ taken.old.items ++ byte ∷ [] }
+{
+    taken.push(byte);
+    match read_header_as(order, versions, taken.as_slice()) {
+        Ok(head) => Progress::Done(head),
+        Err(fault) => judged(fault),
+    }
+}
+
+/// The fault of a header of which bytes are missing.
+fn cut_off(order: Order, versions: Versions, taken: &[u8]) -> Fault
+    requires { IsCut versions order taken.now }
+    ensures fault { HeaderFaultUnder versions order taken.now result }
+    ensures cut { result.reason ≡ Truncated }
+{
+    match read_header_as(order, versions, taken) {
+        Ok(_) => unreachable!(),
+        Err(fault) => fault,
+    }
+}
+
+/// A fault, unless more bytes may mend it.
+fn judged(fault: Fault) -> Progress<(Header, u64)>
+    ensures { JudgedAs fault result }
+{
+    if fault.reason == Reason::Truncated {
+        Progress::More
+    } else {
+        Progress::Fault(fault)
+    }
+}
+
+/// What an answer leaves.
+fn ended(answer: &Progress<(Header, u64)>) -> Option<Answered>
+    ensures { result ≡ ended answer.now }
+{
+    match answer {
+        Progress::More => None,
+        Progress::Fault(fault) => Some(Answered::Fault(*fault)),
+        _ => Some(Answered::Header),
+    }
+}
