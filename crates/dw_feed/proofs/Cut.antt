@@ -1,11 +1,11 @@
 -- Bytes that are held of a unit have the same unit, or the same first fault, as all that the reader had left.
 use Rattle.std.proofs.Common.{◌≡◌, ◌≢◌, ℕ, ◌+◌, ◌-◌, ◌^◌, ◌<◌, ◌≤◌, Bool, true, false, List, [], ◌∷◌, ◌++◌, length, take, drop, Option, Some, None, refl, sym, ap, subst, ◌∙◌, append_assoc, append-nil, arith, inl, inr, ◌⊎◌}
-use Rattle.std.specs.Prelude.{nat_lt, nat_le, ◌==◌, ◌&&◌}
+use Rattle.std.specs.Prelude.{◌==◌}
 use Rattle.std.proofs.lemmas.Bool.{eqb-true}
 use Rattle.std.proofs.lemmas.List.{length-append, take-append-drop}
 use Rattle.std.specs.Io.KnownBytes.{IsAtEnd}
 use Rattle.dw_leb.specs.declared.errors.Reason.{Reason}
-use Rattle.dw_leb.specs.declared.errors.Reason.TheVariants.{Truncated, ReservedLength, LengthTooBig}
+use Rattle.dw_leb.specs.declared.errors.Reason.TheVariants.{Truncated}
 use Rattle.dw_leb.specs.declared.errors.SectionId.{SectionId}
 use Rattle.dw_leb.specs.declared.errors.SectionId.TheVariants.{Info}
 use Rattle.dw_leb.specs.declared.order.Order.{Order}
@@ -13,7 +13,7 @@ use Rattle.dw_leb.specs.declared.order.Order.TheVariants.{Little, Big}
 use Rattle.dw_leb.specs.declared.order.Format.{Format}
 use Rattle.dw_leb.specs.declared.order.Format.TheVariants.{Dwarf32, Dwarf64}
 use Rattle.dw_leb.specs.Part.{Taken, optional}
-use Rattle.dw_leb.specs.Number.{length_field, initial_length, length_limit, length_size, fixed, fixed_bytes, reserved, too_far}
+use Rattle.dw_leb.specs.Number.{length_field, initial_length, length_limit, length_size, fixed, fixed_bytes}
 use Rattle.dw_leb.specs.PartLaws.{one_front, no_break}
 use Rattle.dw_leb.specs.Digits.{fixed_decides, length-fixed}
 use Rattle.dw_leb.specs.DecideNumber.{initial_length_decides, initial-size, initial_within}
@@ -26,7 +26,7 @@ use Rattle.dw_unit.specs.DecideUnit.{unit_fault, fault_stays}
 use Rattle.dw_unit.specs.ReadUnit.{Fault}
 use Rattle.dw_feed.specs.Feed.{escape, InField, IsField, FieldRefused, UnitHeld}
 use Rattle.dw_feed.specs.Laws.{HoldsUnit}
-use Rattle.dw_leb.specs.Moments.{refuses_where, refuses_unless}
+use Rattle.dw_leb.specs.NumberMoments.{reserved_judges, too_far_judges}
 use Rattle.dw_feed.specs.UnitNeverTruncated.{fields_never_truncated, entries_never_truncated}
 
 abbrev length_bytes : Order → Format × ℕ → List ℕ
@@ -120,12 +120,6 @@ held_unit versions order abbreviations bytes new u size held h = by held
 
 -- ---- length fields
 
-reserved_judges : (x : ℕ) → reserved x ≡ Some Truncated → ⊥
-reserved_judges x = refuses_where (nat_le 0xfffffff0 x && nat_lt x 0xffffffff) ReservedLength (λ e. cc)
-
-far_judges : (x : Format × ℕ) → too_far 0 x ≡ Some Truncated → ⊥
-far_judges x = refuses_unless (nat_lt (0 + length_size x.0 + x.1) (2 ^ 63)) LengthTooBig (λ e. cc)
-
 escape_is : (order : Order) → fixed_bytes order 4 0xffffffff ≡ escape
 escape_is Little = refl
 escape_is Big = refl
@@ -147,7 +141,7 @@ second_never_truncated order bytes rest own a true e is split size lim enough re
 
 -- a whole length field is not cut
 pub field_never_truncated : (order : Order) (bytes : List ℕ) (offset : ℕ) (reason : Reason) → IsField bytes → (initial_length order 0).Break bytes length_limit offset reason → reason ≢ Truncated
-field_never_truncated order bytes offset reason is (inr far) = λ e. far_judges far.value (far.refused ∙ ap (λ (r : Reason). Some r) e)
+field_never_truncated order bytes offset reason is (inr far) = λ e. too_far_judges 0 far.value (far.refused ∙ ap (λ (r : Reason). Some r) e)
 field_never_truncated order bytes offset reason is (inl (here, own, inl (inl short))) = elim short.1 [
   | inl past ↦ λ e. cc
   | inr cut ↦ elim is [

@@ -1,8 +1,8 @@
 -- Where the input holds the whole unit, its header, its entries and its padding are not cut by the input's end.
 use Rattle.std.proofs.Common.{Bool, true, false, ◌≡◌, ℕ, zero, suc, ◌-◌, List, [], ◌∷◌, Option, Some, None, inl, inr}
-use Rattle.std.specs.Prelude.{if◌then◌else◌, nat_lt, ◌==◌, ◌&&◌}
+use Rattle.std.specs.Prelude.{if◌then◌else◌, ◌==◌}
 use Rattle.dw_leb.specs.Part.{Part, ◌then◌, judged, optional, refused}
-use Rattle.dw_leb.specs.declared.errors.Reason.TheVariants.{Truncated, BadUnitType, BadAddressSize, NoRoot, TooDeep, SecondRoot}
+use Rattle.dw_leb.specs.declared.errors.Reason.TheVariants.{Truncated, NoRoot, TooDeep, SecondRoot}
 use Rattle.dw_leb.specs.declared.order.Order.{Order}
 use Rattle.dw_leb.specs.declared.order.Format.{Format}
 use Rattle.dw_leb.specs.Number.{offset_size, Unsigned, uleb, fixed}
@@ -14,7 +14,7 @@ use Rattle.dw_header.specs.declared.versions.Versions.{Versions}
 use Rattle.dw_header.specs.Header.{added_sizes, numbers, bad_version_under, bad_type, bad_address_size, five_part, four_part, fields_behind, fields_under}
 use Rattle.dw_unit.specs.Unit.{EntriesBreak}
 use Rattle.dw_leb.specs.Moments.{Judges, refuses_unless}
-use Rattle.dw_header.specs.HeaderMoments.{version_judges}
+use Rattle.dw_header.specs.HeaderMoments.{type_judges, address_size_judges, version_judges}
 use Rattle.dw_feed.specs.NeverTruncated.{NeverTruncated, After_never_truncated, then_never_truncated, judged_never_truncated, nothing_never_truncated, refused_never_truncated, optional_never_truncated, repeated_never_truncated, Short_never_truncated, uleb_never_truncated, attribute_never_truncated}
 
 -- ---- headers
@@ -31,15 +31,15 @@ fields3 order format kind = judged (fixed order 1) bad_address_size then λ _. f
 
 five_never_truncated : (order : Order) (format : Format) → NeverTruncated (five_part order format).Break
 five_never_truncated order format =
-    then_never_truncated (judged (fixed order 1) bad_type) (fields3 order format) (judged_never_truncated (fixed order 1) bad_type (Short_never_truncated 1) (λ v. refuses_unless (nat_lt 0 v && nat_lt v 5) BadUnitType (λ e. cc))) λ kind.
-    then_never_truncated (judged (fixed order 1) bad_address_size) (λ _. fields4 order format kind) (judged_never_truncated (fixed order 1) bad_address_size (Short_never_truncated 1) (λ v. refuses_unless (nat_lt 0 v && nat_lt v 9) BadAddressSize (λ e. cc))) λ _.
+    then_never_truncated (judged (fixed order 1) bad_type) (fields3 order format) (judged_never_truncated (fixed order 1) bad_type (Short_never_truncated 1) type_judges) λ kind.
+    then_never_truncated (judged (fixed order 1) bad_address_size) (λ _. fields4 order format kind) (judged_never_truncated (fixed order 1) bad_address_size (Short_never_truncated 1) address_size_judges) λ _.
     then_never_truncated (fixed order (offset_size format)) (λ _. numbers order (added_sizes format kind)) (Short_never_truncated (offset_size format)) λ _.
     numbers_never_truncated order (added_sizes format kind)
 
 four_never_truncated : (order : Order) (format : Format) → NeverTruncated (four_part order format).Break
 four_never_truncated order format =
     then_never_truncated (fixed order (offset_size format)) (λ _. judged (fixed order 1) bad_address_size) (Short_never_truncated (offset_size format)) λ _.
-    judged_never_truncated (fixed order 1) bad_address_size (Short_never_truncated 1) (λ v. refuses_unless (nat_lt 0 v && nat_lt v 9) BadAddressSize (λ e. cc))
+    judged_never_truncated (fixed order 1) bad_address_size (Short_never_truncated 1) address_size_judges
 
 behind_never_truncated : (order : Order) (format : Format) (four : Bool) → NeverTruncated (fields_behind order format four).Break
 behind_never_truncated order format true = four_never_truncated order format

@@ -33,11 +33,17 @@ numbers_has order [] = returned_moment []
 numbers_has order (n ∷ ns) = made_moment (λ x. x.0 ∷ x.1) (read_fixed order n and_then λ _. read_numbers order ns) _
     (then_moment (read_fixed order n) (λ _. read_numbers order ns) (count_moment n) (λ _. numbers_moment order ns) (fixed_has order n) (λ _. numbers_has order ns))
 
+pub type_judges : Judges bad_type
+type_judges x = refuses_unless (nat_lt 0 x && nat_lt x 5) BadUnitType (λ e. cc)
+
+pub address_size_judges : Judges bad_address_size
+address_size_judges x = refuses_unless (nat_lt 0 x && nat_lt x 9) BadAddressSize (λ e. cc)
+
 type_has : (order : Order) → HasMoment (checked (read_fixed order 1) bad_type) (count_moment 1)
-type_has order = checked_moment (read_fixed order 1) bad_type (λ x. refuses_unless (nat_lt 0 x && nat_lt x 5) BadUnitType (λ e. cc)) (count_moment 1) (fixed_has order 1)
+type_has order = checked_moment (read_fixed order 1) bad_type type_judges (count_moment 1) (fixed_has order 1)
 
 address_size_has : (order : Order) → HasMoment (checked (read_fixed order 1) bad_address_size) (count_moment 1)
-address_size_has order = checked_moment (read_fixed order 1) bad_address_size (λ x. refuses_unless (nat_lt 0 x && nat_lt x 9) BadAddressSize (λ e. cc)) (count_moment 1) (fixed_has order 1)
+address_size_has order = checked_moment (read_fixed order 1) bad_address_size address_size_judges (count_moment 1) (fixed_has order 1)
 
 abbrev pub five_moment : Order → Format → Moment
 five_moment order format =

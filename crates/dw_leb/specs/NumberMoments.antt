@@ -304,10 +304,10 @@ text_has = scan_has is_zero before_zero text_size (λ b. []) (λ b front. b ∷ 
 abbrev pub length_moment : Order → Moment
 length_moment order = moment_then (checked (read_fixed order 4) reserved) (count_moment 4) (λ x. optional_when (x == 0xffffffff) (count_moment 8))
 
-reserved_judges : Judges reserved
+pub reserved_judges : Judges reserved
 reserved_judges x = refuses_where (nat_le 0xfffffff0 x && nat_lt x 0xffffffff) ReservedLength (λ e. cc)
 
-too_far_judges : (start : ℕ) → Judges (too_far start)
+pub too_far_judges : (start : ℕ) → Judges (too_far start)
 too_far_judges start x = refuses_unless (nat_lt (start + length_size x.0 + x.1) (2 ^ 63)) LengthTooBig (λ e. cc)
 
 pub length_field_has : (order : Order) → HasMoment (read_length_field order) (length_moment order)
