@@ -1,7 +1,6 @@
 -- A feed of a header, byte by byte.
-use Rattle.std.proofs.Common.{◌≡◌, ◌≢◌, ℕ, suc, ◌+◌, ◌≤◌, List, [], ◌∷◌, ◌++◌, length, take, refl, sym, ap, subst, ◌∙◌, append_assoc, append-nil, arith}
+use Rattle.std.proofs.Common.{◌≡◌, ◌≢◌, ℕ, suc, ◌+◌, ◌≤◌, List, [], ◌∷◌, ◌++◌, length, take, refl, sym, ap, subst, ◌∙◌, append_assoc, arith}
 use Rattle.std.proofs.lemmas.List.{length-append, take_at, same_from_push}
-use Rattle.dw_leb.specs.declared.errors.Reason.TheVariants.{Truncated}
 use Rattle.dw_leb.specs.declared.errors.Fault.{Fault as TheFault}
 use Rattle.dw_leb.specs.declared.order.Order.{Order}
 use Rattle.dw_header.specs.declared.versions.Versions.{Versions}
@@ -11,7 +10,7 @@ use Rattle.dw_header.specs.Laws.{headers_are_spelled, headers_are_accepted}
 use Rattle.dw_feed.specs.declared.progress.Progress.{Progress}
 use Rattle.dw_feed.specs.declared.progress.Progress.TheVariants.{More, Done, Fault, NoMemory, Spent}
 use Rattle.dw_feed.specs.HeaderCut.{IsCut, header_is_all}
-use Rattle.dw_feed.specs.HeadFeed.{HeadState, Reading, Refused, Finished, IsHeader, IsFirst, Answers}
+use Rattle.dw_feed.specs.HeadFeed.{Reading, IsHeader, IsFirst, Answers}
 use Rattle.dw_feed.specs.HeadFeedView.{state_of, ended, JudgedAs, ShowsHead}
 
 -- bytes of which the last one ends a header

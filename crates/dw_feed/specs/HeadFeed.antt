@@ -8,7 +8,7 @@ use Rattle.dw_header.specs.Header.{Header, Accepts}
 use Rattle.dw_header.specs.HeaderPlace.{HeaderFaultUnder, header_bytes}
 use Rattle.dw_header.specs.Laws.{HasHeaderBytes}
 use Rattle.dw_feed.specs.declared.progress.Progress.{Progress}
-use Rattle.dw_feed.specs.declared.progress.Progress.TheVariants.{More, Done, Fault, NoMemory, Spent}
+use Rattle.dw_feed.specs.declared.progress.Progress.TheVariants.{More, Done, Fault, Spent}
 use Rattle.dw_feed.specs.HeaderCut.{IsCut}
 
 -- What was answered so far: nothing yet, and these bytes were taken; a fault; or the header.

@@ -1,10 +1,10 @@
 -- A header that is cut off by the input's end has fewer than 40 bytes, and a proper front of a header is cut off.
 use Rattle.std.proofs.Common.{Bool, true, false, ◌≡◌, ◌≢◌, ◌⊎◌, ℕ, ◌+◌, ◌≤◌, ◌<◌, List, [], ◌∷◌, ◌++◌, length, take, drop, refl, sym, ap, subst, ◌∙◌, append_assoc, append-nil, arith, inl, inr}
-use Rattle.std.specs.Prelude.{if◌then◌else◌, ◌^◌, nat_lt, nat_le, ◌==◌, ◌&&◌}
+use Rattle.std.specs.Prelude.{if◌then◌else◌, ◌==◌}
 use Rattle.std.specs.List.{AllByRecursion}
 use Rattle.std.proofs.lemmas.List.{length-append, take-append-drop, take-append-le, take_at}
 use Rattle.dw_leb.specs.declared.errors.Reason.{Reason}
-use Rattle.dw_leb.specs.declared.errors.Reason.TheVariants.{Truncated, ReservedLength, LengthTooBig, BadUnitType, BadAddressSize}
+use Rattle.dw_leb.specs.declared.errors.Reason.TheVariants.{Truncated}
 use Rattle.dw_leb.specs.declared.order.Order.{Order}
 use Rattle.dw_leb.specs.declared.order.Format.{Format}
 use Rattle.dw_leb.specs.declared.order.Format.TheVariants.{Dwarf32, Dwarf64}
@@ -16,8 +16,9 @@ use Rattle.dw_header.specs.declared.versions.Versions.{Versions}
 use Rattle.dw_header.specs.Header.{Header, Accepts, numbers, added_sizes, bad_type, bad_address_size, bad_version_under, five_part, four_part, fields_behind, fields_under}
 use Rattle.dw_header.specs.HeaderPlace.{HeaderAtUnder, HeaderBreaksUnder, header_bytes}
 use Rattle.dw_header.specs.Laws.{HasHeaderBytes, headers_are_spelled, headers_are_accepted, spelled_headers_stand, no_header_begins, no_header_and_break, header_or_break, header_breaks_stay}
-use Rattle.dw_leb.specs.Moments.{Judges, refuses_unless, refuses_where}
-use Rattle.dw_header.specs.HeaderMoments.{version_judges}
+use Rattle.dw_leb.specs.Moments.{Judges}
+use Rattle.dw_leb.specs.NumberMoments.{reserved_judges, too_far_judges}
+use Rattle.dw_header.specs.HeaderMoments.{type_judges, address_size_judges, version_judges}
 
 -- what is cut off has fewer bytes than this
 abbrev CutBelow : ℕ → Breaks → Type 0
@@ -82,18 +83,12 @@ added_most format kind = by (kind == 2) (kind == 4)
     by false true = omega arith
     by false false = omega arith
 
-type_judges : Judges bad_type
-type_judges v = refuses_unless (nat_lt 0 v && nat_lt v 5) BadUnitType (λ e. cc)
-
-address_judges : Judges bad_address_size
-address_judges v = refuses_unless (nat_lt 0 v && nat_lt v 9) BadAddressSize (λ e. cc)
-
 five_cut : (order : Order) (format : Format) → CutBelow 26 (five_part order format).Break
 five_cut order format =
     then_cut 1 25 (judged (fixed order 1) bad_type) (λ kind. judged (fixed order 1) bad_address_size then λ _. fixed order (offset_size format) then λ _. numbers order (added_sizes format kind))
     (judged_cut 1 (fixed order 1) bad_type (short_cut 1) type_judges) (λ x fits. fixed_within order 1 x fits.0) λ kind.
     then_cut 1 24 (judged (fixed order 1) bad_address_size) (λ _. fixed order (offset_size format) then λ _. numbers order (added_sizes format kind))
-    (judged_cut 1 (fixed order 1) bad_address_size (short_cut 1) address_judges) (λ x fits. fixed_within order 1 x fits.0) λ _.
+    (judged_cut 1 (fixed order 1) bad_address_size (short_cut 1) address_size_judges) (λ x fits. fixed_within order 1 x fits.0) λ _.
     then_cut 8 16 (fixed order (offset_size format)) (λ _. numbers order (added_sizes format kind))
     (more_cut (offset_size format) 8 (Short (offset_size format)) (offset_most format) (short_cut (offset_size format))) (λ x fits. omega (arith, fixed_within order (offset_size format) x fits, offset_most format)) λ _.
     more_cut (total (added_sizes format kind)) 16 (numbers order (added_sizes format kind)).Break (added_most format kind) (numbers_cut order (added_sizes format kind))
@@ -102,7 +97,7 @@ four_cut : (order : Order) (format : Format) → CutBelow 9 (four_part order for
 four_cut order format =
     then_cut 8 1 (fixed order (offset_size format)) (λ _. judged (fixed order 1) bad_address_size)
     (more_cut (offset_size format) 8 (Short (offset_size format)) (offset_most format) (short_cut (offset_size format))) (λ x fits. omega (arith, fixed_within order (offset_size format) x fits, offset_most format)) λ _.
-    judged_cut 1 (fixed order 1) bad_address_size (short_cut 1) address_judges
+    judged_cut 1 (fixed order 1) bad_address_size (short_cut 1) address_size_judges
 
 behind_cut : (order : Order) (format : Format) (four : Bool) → CutBelow 26 (fields_behind order format four).Break
 behind_cut order format true = more_cut 9 26 (four_part order format).Break (omega arith) (four_cut order format)
@@ -114,14 +109,8 @@ fields_cut versions order format =
     (judged_cut 2 (fixed order 2) (bad_version_under versions) (short_cut 2) (version_judges versions)) (λ x fits. fixed_within order 2 x fits.0) λ version.
     behind_cut order format (version == 4)
 
-reserved_judges : Judges reserved
-reserved_judges x = refuses_where (nat_le 0xfffffff0 x && nat_lt x 0xffffffff) ReservedLength (λ e. cc)
-
-far_judges : Judges (too_far 0)
-far_judges x = refuses_unless (nat_lt (0 + length_size x.0 + x.1) (2 ^ 63)) LengthTooBig (λ e. cc)
-
 length_cut : (order : Order) → CutBelow 12 (initial_length order 0).Break
-length_cut order = judged_cut 12 (length_field order) (too_far 0) field_cut far_judges
+length_cut order = judged_cut 12 (length_field order) (too_far 0) field_cut (too_far_judges 0)
   where
     field_cut : CutBelow 12 (length_field order).Break
     field_cut bytes lim offset h =

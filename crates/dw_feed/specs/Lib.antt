@@ -8,7 +8,6 @@ pub mod HeadFeed
 pub mod HeadFeedView
 pub mod PlaceBytes
 pub mod BodyFeed
-pub mod HeadAnswers
 pub mod HeldCounts
 pub mod FieldPlace
 pub mod BreaksBehind

@@ -1,19 +1,18 @@
 -- A feed in the middle of a text or block: what was taken of it wants more, more of it is taken, and with what ends it the value is
 -- found.
-use Rattle.std.proofs.Common.{◌≡◌, ◌⊎◌, ℕ, ◌+◌, ◌-◌, ◌<◌, ◌≤◌, List, [], ◌∷◌, ◌++◌, length, Option, Some, None, refl, sym, ap, ◌∙◌, append-nil, arith}
+use Rattle.std.proofs.Common.{◌≡◌, ℕ, ◌<◌, ◌≤◌, List, [], ◌∷◌, ◌++◌, length, Option, Some, sym, ap, ◌∙◌, append-nil, arith}
 use Rattle.dw_leb.specs.Part.{Taken}
 use Rattle.dw_leb.specs.Decide.{found}
-use Rattle.dw_form.specs.declared.shape.Ctx.{Ctx}
 use Rattle.dw_form.specs.Form.{attribute}
 use Rattle.dw_form.specs.FormMoments.{attribute_moment}
 use Rattle.dw_abbrev.specs.Table.{Pair}
 use Rattle.dw_tree.specs.Place.{PartialValue, UnfinishedEntry}
-use Rattle.dw_tree.specs.Steps.{partial_in, partial_attribute, next_pairs, longer, settle}
+use Rattle.dw_tree.specs.Steps.{partial_in, partial_attribute, next_pairs, settle}
 use Rattle.dw_feed.specs.NextField.{next_moment, next_value_moment}
 use Rattle.dw_feed.specs.FieldOutcomes.{value_found}
 use Rattle.dw_feed.specs.BodyFeed.{PartialUnit, partial_taken, pairs_left, value_part, part}
 use Rattle.dw_feed.specs.FeedInvariant.{context, frames_of, chain_of, left, wanted}
-use Rattle.dw_feed.specs.PartialValues.{IsPartialAs, NamedFits, IsIncomplete, lim_behind, ending, ended_bytes, longer_bytes, partial_wants}
+use Rattle.dw_feed.specs.PartialValues.{IsPartialAs, NamedFits, IsIncomplete, lim_behind, ending, ended_bytes, partial_wants}
 use Rattle.dw_feed.specs.PlainFeed.{field_at}
 
 module _ (g : PartialUnit) (r : UnfinishedEntry) (b : PartialValue) (p : Pair) (ps : List Pair) (unfinished : g.place.unfinished ≡ Some r) (partial : r.partial ≡ Some b) (next : next_pairs g.table r ≡ p ∷ ps) (none_pending : g.pending ≡ []) where

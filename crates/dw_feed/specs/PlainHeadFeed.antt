@@ -21,8 +21,20 @@ use Rattle.dw_header.specs.HeaderMoments.{head_moment, head_has, head_waits}
 use Rattle.dw_leb.specs.ByteLists.{front_is_bytes}
 use Rattle.dw_feed.specs.declared.progress.Progress.{Progress}
 use Rattle.dw_feed.specs.declared.progress.Progress.TheVariants as answers
-use Rattle.dw_feed.specs.HeadAnswers.{HeadStandsFirst, SaysHead}
+use Rattle.dw_feed.specs.HeadFeed.{HeadState, Reading, Refused, Finished, IsFirst, Answers}
 use Rattle.dw_feed.specs.FeedSteps.{cut_end}
+
+-- the feed after a piece
+abbrev pub head_after : List ℕ → List ℕ → Progress Heading → HeadState
+head_after taken piece answers.More = Reading (taken ++ piece)
+head_after taken piece (answers.Done x) = Finished
+head_after taken piece (answers.Fault f) = Refused f
+head_after taken piece answers.NoMemory = Finished
+head_after taken piece answers.Spent = Finished
+
+-- what a call has to answer that takes n bytes of the piece
+abbrev pub SaysHead : Versions → Order → List ℕ → List ℕ → ℕ → Progress Heading → Type 0
+SaysHead versions order taken piece n answer = Answers versions order (Reading taken) piece n answer (head_after taken piece answer)
 
 abbrev pub answer_head : Outcome Heading → Progress Heading
 answer_head (Found x size) = answers.Done x
@@ -54,7 +66,7 @@ module _ (versions : Versions) (order : Order) (taken piece : List ℕ) (fit : A
   fit_own = front_is_bytes own (drop wanted all) (subst AreBytes (sym parts) fit)
 
   short_says : length all < wanted → SaysHead versions order taken piece (length piece - 0) answers.More
-  short_says short = record { all = omega arith; cut = head_waits versions order all [] fit (omega (arith, short, ap (λ (bs : List ℕ). head_moment versions order bs 0) (append-nil all))) }
+  short_says short = (omega arith, refl, head_waits versions order all [] fit (omega (arith, short, ap (λ (bs : List ℕ). head_moment versions order bs 0) (append-nil all))))
 
   module _ (enough : wanted ≤ length all) where
     own_long : length own ≡ wanted
@@ -63,7 +75,7 @@ module _ (versions : Versions) (order : Order) (taken piece : List ℕ) (fit : A
     own_read : read_head versions order own ≡ read_head versions order all
     own_read = front_stands _ _ (head_has versions order) own (drop wanted all) 0 (omega (arith, own_long, ap (λ (bs : List ℕ). head_moment versions order bs 0) parts)) ∙ ap (read_head versions order) parts
 
-    own_first : HeadStandsFirst versions order own
+    own_first : IsFirst versions order own
     own_first front b e =
         let split : front ++ (b ∷ drop wanted all) ≡ all = sym (append_assoc front (b ∷ []) (drop wanted all)) ∙ ap (λ (bs : List ℕ). bs ++ drop wanted all) (sym e) ∙ parts in
         head_waits versions order front (b ∷ drop wanted all) (front_is_bytes front (b ∷ []) (subst AreBytes e fit_own)) (omega (arith, ap (λ (bs : List ℕ). head_moment versions order bs 0) split, own_long, ap length e, length-append front (b ∷ [])))
@@ -96,20 +108,18 @@ module _ (versions : Versions) (order : Order) (taken piece : List ℕ) (fit : A
         s.2.1 ∙ ap (λ (bs : List ℕ). header_bytes h m ++ bs) (nil_from_length rest none_left) ∙ append-nil (header_bytes h m)
 
     read_says : (o : Outcome Heading) → read_head versions order all ≡ o → HeadSays versions order own o → (IsCut o → ⊥) → SaysHead versions order taken piece (length piece - (length all - wanted)) (answer_head o)
-    read_says (Found x size) e h stands = record {
-      within = omega arith;
-      order_is = h.0;
-      accepted = headers_are_accepted versions order own x.0 x.1 h;
-      fits = (headers_are_spelled versions order own x.0 x.1 h).1;
-      whole = taken_is ∙ header_is x.0 x.1 size e h;
-      first = subst (HeadStandsFirst versions order) (sym taken_is) own_first;
-    }
-    read_says (Broken offset reason) e h stands = record {
-      within = omega arith;
-      breaks = subst (λ (bs : List ℕ). HeaderFaultUnder versions order bs (record { section = Info; offset = offset; reason = reason })) (sym taken_is) (refl, h);
-      for_good = λ c. stands c;
-      first = subst (HeadStandsFirst versions order) (sym taken_is) own_first;
-    }
+    read_says (Found x size) e h stands = (
+      omega arith,
+      record { order_is = h.0; accepted = headers_are_accepted versions order own x.0 x.1 h; fits = (headers_are_spelled versions order own x.0 x.1 h).1; all = taken_is ∙ header_is x.0 x.1 size e h },
+      subst (IsFirst versions order) (sym taken_is) own_first,
+    )
+    read_says (Broken offset reason) e h stands = (
+      omega arith,
+      refl,
+      subst (λ (bs : List ℕ). HeaderFaultUnder versions order bs (record { section = Info; offset = offset; reason = reason })) (sym taken_is) (refl, h),
+      (λ c. stands c),
+      subst (IsFirst versions order) (sym taken_is) own_first,
+    )
 
     enough_says : SaysHead versions order taken piece (length piece - (length all - wanted)) (answer_head (read_head versions order all))
     enough_says = read_says (read_head versions order all) refl (subst (HeadSays versions order own) own_read (head_says versions order own fit_own)) ((head_has versions order).stands all 0 enough)

@@ -1,4 +1,3 @@
-use Rattle.std.proofs.Common.{◌≡◌}
 use Rattle.dw_leb.specs.declared.errors.Reason.TheVariants.{Truncated}
 use Rattle.dw_header.specs.Laws.{no_header_and_break, one_header_break}
 use Rattle.dw_feed.proofs.head.cut_off.Goals as goal

@@ -1,4 +1,4 @@
-use Rattle.std.proofs.Common.{◌≡◌, ◌++◌, ◌∷◌, [], List, ℕ, ◌∙◌, subst, arith}
+use Rattle.std.proofs.Common.{◌++◌, ◌∷◌, [], List, ℕ, ◌∙◌, subst, arith}
 use Rattle.dw_header.specs.HeaderPlace.{HeaderAtUnder, HeaderFaultUnder}
 use Rattle.dw_feed.specs.HeaderCut.{cut_headers_are_short}
 use Rattle.dw_feed.proofs.HeadSteps.{header_ends, fault_shows}

@@ -1,7 +1,6 @@
 use Rattle.std.proofs.Common.{◌≡◌, ◌++◌, ◌∷◌, [], List, ℕ, suc, ◌-◌, refl, sym, ap, subst, ◌∙◌, append_assoc, append-nil, arith, length, length-append}
 use Rattle.dw_feed.specs.HeaderCut.{IsCut}
-use Rattle.dw_feed.specs.HeadFeed.{Answers, Reading}
-use Rattle.dw_feed.specs.HeadFeedView.{state_of, ended, ShowsHead}
+use Rattle.dw_feed.specs.HeadFeedView.{ShowsHead}
 use Rattle.dw_feed.proofs.HeadSteps.{all_taken, one_stops}
 use Rattle.dw_feed.proofs.head.take_head.Goals as goal
 

@@ -1,5 +1,4 @@
-use Rattle.std.proofs.Common.{◌≡◌, List, ℕ, Some, sym, subst}
-use Rattle.dw_leb.specs.declared.errors.Fault.{Fault as TheFault}
+use Rattle.std.proofs.Common.{List, ℕ, Some, sym, subst}
 use Rattle.dw_header.specs.HeaderPlace.{HeaderFaultUnder}
 use Rattle.dw_feed.specs.HeaderCut.{IsCut}
 use Rattle.dw_feed.specs.HeadFeed.{HeadFeed as TheFeed, Ends}
