@@ -206,11 +206,3 @@ size_by_head k form c a start fits = by (shape (form_in form a.via) k.address_si
           length-append (head_of k s v) (finder start v),
           finder_long start v,
         )
-
--- a head has what finds its content
-pub head_finds : (k : Ctx) (form : ℕ) (c : Option Signed) (a : Attribute) (start : ℕ) → (attribute k form c).Fits a → finder_size a.value ≤ length (head k form start a)
-head_finds k form c a start fits = by (shape (form_in form a.via) k.address_size k.format) refl
-  where
-    by : (o : Option Shape) → shape (form_in form a.via) k.address_size k.format ≡ o → finder_size a.value ≤ length (head_if k o start a)
-    by None e = absurd (form_known k form c a fits e)
-    by (Some s) e = omega (arith, length-append (via_bytes a.via) (head_of k s a.value ++ finder start a.value), length-append (head_of k s a.value) (finder start a.value), finder_long start a.value)

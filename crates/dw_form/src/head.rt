@@ -263,15 +263,14 @@ pub fn lend_head<'a>(
 /// spelling in the place of what finds it in the head, and a zero ends a text.
 #[inline(always)]
 pub fn size_by_head(value: &AttrValue<'_>, own: usize) -> u64
-    requires found { finder_size (attribute_of value.now).value ≤ own }
-    requires small { own < 2 ^ 63 }
+    requires { own < 2 ^ 63 }
     ensures { (ctx : Ctx) (form start : ℕ) →
         HasSpelling ctx form (attribute_of value.now) →
         own ≡ length (head ctx form start (attribute_of value.now)) →
         result ≡ length (spelling ctx form (attribute_of value.now)) }
 {
-    let count = content_count(&value.value);
-    own as u64 - finder_size(&value.value) + count
+    let both = own as u64 + content_count(&value.value);
+    both.saturating_sub(finder_size(&value.value))
 }
 
 /// How many bytes find a content.

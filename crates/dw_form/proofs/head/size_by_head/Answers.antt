@@ -7,4 +7,4 @@ use Rattle.dw_form.proofs.head.size_by_head.Goals as goal
 pub returns : goal.returns
 returns c k form start fits own =
     let a = attribute_of c.args.value.now in
-    omega (arith, size_by_head k form (constant_in a.value) a start fits, own, c.requires.found, c.content_count-count.ensures.exact, c.finder_size.ensures)
+    omega (arith, size_by_head k form (constant_in a.value) a start fits, own, c.content_count.ensures.exact, c.finder_size.ensures, c.saturating_sub.ensures)
