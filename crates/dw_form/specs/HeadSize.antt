@@ -1,5 +1,5 @@
 -- How long heads are, by the spelling of their values.
-use Rattle.std.specs.Prelude.{◌≡◌, ◌≤◌, ◌<◌, ℕ, ◌*◌, Bool, true, false, List, [], ◌∷◌, ◌++◌, length, Option, Some, None, ◌==◌, if◌then◌else◌, cond, ltb}
+use Rattle.std.specs.Prelude.{◌≡◌, ◌≤◌, ◌<◌, ℕ, ◌+◌, ◌*◌, Bool, true, false, List, [], ◌∷◌, ◌++◌, length, Option, Some, None, ◌==◌, if◌then◌else◌, cond, ltb}
 use Rattle.std.proofs.Common.{refl, ap, subst, arith, length-append}
 use Rattle.std.proofs.lemmas.Bool.{ltb-true}
 use Rattle.dw_leb.specs.declared.order.Order.TheVariants.{Little}
@@ -153,3 +153,56 @@ content_size k form c a fits = by (shape (form_in form a.via) k.address_size k.f
         let two = length-append (head_of k s v) (content_of v ++ tail_of v) in
         let three = length-append (content_of v) (tail_of v) in
         omega (arith, one, two, three, ap length (same_content v), ap length (attribute_pieces k form c a s fits e).0)
+
+-- ---- the size of a value by its head
+
+-- how many bytes find a content
+abbrev pub finder_size : Value → ℕ
+finder_size (Block width bytes) = 8
+finder_size (Text bytes) = 16
+finder_size v = 0
+
+-- how many bytes a content has, with the zero that ends a text
+abbrev pub content_count : Value → ℕ
+content_count (Block width bytes) = length bytes
+content_count (Text bytes) = length bytes + 1
+content_count v = 0
+
+finder_long : (start : ℕ) (v : Value) → length (finder start v) ≡ finder_size v
+finder_long start (Block width bytes) = length-fixed Little 8 start
+finder_long start (Text bytes) = omega (arith, length-append (word (length bytes)) (word start), length-fixed Little 8 (length bytes), length-fixed Little 8 start)
+finder_long start (Num x) = refl
+finder_long start (Wide x) = refl
+finder_long start (Uleb u) = refl
+finder_long start (Sleb x) = refl
+finder_long start Present = refl
+finder_long start (Implicit x) = refl
+
+content_long : (v : Value) → length (content_of v ++ tail_of v) ≡ content_count v
+content_long (Block width bytes) = omega (arith, length-append bytes [])
+content_long (Text bytes) = omega (arith, length-append bytes (0 ∷ []))
+content_long (Num x) = refl
+content_long (Wide x) = refl
+content_long (Uleb u) = refl
+content_long (Sleb x) = refl
+content_long Present = refl
+content_long (Implicit x) = refl
+
+-- the content stands in a spelling in the place of what finds it in the head
+pub size_by_head : (k : Ctx) (form : ℕ) (c : Option Signed) (a : Attribute) (start : ℕ) → (attribute k form c).Fits a → length ((attribute k form c).spell a) + finder_size a.value ≡ length (head k form start a) + content_count a.value
+size_by_head k form c a start fits = by (shape (form_in form a.via) k.address_size k.format) refl
+  where
+    by : (o : Option Shape) → shape (form_in form a.via) k.address_size k.format ≡ o → length ((attribute k form c).spell a) + finder_size a.value ≡ length (head_if k o start a) + content_count a.value
+    by None e = absurd (form_known k form c a fits e)
+    by (Some s) e =
+        let v = a.value in
+        omega (
+          arith,
+          ap length (attribute_pieces k form c a s fits e).0,
+          length-append (via_bytes a.via) (pieces_of k s v),
+          length-append (head_of k s v) (content_of v ++ tail_of v),
+          content_long v,
+          length-append (via_bytes a.via) (head_of k s v ++ finder start v),
+          length-append (head_of k s v) (finder start v),
+          finder_long start v,
+        )

@@ -3,8 +3,10 @@
 ghost use Rattle.std.specs.Prelude.{◌≡◌, ◌≤◌, ◌<◌, ◌^◌, ◌+◌, ◌++◌, ℕ, List, length, take, drop, option_map, IfSome, IsSomeAnd, ◌==◌};
 ghost use Rattle.dw_leb.specs.declared.order.Order.TheVariants.{Little};
 ghost use Rattle.dw_leb.specs.View.{uleb_of, sleb_of};
+ghost use Rattle.dw_form.specs.declared.shape.Ctx.{Ctx};
 ghost use Rattle.dw_form.specs.Form.{Attribute, attribute, IsContext, ShapeFits, shape};
-ghost use Rattle.dw_form.specs.Pieces.{form_in};
+ghost use Rattle.dw_form.specs.Pieces.{form_in, HasSpelling, spelling};
+ghost use Rattle.dw_form.specs.HeadSize.{finder_size, content_count};
 ghost use Rattle.dw_form.specs.StoredView.{bytes_in};
 ghost use Rattle.dw_form.specs.Lent.{value_of, attribute_of};
 ghost use Rattle.dw_form.specs.Head.{head, head_at, Lies, fixed_at, uleb_at, count_at, part_at, placed_at, spelled_at, own_constant, has_content, via_at, via_width, by_content, by_shape, by_via};
@@ -222,11 +224,11 @@ fn by_head<'a>(
     behind(ctx, form, implicit, via, heads, pool)
 }
 
-/// The count of bytes, which a word holds.
+/// The count of bytes, which is less than half of what a word holds.
 #[inline(always)]
 fn size(b: &[u8]) -> usize
     ensures exact { result ≡ length b.now }
-    ensures small { length b.now < 2 ^ 64 }
+    ensures small { length b.now < 2 ^ 63 }
 {
     b.len()
 }
@@ -255,4 +257,43 @@ pub fn lend_head<'a>(
 {
     let _bounded = size(pool);
     by_head(ctx, form, implicit, heads, pool)
+}
+
+/// How many bytes the spelling of a value has whose head has `own` bytes. A text or block stands in the
+/// spelling in the place of what finds it in the head, and a zero ends a text.
+#[inline(always)]
+pub fn size_by_head(value: &AttrValue<'_>, own: usize) -> u64
+    requires { own < 2 ^ 63 }
+    ensures { (ctx : Ctx) (form start : ℕ) →
+        HasSpelling ctx form (attribute_of value.now) →
+        own ≡ length (head ctx form start (attribute_of value.now)) →
+        result ≡ length (spelling ctx form (attribute_of value.now)) }
+{
+    let both = own as u64 + content_count(&value.value);
+    both.saturating_sub(finder_size(&value.value))
+}
+
+/// How many bytes find a content.
+#[inline(always)]
+fn finder_size(value: &Value<'_>) -> u64
+    ensures { result ≡ finder_size (value_of value.now) }
+{
+    match value {
+        Value::Block { .. } => 8,
+        Value::Text(_) => 16,
+        _ => 0,
+    }
+}
+
+/// How many bytes a content has, with the zero that ends a text.
+#[inline(always)]
+fn content_count(value: &Value<'_>) -> u64
+    ensures exact { result ≡ content_count (value_of value.now) }
+    ensures small { result ≤ 2 ^ 63 }
+{
+    match *value {
+        Value::Block { bytes, .. } => size(bytes) as u64,
+        Value::Text(bytes) => size(bytes) as u64 + 1,
+        _ => 0,
+    }
 }

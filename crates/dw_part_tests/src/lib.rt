@@ -11,6 +11,8 @@ mod forms;
 #[cfg(test)]
 mod headers;
 #[cfg(test)]
+mod heads;
+#[cfg(test)]
 mod numbers;
 #[cfg(test)]
 mod table_builders;

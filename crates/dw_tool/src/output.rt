@@ -71,7 +71,7 @@ impl<'a, W: Write> Output<'a, W> {
         ensures same_writer { SameWriter self.old self.new }
     {
         write_all(self.writer, self.buffer.as_slice())?;
-        self.buffer = ArrayVec::new();
+        self.buffer.clear();
         Ok(())
     }
 }

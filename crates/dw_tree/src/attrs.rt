@@ -1,9 +1,10 @@
 //! The attributes of an entry, as they are lent (sections 2.2, 7.5.2 and 7.5.3).
-ghost use Rattle.std.specs.Prelude.{◌≡◌, map, option_map};
+ghost use Rattle.std.specs.Prelude.{◌≡◌, ◌<◌, ◌^◌, ℕ, length, map, option_map};
 ghost use Rattle.std.specs.Iterator.{YieldsFirstBy, item_count};
 ghost use Rattle.dw_leb.specs.View.{uleb_of};
 ghost use Rattle.dw_form.specs.Lent.{attribute_of};
-ghost use Rattle.dw_form.specs.Pieces.{form_in};
+ghost use Rattle.dw_form.specs.Head.{head};
+ghost use Rattle.dw_form.specs.Pieces.{form_in, HasSpelling, spelling};
 ghost use Rattle.dw_abbrev.specs.PairView.{pair_of};
 ghost use Rattle.dw_tree.specs.RowHeads.{values_at};
 ghost use Rattle.dw_tree.specs.Lent.{lent_attribute, lent_attributes};
@@ -11,7 +12,7 @@ ghost use Rattle.dw_tree.specs.Lent.{AreLent, attr_of};
 
 use crate::write::behind;
 use dw_abbrev::Pair;
-use dw_form::{AttrValue, Ctx, lend_head, size_of};
+use dw_form::{AttrValue, Ctx, lend_head, size_by_head};
 use dw_leb::Uleb;
 use std::marker::Model;
 
@@ -97,7 +98,7 @@ impl<'a> Iterator for Attrs<'a> {
             self.pool,
         ) {
             Some((attr, own)) => {
-                let size = size_of(self.ctx, pair.form.value, &attr);
+                let size = spelled_size(self.ctx, pair.form.value, &attr, own);
                 let first = attr_at(pair, &attr, self.at);
                 self.pairs = pairs;
                 self.heads = behind(self.heads, own);
@@ -119,6 +120,17 @@ fn attr_at<'a>(pair: &Pair, attr: &AttrValue<'a>, at: u64) -> AttrRef<'a>
         offset: at,
         attr: *attr,
     }
+}
+
+/// How many bytes the spelling of a value has, whose head under this form has `own` bytes.
+#[inline(always)]
+fn spelled_size(_ctx: Ctx, _form: u64, value: &AttrValue<'_>, own: usize) -> u64
+    requires spelled { HasSpelling _ctx _form (attribute_of value.now) }
+    requires head { (start : ℕ) × (own ≡ length (head _ctx _form start (attribute_of value.now))) }
+    requires small { own < 2 ^ 63 }
+    ensures { result ≡ length (spelling _ctx _form (attribute_of value.now)) }
+{
+    size_by_head(value, own)
 }
 
 /// The form in effect where the declaration gives one and the value may name another.

@@ -1,0 +1,114 @@
+//! What no clause says of heads: which bytes they have, for values whose spelling is known from the standard.
+use crate::common::same;
+use dw_form::{
+    AttrValue, Ctx, front_len, lend_head, lend_value, put_found, put_head, size_by_head,
+    value_front,
+};
+use dw_leb::{Format, Order};
+use std::alloc::Global;
+use std::process::Abort;
+use std::test::Fail;
+
+/// Little-endian, 32-bit, addresses of eight bytes.
+const USUAL: Ctx = Ctx {
+    order: Order::Little,
+    format: Format::Dwarf32,
+    address_size: 8,
+};
+
+/// What the pool has before a content.
+const BEFORE: [u8; 2] = [0xee, 0xff];
+
+/// A form, a spelling, the head of its value whose content begins behind two bytes, and the content.
+#[derive(Clone, Copy)]
+struct Kept(u64, &'static [u8], &'static [u8], &'static [u8]);
+
+const KEPT: [Kept; 9] = [
+    // data1, udata in two bytes, sdata, flag_present
+    Kept(0x0b, &[7], &[7], &[]),
+    Kept(0x0f, &[0x81, 0], &[0x81, 0], &[]),
+    Kept(0x0d, &[0x7f], &[0x7f], &[]),
+    Kept(0x19, &[], &[], &[]),
+    // block1, and block with a length in two bytes
+    Kept(
+        0x0a,
+        &[2, 0xaa, 0xbb],
+        &[2, 2, 0, 0, 0, 0, 0, 0, 0],
+        &[0xaa, 0xbb],
+    ),
+    Kept(
+        0x09,
+        &[0x82, 0, 0xaa, 0xbb],
+        &[0x82, 0, 2, 0, 0, 0, 0, 0, 0, 0],
+        &[0xaa, 0xbb],
+    ),
+    // string
+    Kept(
+        0x08,
+        b"abc\0",
+        &[3, 0, 0, 0, 0, 0, 0, 0, 2, 0, 0, 0, 0, 0, 0, 0],
+        b"abc",
+    ),
+    // indirect, as udata and as string
+    Kept(0x16, &[0x0f, 5], &[0x0f, 5], &[]),
+    Kept(
+        0x16,
+        &[0x08, 0x61, 0],
+        &[0x08, 1, 0, 0, 0, 0, 0, 0, 0, 2, 0, 0, 0, 0, 0, 0, 0],
+        b"a",
+    ),
+];
+
+/// The head that is made is this one, the pool gets the content, and both give the value again.
+fn keeps(
+    rt: &impl Abort,
+    alloc: Global,
+    row: &Kept,
+    value: &AttrValue<'_>,
+    front: &[u8],
+) -> Result<(), Fail> {
+    let mut heads = Vec::new(alloc);
+    let mut pool = Vec::new(alloc);
+    pool.extend_from_slice(&BEFORE)?;
+    put_head(value, front, &mut heads, &mut pool)?;
+    same(rt, heads.as_slice(), row.2);
+    same(rt, &pool.as_slice()[2..], row.3);
+    let lent = lend_head(USUAL, row.0, None, heads.as_slice(), pool.as_slice());
+    assert!(rt; lent == Some((*value, row.2.len())));
+    assert!(rt; size_by_head(value, heads.len()) == row.1.len() as u64);
+    Ok(())
+}
+
+/// The same head is made of a value whose content the pool has already.
+fn finds(
+    rt: &impl Abort,
+    alloc: Global,
+    row: &Kept,
+    value: &AttrValue<'_>,
+    front: &[u8],
+) -> Result<(), Fail> {
+    let mut heads = Vec::new(alloc);
+    heads.reserve(front.len() + 16)?;
+    put_found(value, front, BEFORE.len(), &mut heads);
+    same(rt, heads.as_slice(), row.2);
+    Ok(())
+}
+
+fn fronts(rt: &impl Abort, alloc: Global, row: &Kept) -> Result<(), Fail> {
+    let (value, size) = lend_value(USUAL, row.0, None, row.1, row.1.len() as u64)
+        .ok()
+        .ok_or("no value")?;
+    assert!(rt; size == row.1.len());
+    let front = &row.1[..front_len(&value, size)];
+    same(rt, value_front(USUAL, row.0, &value).as_slice(), front);
+    keeps(rt, alloc, row, &value, front)?;
+    finds(rt, alloc, row, &value, front)
+}
+
+#[test]
+fn heads_of_values(rt: HostRuntime) -> Result<(), Fail> {
+    for row in KEPT.as_slice() {
+        fronts(&rt, rt.alloc(), row)?;
+    }
+    Ok(())
+}
