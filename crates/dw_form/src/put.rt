@@ -1,6 +1,6 @@
 //! Heads of values, made and kept in a list of bytes. A head has what of the value's spelling
 //! comes before its content, and after that what finds the content in a pool.
-ghost use Rattle.std.specs.Prelude.{◌≡◌, ◌≤◌, ◌<◌, ◌^◌, ◌+◌, ◌++◌, [], length, IfSome, OnOk, OnErr, vec_len, vec_capacity};
+ghost use Rattle.std.specs.Prelude.{◌≡◌, ◌≤◌, ◌<◌, ◌^◌, ◌+◌, ◌++◌, ◌⊎◌, [], length, IfSome, OnOk, OnErr, vec_len, vec_capacity};
 ghost use Rattle.dw_leb.specs.Number.{uleb, UlebFits};
 ghost use Rattle.dw_form.specs.Form.{IsContext, ShapeFits, shape};
 ghost use Rattle.dw_form.specs.Pieces.{head_of, HeadFits, via_bytes, form_in, HasSpelling, spelling};
@@ -157,7 +157,7 @@ pub fn front_len(value: &AttrValue<'_>, all: usize) -> usize
 }
 
 /// Keeps a value whose front is `front`: its head goes to the end of `heads`, its text or block to the
-/// end of the pool. On an error both hold what they held.
+/// end of the pool. On an error both hold what they held, and one of them had no room.
 #[inline(always)]
 pub fn put_head(
     value: &AttrValue<'_>,
@@ -171,6 +171,9 @@ pub fn put_head(
     ensures small { OnOk result (length pool.new.items < 2 ^ 64) }
     ensures heads_kept { OnErr result (heads.new.items ≡ heads.old.items) }
     ensures pool_kept { OnErr result (pool.new.items ≡ pool.old.items) }
+    ensures full { OnErr result
+        ((vec_capacity heads.old < vec_len heads.old + length (front.now ++ finder (length pool.old.items) (value_of value.now.value)))
+        ⊎ (vec_capacity pool.old < vec_len pool.old + length (bytes_in (attribute_of value.now)))) }
 {
     match value.value {
         Value::Block { .. } | Value::Text(_) => {
@@ -189,6 +192,7 @@ fn put_alone(front: &[u8], heads: &mut Vec<u8>, pool: &mut Vec<u8>) -> Result<()
     ensures pool { pool.new.items ≡ pool.old.items ++ [] }
     ensures pool_kept { pool.new.items ≡ pool.old.items }
     ensures small { length pool.new.items < 2 ^ 64 }
+    ensures full { OnErr result (vec_capacity heads.old < vec_len heads.old + length front.now) }
 {
     let _bounded = pool.len();
     heads.extend_from_slice(front)
@@ -207,11 +211,11 @@ fn put_three(
     ensures small { OnOk result (length pool.new.items < 2 ^ 64) }
     ensures heads_kept { OnErr result (heads.new.items ≡ heads.old.items) }
     ensures pool_kept { OnErr result (pool.new.items ≡ pool.old.items) }
+    ensures full { OnErr result
+        ((vec_capacity heads.old < vec_len heads.old + (length first.now + length second.now))
+        ⊎ (vec_capacity pool.old < vec_len pool.old + length bytes.now)) }
 {
-    let Some(size) = first.len().checked_add(second.len()) else {
-        return Err(AllocError);
-    };
-    heads.reserve(size)?;
+    heads.reserve(first.len() + second.len())?;
     pool.extend_from_slice(bytes)?;
     heads.extend_from_slice(first)?;
     let _bounded = pool.len();
