@@ -9,6 +9,7 @@
 //! - `read_unit` returns the unit at the front of bytes, or the first fault; `read_unit_from` does
 //!   so from any reader; `read_unit_as` and `read_unit_from_as` also read units of version 4, where
 //!   `Versions` says so;
+//! - `HeadFeed` takes a header that its caller pushes in pieces of any size, and answers by `Progress`;
 //! - `Unit` hands out its entries (`EntryRef`) and their attributes (`AttrRef`), borrowed;
 //! - `UnitBuilder` makes a unit entry by entry, over a table of `TableBuilder`;
 //! - `write_unit` writes a unit as it was read or built, each number in its own width.
@@ -17,7 +18,7 @@
 #![tactic(auto)]
 
 pub use dw_abbrev::{Decl, Pair, Table, TableBuilder, TableRefusal, Tables};
-pub use dw_feed::{read_unit_from, read_unit_from_as};
+pub use dw_feed::{HeadFeed, Progress, read_unit_from, read_unit_from_as};
 pub use dw_form::{AttrValue, Ctx, Shape, Value};
 pub use dw_leb::{
     Fault, Format, Order, ReadError, Reason, SectionId, Sleb, Uleb, Watched, WriteError, constants,
