@@ -1,5 +1,7 @@
 //! What no clause of `HeadFeed` says: headers whose bytes are known from the standard, in pieces (sections
 //! 7.2.2 and 7.5.1; of version 4, section 7.5.1.1 of DWARF 4).
+ghost use Rattle.std.specs.Prelude.{◌≤◌};
+
 use crate::common::{FIFTEEN, in_info};
 use dw_feed::{HeadFeed, Progress};
 use dw_leb::{Fault, Format, Order, Reason};
@@ -168,7 +170,9 @@ fn cut_field(count: usize) -> u64 {
 }
 
 /// The fault at the end of the first bytes of a small header.
-fn ends(count: usize) -> Option<Fault> {
+fn ends(count: usize) -> Option<Fault>
+    requires { count ≤ 15 }
+{
     let (feed, _, _) = pushed(Versions::Five, &FIFTEEN[..count]);
     feed.end()
 }
