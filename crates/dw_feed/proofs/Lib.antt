@@ -4,3 +4,4 @@ pub mod HeadSteps
 mod Samples
 mod BodyFeedRows
 mod HeadFeedRows
+mod DraftRoom

@@ -28,3 +28,5 @@ pub mod PartialValues
 pub mod PartialSteps
 pub mod PlaceRows
 pub mod HeldBounds
+pub mod FieldSteps
+pub mod BodyView

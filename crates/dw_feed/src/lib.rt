@@ -3,10 +3,13 @@
 #![tactic(auto)]
 
 mod bytes;
+mod code;
+mod coming;
 mod head;
 pub mod laws;
 mod progress;
 mod reader;
+mod step;
 
 pub use bytes::unit_bytes;
 pub use head::HeadFeed;

@@ -1,0 +1,128 @@
+//! A unit of which only some bytes came (section 7.5).
+ghost use Rattle.std.specs.Prelude.{◌≡◌, ◌≢◌, ◌≤◌, ◌<◌, ◌+◌, ◌++◌, ◌∷◌, [], length, None, Some, IsSome, IfSome, option_map, OnOk, OnErr};
+ghost use Rattle.dw_leb.specs.View.{uleb_of};
+ghost use Rattle.dw_header.specs.Laws.{HasHeaderBytes};
+ghost use Rattle.dw_feed.specs.BodyFeed.{started, part};
+ghost use Rattle.dw_feed.specs.FeedInvariant.{Keeps, left as left_of, moved_to};
+ghost use Rattle.dw_feed.specs.FieldSteps.{Standing, HasPart, FrontsWait, StepSays, code_meaning, behind_code, BehindCode};
+
+use crate::code::{code_at, is_cut};
+use crate::step::Step;
+use arrayvec::ArrayVec;
+use dw_abbrev::Table;
+use dw_leb::{Format, Reason, Uleb};
+use dw_unit::{Draft, Header};
+use std::alloc::{AllocError, Global};
+use std::marker::Model;
+use std::rc::Rc;
+
+/// A unit of which only some bytes came: what is whole is in a draft, and of the field that comes next the
+/// parts that came.
+#[derive(Debug, Drop)]
+pub(crate) struct Coming {
+    draft: Draft,
+    unit_length: u64,
+    /// The form that an indirect value names, before the value itself begins (section 7.5.3).
+    named: Option<Uleb>,
+    /// How many bytes of a block are still to come.
+    to_come: u64,
+    /// Bytes of a number or of a length field that isn't whole.
+    pending: ArrayVec<u8, 16>,
+}
+
+impl Model for Coming {
+    ghost use Rattle.std.specs.Prelude.{option_map};
+    ghost use Rattle.dw_leb.specs.View.{uleb_of};
+    ghost use Rattle.dw_feed.specs.BodyFeed.{PartialUnit};
+    ghost use Rattle.dw_feed.specs.BodyView.{coming, partial_unit_code};
+
+    ghost Value = { PartialUnit };
+
+    ghost coded = { partial_unit_code };
+
+    ghost view = { λ a. coming a.draft a.unit_length (option_map uleb_of a.named) a.to_come a.pending.items };
+}
+
+impl Coming {
+    /// A unit of this header and unit_length of which nothing else came.
+    pub(crate) fn new(alloc: Global, header: Header, length: u64, table: Rc<Table>) -> Coming
+        ensures { result ≡ started header length table.value }
+    {
+        Coming {
+            draft: Draft::new(alloc, header, table),
+            unit_length: length,
+            named: None,
+            to_come: 0,
+            pending: ArrayVec::new(),
+        }
+    }
+
+    /// How many bytes the unit has behind what is whole of it (section 7.5.1).
+    pub(crate) fn left(&self) -> u64
+        requires { Standing self.now }
+        ensures { result ≡ left_of self.now }
+    {
+        let length_size = self.draft.header().format().length_size() as u64;
+        self.unit_length - (self.draft.size() - length_size)
+    }
+
+    /// How many bytes of a number or of a length field are kept.
+    pub(crate) fn pending(&self) -> usize
+        ensures { result ≡ length self.now.pending }
+    {
+        self.pending.len()
+    }
+
+    /// The code or null at the place, where it is the next field.
+    pub(crate) fn code(&mut self, b: &[u8]) -> Step
+        requires free { self.old.place.unfinished ≡ None }
+        requires stands { Keeps self.old }
+        requires has { HasPart self.old }
+        requires waits { FrontsWait self.old (part self.old) }
+        ensures { StepSays self.old (part self.old ++ b.now) result self.new }
+    {
+        let lim = self.left();
+        let mut rest = b;
+        loop {
+            match code_at(&self.draft, self.pending.as_slice(), lim) {
+                Ok(code) => return self.put(code, rest.len()),
+                Err(reason) => {
+                    if !is_cut(reason) {
+                        return Step::Refused(rest.len(), reason);
+                    }
+                }
+            }
+            match rest.split_first() {
+                Some((byte, others)) => {
+                    self.pending.push(*byte);
+                    rest = others;
+                }
+                None => return Step::Wanting,
+            }
+        }
+    }
+
+    /// A code or null that is whole stands at the place, and so many bytes are left over.
+    fn put(&mut self, code: Uleb, over: usize) -> Step
+        requires free { self.old.place.unfinished ≡ None }
+        requires stands { Standing self.old }
+        requires meant { code_meaning self.old.table self.old.place.spot.above self.old.place.spot.left (uleb_of code) ≡ None }
+        requires within { code.width ≤ left_of self.old }
+        requires named { self.old.named ≡ None }
+        requires none_to_come { self.old.to_come ≡ 0 }
+        ensures { BehindCode self.old (uleb_of code) over result self.new }
+    {
+        let put = if code.value != 0 {
+            self.draft.begin(code)
+        } else if self.draft.depth() > 0 {
+            self.draft.close(code.width)
+        } else {
+            self.draft.pad(code.width)
+        };
+        self.pending.clear();
+        match put {
+            Ok(()) => Step::Found(over),
+            Err(_) => Step::NoMemory,
+        }
+    }
+}

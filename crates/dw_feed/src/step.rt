@@ -1,0 +1,15 @@
+//! What becomes of one field of a unit that is pushed in pieces.
+use dw_leb::Reason;
+
+/// What a feed makes of the field at its place.
+#[derive(Clone, Copy, Debug, PartialEq, Eq)]
+pub(crate) enum Step {
+    /// It is whole, and so many bytes of the piece are left over.
+    Found(usize),
+    /// All bytes of the piece were taken, and it wants more.
+    Wanting,
+    /// It is refused, whatever follows, and so many bytes of the piece are left over.
+    Refused(usize, Reason),
+    /// A growth was refused.
+    NoMemory,
+}
