@@ -1,5 +1,5 @@
 -- What is left of a unit is room for a draft.
-use Rattle.std.proofs.Common.{◌≡◌, ◌≢◌, ℕ, zero, suc, ◌+◌, ◌-◌, ◌^◌, ◌<◌, ◌≤◌, Bool, true, false, List, [], ◌∷◌, ◌++◌, length, Option, Some, None, refl, sym, ap, subst, ◌∙◌, arith}
+use Rattle.std.proofs.Common.{◌≡◌, ◌≢◌, ℕ, zero, suc, ◌+◌, ◌-◌, ◌^◌, ◌<◌, ◌≤◌, Bool, true, false, List, [], ◌∷◌, ◌++◌, length, Option, Some, None, refl, sym, ap, subst, ◌∙◌, arith, length-append}
 use Rattle.std.specs.Prelude.{nat_le, nat_lt, ◌==◌, if◌then◌else◌}
 use Rattle.std.proofs.lemmas.Bool.{leb-true, leb-false, ltb-true, ltb-false, lt-ltb, eq-eqb, ne_eqb}
 use Rattle.dw_leb.specs.declared.errors.Reason.{Reason}
@@ -8,19 +8,20 @@ use Rattle.dw_leb.specs.declared.order.Order.{Order}
 use Rattle.dw_leb.specs.declared.order.Format.{Format}
 use Rattle.dw_leb.specs.declared.order.Format.TheVariants.{Dwarf32, Dwarf64}
 use Rattle.dw_leb.specs.Part.{Part, optional}
-use Rattle.dw_leb.specs.Number.{Unsigned, length_size, reserved, too_far, initial_length}
+use Rattle.dw_leb.specs.Number.{Unsigned, length_size, reserved, too_far, length_field, initial_length}
+use Rattle.dw_leb.specs.DecideNumber.{initial-size}
 use Rattle.dw_abbrev.specs.Table.{Table}
-use Rattle.dw_header.specs.Header.{Header}
-use Rattle.dw_header.specs.HeaderPlace.{header_size}
+use Rattle.dw_header.specs.Header.{Header, fields, fields_of}
+use Rattle.dw_header.specs.HeaderPlace.{header_bytes, header_size}
 use Rattle.dw_tree.specs.Tree.{Forest, none, more, nesting, unknown}
 use Rattle.dw_tree.specs.Levels.{nesting_is}
 use Rattle.dw_tree.specs.Place.{Frame}
 use Rattle.dw_unit.specs.Draft.{Drafted, drafted_size, size_limit, passes_limit}
 use Rattle.dw_unit.specs.Entries.{has_room}
 use Rattle.dw_feed.specs.PlaceRows.{draft_size}
-use Rattle.dw_feed.specs.BodyFeed.{PartialUnit}
+use Rattle.dw_feed.specs.BodyFeed.{PartialUnit, before}
 use Rattle.dw_feed.specs.BodyView.{drafted}
-use Rattle.dw_feed.specs.FeedInvariant.{left}
+use Rattle.dw_feed.specs.FeedInvariant.{body_so_far, left}
 use Rattle.dw_feed.specs.FieldSteps.{Standing, code_meaning}
 
 not_there : {X : Type 0} (b : Bool) (P : Part X) → (optional b P).Fits None → b ≡ false
@@ -73,3 +74,15 @@ level_for t (f ∷ fs) ts code e ne = by (nesting - length (f ∷ fs)) refl (rw 
     by : (m : ℕ) → nesting - length (f ∷ fs) ≡ m → (if has_room m then unknown t code.value else Some TooDeep) ≡ None → length (f ∷ fs) < nesting
     by zero same h = absurd cc
     by (suc m) same h = omega (arith, same)
+
+-- a draft's size is the count of the bytes before the place
+pub size_before : (g : PartialUnit) → drafted_size (drafted g) ≡ length (before g)
+size_before g =
+    let h : Header = g.header in
+    omega (
+      arith,
+      draft_size (drafted g),
+      initial-size h.order 0 h.format g.unit_length,
+      length-append ((length_field h.order).spell (h.format, g.unit_length)) ((fields h.order h.format).spell (fields_of h)),
+      length-append (header_bytes h g.unit_length) (body_so_far g),
+    )

@@ -5,3 +5,4 @@ mod Samples
 mod BodyFeedRows
 mod HeadFeedRows
 mod DraftRoom
+mod Turns

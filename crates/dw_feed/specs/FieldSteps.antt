@@ -1,6 +1,6 @@
 -- One step of a body feed, as its functions say it: the field at the place, over what is there of it and what is left of the piece.
-use Rattle.std.proofs.Common.{◌≡◌, ◌≢◌, ℕ, ◌+◌, ◌-◌, ◌<◌, ◌≤◌, Bool, true, false, List, [], ◌∷◌, ◌++◌, length, Option, Some, None, refl, sym, ap, ap₂, subst, ◌∙◌, arith, inl, inr, length-append, length-drop, append-nil}
-use Rattle.std.specs.Prelude.{option_map, IsTrue, ◌↔◌}
+use Rattle.std.proofs.Common.{◌≡◌, ◌≢◌, ◌⊎◌, ℕ, ◌+◌, ◌-◌, ◌<◌, ◌≤◌, Bool, true, false, List, [], ◌∷◌, ◌++◌, length, Option, Some, None, refl, sym, ap, ap₂, subst, ◌∙◌, arith, inl, inr, length-append, length-drop, append-nil}
+use Rattle.std.specs.Prelude.{option_map, is_some, IsTrue, ◌↔◌}
 use Rattle.dw_leb.specs.declared.errors.Reason.{Reason}
 use Rattle.dw_leb.specs.declared.errors.Reason.TheVariants.{Truncated}
 use Rattle.dw_leb.specs.Reader.{Outcome, Found, Broken, Reader, mapped, made, checked}
@@ -9,7 +9,7 @@ use Rattle.dw_leb.specs.ReadNumber.{read_uleb}
 use Rattle.dw_form.specs.declared.shape.Ctx.{Ctx}
 use Rattle.dw_abbrev.specs.Table.{Table, Pair, declared, is_null}
 use Rattle.dw_header.specs.Laws.{HasHeaderBytes}
-use Rattle.dw_tree.specs.Tree.{Forest, none, more, bad_root, bad_child, not_null, nesting, declared_pairs}
+use Rattle.dw_tree.specs.Tree.{Tree, Forest, none, more, bad_root, bad_child, not_null, nesting, declared_pairs}
 use Rattle.dw_tree.specs.Place.{Frame, PartialValue, UnfinishedEntry}
 use Rattle.dw_tree.specs.Steps.{given_partial, partial_in, next_pairs, settle}
 use Rattle.dw_unit.specs.Unit.{left_behind}
@@ -19,7 +19,10 @@ use Rattle.dw_leb.specs.NumberMoments.{leb_moment}
 use Rattle.dw_form.specs.ReadForm.{read_attribute}
 use Rattle.dw_form.specs.FormMoments.{attribute_moment, attribute_has}
 use Rattle.dw_feed.specs.CodeMoments.{root_code_has, child_code_has, null_has}
-use Rattle.dw_feed.specs.FeedSteps.{broken_wants, cut_wants}
+use Rattle.dw_feed.specs.FeedSteps.{broken_wants, cut_wants, RanSays, waiting_ends, refused_ends}
+use Rattle.dw_feed.specs.declared.progress.Progress.TheVariants as answers
+use Rattle.dw_feed.specs.declared.step.Taken.{Taken}
+use Rattle.dw_feed.specs.declared.step.Taken.TheVariants as takes
 use Rattle.dw_feed.specs.declared.step.Step.{Step}
 use Rattle.dw_feed.specs.declared.step.Step.TheVariants as steps
 use Rattle.dw_feed.specs.FieldPlace.{PlaceFits}
@@ -27,9 +30,9 @@ use Rattle.dw_feed.specs.FieldFound.{place}
 use Rattle.dw_feed.specs.NextField.{read_next, next_value_moment, next_moment, next_has}
 use Rattle.dw_feed.specs.FieldReader.{PlaceBehind, by_code, read_value, read_field}
 use Rattle.dw_form.specs.Pieces.{via_bytes}
-use Rattle.dw_feed.specs.BodyFeed.{PartialUnit, value_part, part}
-use Rattle.dw_feed.specs.FeedInvariant.{Keeps, body_so_far, frames_of, chain_of, context, left, wanted, moved_to}
-use Rattle.dw_feed.specs.PlainFeed.{field_at, holding, held_left, held_wanted}
+use Rattle.dw_feed.specs.BodyFeed.{PartialUnit, Reading, Refused, Finished, EndsBody, started, value_part, part}
+use Rattle.dw_feed.specs.FeedInvariant.{Keeps, Kept, body_so_far, frames_of, chain_of, context, left, wanted, moved_to}
+use Rattle.dw_feed.specs.PlainFeed.{ran, fault_at, root_if_whole, unit_with, field_at, holding, held_left, held_wanted}
 use Rattle.dw_feed.specs.PartialValues.{IsPartialAs, NamedFits, IsIncomplete, lim_behind}
 
 -- ---- a place that stands, where the unit may be whole
@@ -266,3 +269,56 @@ told b h e = h.0 e
 
 pub told_not : {P : Type 0} (b : Bool) → (IsTrue b ↔ P) → b ≡ false → P → ⊥
 told_not b h e p = let q : false ≡ true = sym e ∙ h.1 p in cc
+
+-- ---- a call, as the functions say it
+
+-- of the field at the place fewer bytes are there than it wants, or none
+abbrev pub Waits : PartialUnit → Type 0
+Waits g = (length (part g) < wanted g (part g)) ⊎ (part g ≡ [])
+
+pub waits_fronts : (g : PartialUnit) → Waits g → FrontsWait g (part g)
+waits_fronts g (inl short) front b e = elim (fewer_or_enough (length front) (wanted g front)) [
+  | inl less ↦ less
+  | inr enough ↦ absurd (omega (arith, short, enough, ap (wanted g) e, ap length e, length-append front (b ∷ []), (has_moment g).steady front (b ∷ []) (left g) enough))
+]
+waits_fronts g (inr none_there) front b e = absurd (omega (arith, ap length (sym none_there ∙ e), length-append front (b ∷ [])))
+
+-- what a call made of its piece
+abbrev pub TakenSays : PartialUnit → List ℕ → Taken → PartialUnit → Type 0
+TakenSays g piece takes.More new = RanSays g piece (ran answers.More (Reading new) 0) × HasPart new
+TakenSays g piece (takes.Whole over) new = (x : Tree) × (root_if_whole new ≡ Some x) × Standing new × RanSays g piece (ran (answers.Done (unit_with new x)) Finished over)
+TakenSays g piece (takes.Refused over fault) new = RanSays g piece (ran (answers.Fault fault) (Refused fault) over)
+TakenSays g piece takes.NoMemory new = Unit {0}
+
+-- ---- where the input ends
+
+-- what is there of a code is refused
+abbrev pub CodeBreaks : PartialUnit → Reason → Type 0
+CodeBreaks g reason = checked read_uleb (code_meaning g.table (frames_of g) (chain_of g)) (part g) (left g) ≡ Broken 0 reason
+
+pub code_ends : (g : PartialUnit) → g.place.unfinished ≡ None → Kept (Reading g) → (reason : Reason) → CodeBreaks g reason → EndsBody (Reading g) (Some (fault_at g reason))
+code_ends g free kept reason breaks = refused_ends g kept.0 kept.1 0 reason (code_read g free (part g) (Broken 0 reason) breaks)
+
+-- a value that isn't whole is cut off
+pub value_ends : (g : PartialUnit) → (is_some g.place.unfinished ≡ true) → Kept (Reading g) → EndsBody (Reading g) (Some (fault_at g Truncated))
+value_ends g some kept = by kept.2
+  where
+    by : (length (part g) < wanted g (part g)) ⊎ (g ≡ started g.header g.unit_length g.table) → EndsBody (Reading g) (Some (fault_at g Truncated))
+    by (inl short) = waiting_ends g kept.0 kept.1 short
+    by (inr new) = let none_there : false ≡ true = ap (λ (x : PartialUnit). is_some x.place.unfinished) (sym new) ∙ some in absurd cc
+
+-- a code that is there was read
+pub none_found : (g : PartialUnit) → g.place.unfinished ≡ None → Kept (Reading g) → (code : Unsigned) (size : ℕ) → 0 < size → checked read_uleb (code_meaning g.table (frames_of g) (chain_of g)) (part g) (left g) ≡ Found code size → ⊥
+none_found g free kept code size some e =
+    let q : PlaceBehind = behind_code (context g) g.table (frames_of g) (chain_of g) g.padding code in
+    let f : field_at g (part g) (left g) ≡ Found q size = code_read g free (part g) (Found code size) e in
+    let want : wanted g (part g) ≡ size = has_moment_whole g (part g) q size f in
+    let le : size ≤ length (part g) = there _ _ (has_moment g) (part g) (left g) q size f in
+    by kept.2 want le
+  where
+    has_moment_whole : (g : PartialUnit) (bytes : List ℕ) (q : PlaceBehind) (size : ℕ) → field_at g bytes (left g) ≡ Found q size → wanted g bytes ≡ size
+    has_moment_whole g bytes q size f = (has_moment g).whole bytes (left g) q size f
+
+    by : (length (part g) < wanted g (part g)) ⊎ (g ≡ started g.header g.unit_length g.table) → wanted g (part g) ≡ size → size ≤ length (part g) → ⊥
+    by (inl short) want le = omega (arith, short, want, le)
+    by (inr new) want le = omega (arith, some, le, ap (λ (x : PartialUnit). length (part x)) new)

@@ -1,17 +1,19 @@
 //! A unit of which only some bytes came (section 7.5).
-ghost use Rattle.std.specs.Prelude.{◌≡◌, ◌≢◌, ◌≤◌, ◌<◌, ◌+◌, ◌++◌, ◌∷◌, [], length, None, Some, IsSome, IfSome, option_map, OnOk, OnErr};
+ghost use Rattle.std.specs.Prelude.{◌≡◌, ◌≢◌, ◌≤◌, ◌<◌, ◌+◌, ◌-◌, ◌++◌, ◌∷◌, [], length, drop, None, Some, is_some, IsSome, IfSome, option_map, OnOk, OnErr};
+ghost use Rattle.dw_leb.specs.declared.errors.SectionId.TheVariants.{Info};
 ghost use Rattle.dw_leb.specs.View.{uleb_of};
+ghost use Rattle.dw_feed.specs.PlainFeed.{root_if_whole, unit_with};
 ghost use Rattle.dw_header.specs.Laws.{HasHeaderBytes};
-ghost use Rattle.dw_feed.specs.BodyFeed.{started, part};
-ghost use Rattle.dw_feed.specs.FeedInvariant.{Keeps, left as left_of, moved_to};
-ghost use Rattle.dw_feed.specs.FieldSteps.{Standing, HasPart, FrontsWait, StepSays, code_meaning, behind_code, BehindCode};
+ghost use Rattle.dw_feed.specs.BodyFeed.{Reading, EndsBody, started, part};
+ghost use Rattle.dw_feed.specs.FeedInvariant.{Keeps, Kept, left as left_of, moved_to};
+ghost use Rattle.dw_feed.specs.FieldSteps.{Standing, HasPart, FrontsWait, StepSays, code_meaning, behind_code, BehindCode, CodeBreaks};
 
 use crate::code::{code_at, is_cut};
 use crate::step::Step;
 use arrayvec::ArrayVec;
 use dw_abbrev::Table;
-use dw_leb::{Format, Reason, Uleb};
-use dw_unit::{Draft, Header};
+use dw_leb::{Fault, Reason, SectionId, Uleb};
+use dw_unit::{Draft, Header, Unit};
 use std::alloc::{AllocError, Global};
 use std::marker::Model;
 use std::rc::Rc;
@@ -124,5 +126,68 @@ impl Coming {
             Ok(()) => Step::Found(over),
             Err(_) => Step::NoMemory,
         }
+    }
+
+    /// The fault where the input ends here.
+    pub(crate) fn cut_off(&self) -> Fault
+        requires kept { Kept (Reading self.now) }
+        requires has { HasPart self.now }
+        ensures { EndsBody (Reading self.now) (Some result) }
+    {
+        let here = self.draft.size();
+        match self.draft.next_pair() {
+            Some(_) => fault_at(here, Reason::Truncated),
+            None => fault_at(here, self.code_fault()),
+        }
+    }
+
+    /// Why no code or null is whole at the place.
+    fn code_fault(&self) -> Reason
+        requires free { self.now.place.unfinished ≡ None }
+        requires kept { Kept (Reading self.now) }
+        requires has { HasPart self.now }
+        ensures { CodeBreaks self.now result }
+    {
+        match code_at(&self.draft, self.pending.as_slice(), self.left()) {
+            Ok(_) => unreachable!(),
+            Err(reason) => reason,
+        }
+    }
+
+    /// Whether the root is closed, and nothing is left of the unit.
+    fn is_whole(&self) -> bool
+        requires { Standing self.now }
+        ensures { result ≡ is_some (root_if_whole self.now) }
+    {
+        match self.draft.next_pair() {
+            Some(_) => false,
+            None => self.draft.depth() == 0 && !self.draft.is_empty() && self.left() == 0,
+        }
+    }
+
+    /// The unit, where it is whole.
+    pub(crate) fn finish(self) -> Unit
+        requires whole { IsSome (root_if_whole self) }
+        ensures { IfSome (root_if_whole self) (λ x. result ≡ unit_with self x) }
+    {
+        let Coming {
+            draft,
+            unit_length: _,
+            named: _,
+            to_come: _,
+            pending: _,
+        } = self;
+        draft.finish()
+    }
+}
+
+/// A fault of the unit, at this offset.
+fn fault_at(offset: u64, reason: Reason) -> Fault
+    ensures { result ≡ record { section = Info; offset = offset; reason = reason } }
+{
+    Fault {
+        section: SectionId::Info,
+        offset,
+        reason,
     }
 }

@@ -1,5 +1,5 @@
 //! What becomes of one field of a unit that is pushed in pieces.
-use dw_leb::Reason;
+use dw_leb::{Fault, Reason};
 
 /// What a feed makes of the field at its place.
 #[derive(Clone, Copy, Debug, PartialEq, Eq)]
@@ -10,6 +10,19 @@ pub(crate) enum Step {
     Wanting,
     /// It is refused, whatever follows, and so many bytes of the piece are left over.
     Refused(usize, Reason),
+    /// A growth was refused.
+    NoMemory,
+}
+
+/// What a unit makes of a piece.
+#[derive(Clone, Copy, Debug, PartialEq, Eq)]
+pub(crate) enum Taken {
+    /// All bytes of the piece were taken, and more are needed.
+    More,
+    /// The unit is whole, and so many bytes of the piece are left over.
+    Whole(usize),
+    /// A field is refused, whatever follows, and so many bytes of the piece are left over.
+    Refused(usize, Fault),
     /// A growth was refused.
     NoMemory,
 }
