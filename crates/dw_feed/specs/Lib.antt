@@ -30,3 +30,4 @@ pub mod PlaceRows
 pub mod HeldBounds
 pub mod FieldSteps
 pub mod BodyView
+pub mod BodyFeedView

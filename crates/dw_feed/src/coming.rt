@@ -1,17 +1,20 @@
 //! A unit of which only some bytes came (section 7.5).
 ghost use Rattle.std.specs.Prelude.{◌≡◌, ◌≢◌, ◌≤◌, ◌<◌, ◌+◌, ◌-◌, ◌++◌, ◌∷◌, [], length, drop, None, Some, is_some, IsSome, IfSome, option_map, OnOk, OnErr};
 ghost use Rattle.dw_leb.specs.declared.errors.SectionId.TheVariants.{Info};
+ghost use Rattle.dw_leb.specs.Decide.{AreBytes};
 ghost use Rattle.dw_leb.specs.View.{uleb_of};
+ghost use Rattle.dw_abbrev.specs.PairView.{pair_of};
+ghost use Rattle.dw_tree.specs.Steps.{next_pair};
 ghost use Rattle.dw_feed.specs.PlainFeed.{root_if_whole, unit_with};
 ghost use Rattle.dw_header.specs.Laws.{HasHeaderBytes};
 ghost use Rattle.dw_feed.specs.BodyFeed.{Reading, EndsBody, started, part};
 ghost use Rattle.dw_feed.specs.FeedInvariant.{Keeps, Kept, left as left_of, moved_to};
-ghost use Rattle.dw_feed.specs.FieldSteps.{Standing, HasPart, FrontsWait, StepSays, code_meaning, behind_code, BehindCode, CodeBreaks};
+ghost use Rattle.dw_feed.specs.FieldSteps.{Standing, HasPart, FrontsWait, StepSays, code_meaning, behind_code, BehindCode, CodeBreaks, Waits, TakenSays};
 
 use crate::code::{code_at, is_cut};
-use crate::step::Step;
+use crate::step::{Step, Taken};
 use arrayvec::ArrayVec;
-use dw_abbrev::Table;
+use dw_abbrev::{Pair, Table};
 use dw_leb::{Fault, Reason, SectionId, Uleb};
 use dw_unit::{Draft, Header, Unit};
 use std::alloc::{AllocError, Global};
@@ -128,6 +131,57 @@ impl Coming {
         }
     }
 
+    /// Takes fields of the piece while more are needed.
+    pub(crate) fn take(&mut self, piece: &[u8]) -> Taken
+        requires stands { Keeps self.old }
+        requires has { HasPart self.old }
+        requires fit { AreBytes (part self.old) }
+        requires waits { Waits self.old }
+        ensures { TakenSays self.old piece.now result self.new }
+    {
+        let mut left = piece;
+        loop {
+            let here = self.draft.size();
+            match self.step(left) {
+                Step::Found(over) => {
+                    left = last(left, over);
+                    if self.is_whole() {
+                        return Taken::Whole(over);
+                    }
+                }
+                Step::Wanting => return Taken::More,
+                Step::Refused(over, reason) => return Taken::Refused(over, fault_at(here, reason)),
+                Step::NoMemory => return Taken::NoMemory,
+            }
+        }
+    }
+
+    /// The field at the place.
+    fn step(&mut self, b: &[u8]) -> Step
+        requires stands { Keeps self.old }
+        requires has { HasPart self.old }
+        requires waits { Waits self.old }
+        ensures { StepSays self.old (part self.old ++ b.now) result self.new }
+    {
+        match self.draft.next_pair() {
+            None => self.code(b),
+            Some(pair) => self.value(pair, b),
+        }
+    }
+
+    /// STUB, to be written: it answers `NoMemory` for each value. The contract is the final one.
+    /// The value at the place, under its pair.
+    fn value(&mut self, pair: Pair, b: &[u8]) -> Step
+        requires next { next_pair self.old.table self.old.place.unfinished ≡ Some (pair_of pair) }
+        requires stands { Keeps self.old }
+        requires has { HasPart self.old }
+        requires waits { FrontsWait self.old (part self.old) }
+        ensures { StepSays self.old (part self.old ++ b.now) result self.new }
+    {
+        self.to_come = (b.len() + pair.form.width as usize) as u64 - b.len() as u64;
+        Step::NoMemory
+    }
+
     /// The fault where the input ends here.
     pub(crate) fn cut_off(&self) -> Fault
         requires kept { Kept (Reading self.now) }
@@ -190,4 +244,12 @@ fn fault_at(offset: u64, reason: Reason) -> Fault
         offset,
         reason,
     }
+}
+
+/// The last so many bytes.
+fn last(b: &[u8], over: usize) -> &[u8]
+    requires { over ≤ length b.now }
+    ensures { result.now ≡ drop (length b.now - over) b.now }
+{
+    &b[b.len() - over..]
 }

@@ -2,6 +2,7 @@
 //! their bytes come (section 7.5).
 #![tactic(auto)]
 
+mod body;
 mod bytes;
 mod code;
 mod coming;
@@ -11,6 +12,7 @@ mod progress;
 mod reader;
 mod step;
 
+pub use body::BodyFeed;
 pub use bytes::unit_bytes;
 pub use head::HeadFeed;
 pub use progress::Progress;

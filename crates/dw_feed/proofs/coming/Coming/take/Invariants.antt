@@ -1,0 +1,17 @@
+use Rattle.std.proofs.Common.{◌≡◌, ◌++◌, ℕ, length}
+use Rattle.dw_leb.specs.Decide.{AreBytes}
+use Rattle.dw_feed.specs.BodyFeed.{part}
+use Rattle.dw_feed.specs.FeedSteps.{At}
+use Rattle.dw_feed.specs.FieldSteps.{HasPart, Waits}
+use Rattle.dw_feed.proofs.Turns.{turns}
+use Rattle.dw_feed.proofs.coming.Coming.take.Given as goal
+
+abbrev pub invariant-loop-over : goal.invariant-loop-over
+invariant-loop-over l = record {
+  at : At l.fn.self l.fn.piece l.self (part l.self ++ l.left);
+  has : HasPart l.self;
+  waits : Waits l.self;
+}
+
+abbrev pub decreases-loop-over : goal.decreases-loop-over
+decreases-loop-over l = turns l.self (length l.left)

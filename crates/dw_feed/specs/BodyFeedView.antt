@@ -1,0 +1,28 @@
+-- A body feed's fields as the feed of the definitions.
+use Rattle.std.proofs.Common.{◌≡◌, ◌⊎◌, ℕ, ◌-◌, ◌≤◌, ◌<◌, List, [], ◌++◌, length, Option, Some, None, refl, sym, ap, subst, inl, inr, arith}
+use Rattle.dw_leb.specs.declared.errors.Fault.{Fault}
+use Rattle.dw_feed.specs.declared.progress.Progress.{Progress}
+use Rattle.dw_feed.specs.declared.progress.Progress.TheVariants as answers
+use Rattle.dw_unit.specs.Unit.{WholeUnit}
+use Rattle.dw_feed.specs.BodyFeed.{PartialUnit, BodyFeed, Reading, Refused, Finished, started, part}
+use Rattle.dw_feed.specs.FeedInvariant.{Keeps, Kept}
+use Rattle.dw_feed.specs.FieldSteps.{HasPart, Waits}
+
+abbrev pub feed_of : Option PartialUnit → Option Fault → BodyFeed
+feed_of (Some g) f = Reading g
+feed_of None (Some f) = Refused f
+feed_of None None = Finished
+
+-- what is true of it between its calls
+abbrev pub IsBodyFeed : BodyFeed → Type 0
+IsBodyFeed (Reading g) = Kept (Reading g) × HasPart g
+IsBodyFeed (Refused f) = Unit {0}
+IsBodyFeed Finished = Unit {0}
+
+-- of the field at its place fewer bytes are there than it wants, or none
+pub kept_waits : (g : PartialUnit) → Kept (Reading g) → Waits g
+kept_waits g kept = by kept.2
+  where
+    by : (length (part g) < Rattle.dw_feed.specs.FeedInvariant.wanted g (part g)) ⊎ (g ≡ started g.header g.unit_length g.table) → Waits g
+    by (inl short) = inl short
+    by (inr new) = inr (ap part new)

@@ -1,0 +1,116 @@
+//! A unit that is pushed in pieces behind its header (section 7.5).
+ghost use Rattle.std.specs.Prelude.{◌≡◌, length};
+ghost use Rattle.dw_header.specs.Laws.{HasHeaderBytes};
+ghost use Rattle.dw_feed.specs.BodyFeed.{Reading, started, FeedsBody, EndsBody};
+ghost use Rattle.dw_feed.specs.HeldCounts.{held};
+
+use crate::coming::Coming;
+use crate::progress::Progress;
+use crate::step::Taken;
+use dw_abbrev::Table;
+use dw_leb::Fault;
+use dw_unit::{Header, Unit};
+use std::alloc::Global;
+use std::marker::Model;
+use std::rc::Rc;
+
+/// The bytes of a unit behind its header, that are pushed in pieces of any size: its entries, over a table
+/// that is handed in, and its padding (sections 7.5.2 and 7.5.3). The unit, or its fault, is answered at the
+/// first byte that shows it. What came is kept as the unit's tree, and of a field that isn't whole at most
+/// sixteen bytes.
+#[derive(Debug, Drop)]
+pub struct BodyFeed {
+    coming: Option<Coming>,
+    fault: Option<Fault>,
+}
+
+impl Model for BodyFeed {
+    ghost use Rattle.dw_feed.specs.BodyFeed.{BodyFeed as TheFeed};
+    ghost use Rattle.dw_feed.specs.BodyFeedView.{feed_of, IsBodyFeed};
+    ghost use Rattle.std.specs.Coded.{codes};
+    ghost use Rattle.dw_feed.specs.BodyView.{partial_unit_code};
+
+    ghost Value = { TheFeed };
+
+    ghost coded = { Prim.hlevel (codes, partial_unit_code) };
+
+    ghost view = { λ a. feed_of a.coming a.fault };
+
+    ghost invariant = { λ a. IsBodyFeed (feed_of a.coming a.fault) };
+}
+
+impl BodyFeed {
+    /// A feed of the unit of this header and unit_length (section 7.5.1), over the table of its entries'
+    /// declarations, that took no bytes yet. It takes no memory.
+    pub fn new(alloc: Global, header: Header, length: u64, table: Rc<Table>) -> BodyFeed
+        requires { HasHeaderBytes header length }
+        ensures { result ≡ Reading (started header length table.value) }
+    {
+        BodyFeed {
+            coming: Some(Coming::new(alloc, header, length, table)),
+            fault: None,
+        }
+    }
+
+    /// Takes bytes of the piece, and answers how many, and what they show together with those that were
+    /// taken before.
+    ///
+    /// - `More`: the whole piece was taken, and a longer one is needed.
+    /// - `Done`: the unit. The last byte that was taken is the unit's last.
+    /// - `Fault`: the unit's fault, in `.debug_info`, never `Truncated`; its offset counts from the first
+    ///   byte of the unit. The last byte that was taken shows it first. Every later call answers it again.
+    /// - `NoMemory`: a growth was refused.
+    /// - `Spent`, after `Done` or `NoMemory`.
+    pub fn feed(&mut self, piece: &[u8]) -> (usize, Progress<Unit>)
+        ensures { FeedsBody self.old piece.now result.0 result.1 self.new }
+    {
+        let Some(coming) = &mut self.coming else {
+            return match self.fault {
+                Some(fault) => (0, Progress::Fault(fault)),
+                None => (0, Progress::Spent),
+            };
+        };
+        match coming.take(piece) {
+            Taken::More => (piece.len(), Progress::More),
+            Taken::Whole(over) => {
+                self.fault = None;
+                match self.coming.take() {
+                    Some(coming) => (piece.len() - over, Progress::Done(coming.finish())),
+                    None => unreachable!(),
+                }
+            }
+            Taken::Refused(over, fault) => {
+                self.coming = None;
+                self.fault = Some(fault);
+                (piece.len() - over, Progress::Fault(fault))
+            }
+            Taken::NoMemory => {
+                self.coming = None;
+                self.fault = None;
+                (0, Progress::NoMemory)
+            }
+        }
+    }
+
+    /// The end of the input: the fault of a unit of which bytes are missing, or the fault that was answered
+    /// before. None where the unit was, or where a growth was refused.
+    pub fn end(self) -> Option<Fault>
+        ensures { EndsBody self result }
+    {
+        match &self.coming {
+            Some(coming) => Some(coming.cut_off()),
+            None => self.fault,
+        }
+    }
+
+    /// How many bytes of a number or of a length field are kept: at most sixteen, and none once an answer
+    /// was not `More`.
+    pub fn pending(&self) -> usize
+        ensures { result ≡ (held self.now).pending }
+    {
+        match &self.coming {
+            Some(coming) => coming.pending(),
+            None => 0,
+        }
+    }
+}
