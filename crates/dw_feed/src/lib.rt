@@ -11,9 +11,11 @@ pub mod laws;
 mod progress;
 mod reader;
 mod step;
+mod unit;
 
 pub use body::BodyFeed;
 pub use bytes::unit_bytes;
 pub use head::HeadFeed;
 pub use progress::Progress;
 pub use reader::{read_unit_from, read_unit_from_as};
+pub use unit::{read_unit, read_unit_as};

@@ -9,3 +9,4 @@ pub mod UnitView
 pub mod BodyView
 pub mod Draft
 pub mod Build
+pub mod Inside
