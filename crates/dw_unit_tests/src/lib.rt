@@ -5,6 +5,8 @@
 #[cfg(test)]
 mod blocks;
 #[cfg(test)]
+mod body_feeds;
+#[cfg(test)]
 mod builders;
 #[cfg(test)]
 mod common;
@@ -12,6 +14,8 @@ mod common;
 mod drafts;
 #[cfg(test)]
 mod entries;
+#[cfg(test)]
+mod fed_units;
 #[cfg(test)]
 mod feeds;
 #[cfg(test)]
