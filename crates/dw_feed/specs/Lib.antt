@@ -31,3 +31,4 @@ pub mod HeldBounds
 pub mod FieldSteps
 pub mod BodyView
 pub mod BodyFeedView
+pub mod Openings

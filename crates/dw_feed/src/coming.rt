@@ -4,11 +4,15 @@ ghost use Rattle.dw_leb.specs.declared.errors.SectionId.TheVariants.{Info};
 ghost use Rattle.dw_leb.specs.Decide.{AreBytes};
 ghost use Rattle.dw_leb.specs.View.{uleb_of};
 ghost use Rattle.dw_abbrev.specs.PairView.{pair_of};
-ghost use Rattle.dw_tree.specs.Steps.{next_pair};
+ghost use Rattle.dw_tree.specs.Steps.{next_pair, partial_in};
+ghost use Rattle.dw_leb.specs.Reader.{Broken};
+ghost use Rattle.dw_leb.specs.declared.errors.Reason.TheVariants.{Truncated};
+ghost use Rattle.dw_form.specs.ReadForm.{read_attribute};
+ghost use Rattle.dw_feed.specs.Openings.{IsOpening};
 ghost use Rattle.dw_feed.specs.PlainFeed.{root_if_whole, unit_with};
 ghost use Rattle.dw_header.specs.Laws.{HasHeaderBytes};
 ghost use Rattle.dw_feed.specs.BodyFeed.{Reading, EndsBody, started, part};
-ghost use Rattle.dw_feed.specs.FeedInvariant.{Keeps, Kept, left as left_of, moved_to};
+ghost use Rattle.dw_feed.specs.FeedInvariant.{Keeps, Kept, context, left as left_of, moved_to};
 ghost use Rattle.dw_feed.specs.FieldSteps.{Standing, HasPart, FrontsWait, StepSays, code_meaning, behind_code, BehindCode, CodeBreaks, Waits, TakenSays};
 
 use crate::code::{code_at, is_cut};
@@ -20,6 +24,9 @@ use dw_unit::{Draft, Header, Unit};
 use std::alloc::{AllocError, Global};
 use std::marker::Model;
 use std::rc::Rc;
+
+/// The form of a value that names its form itself, `DW_FORM_indirect` (section 7.5.3).
+const INDIRECT: u64 = 0x16;
 
 /// A unit of which only some bytes came: what is whole is in a draft, and of the field that comes next the
 /// parts that came.
@@ -169,13 +176,91 @@ impl Coming {
         }
     }
 
-    /// STUB, to be written: it answers `NoMemory` for each value. The contract is the final one.
     /// The value at the place, under its pair.
     fn value(&mut self, pair: Pair, b: &[u8]) -> Step
         requires next { next_pair self.old.table self.old.place.unfinished ≡ Some (pair_of pair) }
         requires stands { Keeps self.old }
         requires has { HasPart self.old }
         requires waits { FrontsWait self.old (part self.old) }
+        ensures { StepSays self.old (part self.old ++ b.now) result self.new }
+    {
+        if self.draft.partial_value().is_some() {
+            self.content(pair, b)
+        } else if pair.form.value == INDIRECT && self.named.is_none() {
+            self.named_form(pair, b)
+        } else {
+            self.own_value(pair, b)
+        }
+    }
+
+    /// The form that an indirect value names, and the value behind it (section 7.5.3).
+    fn named_form(&mut self, pair: Pair, b: &[u8]) -> Step
+        requires next { next_pair self.old.table self.old.place.unfinished ≡ Some (pair_of pair) }
+        requires stands { Keeps self.old }
+        requires has { HasPart self.old }
+        requires waits { FrontsWait self.old (part self.old) }
+        requires between { partial_in self.old.place.unfinished ≡ None }
+        requires indirect { pair.form.value ≡ 0x16 }
+        requires unnamed { self.old.named ≡ None }
+        ensures { StepSays self.old (part self.old ++ b.now) result self.new }
+    {
+        self.to_come = (b.len() + pair.form.width as usize) as u64 - b.len() as u64;
+        Step::NoMemory
+    }
+
+    /// The value itself: a number, or the beginning of a text or block.
+    fn own_value(&mut self, pair: Pair, b: &[u8]) -> Step
+        requires next { next_pair self.old.table self.old.place.unfinished ≡ Some (pair_of pair) }
+        requires stands { Keeps self.old }
+        requires has { HasPart self.old }
+        requires waits { FrontsWait self.old (part self.old) }
+        requires between { partial_in self.old.place.unfinished ≡ None }
+        requires named { pair.form.value ≡ 0x16 → IsSome self.old.named }
+        ensures { StepSays self.old (part self.old ++ b.now) result self.new }
+    {
+        match self.opening(pair) {
+            Some((width, count)) => self.open(pair, width, count, b),
+            None => Step::NoMemory,
+        }
+    }
+
+    /// The text or block that begins here, where what comes before its content is whole and there is room for
+    /// it: a block's width and count of bytes.
+    fn opening(&self, pair: Pair) -> Option<(Option<u8>, u64)>
+        requires next { next_pair self.now.table self.now.place.unfinished ≡ Some (pair_of pair) }
+        requires stands { Standing self.now }
+        requires has { HasPart self.now }
+        requires between { partial_in self.now.place.unfinished ≡ None }
+        requires named { pair.form.value ≡ 0x16 → IsSome self.now.named }
+        requires cut { read_attribute (context self.now) pair.form.value (pair_of pair).constant (part self.now) (left_of self.now) ≡ Broken 0 Truncated }
+        ensures some { IfSome result (λ x. IsOpening self.now (pair_of pair) x.0 x.1) }
+        ensures none { result ≡ None → length self.now.pending < 16 }
+    {
+        None
+    }
+
+    /// A text or block begins, of which so many bytes are to come.
+    fn open(&mut self, pair: Pair, width: Option<u8>, count: u64, b: &[u8]) -> Step
+        requires next { next_pair self.old.table self.old.place.unfinished ≡ Some (pair_of pair) }
+        requires stands { Keeps self.old }
+        requires has { HasPart self.old }
+        requires waits { FrontsWait self.old (part self.old) }
+        requires between { partial_in self.old.place.unfinished ≡ None }
+        requires named { pair.form.value ≡ 0x16 → IsSome self.old.named }
+        requires opens { IsOpening self.old (pair_of pair) width count }
+        ensures { StepSays self.old (part self.old ++ b.now) result self.new }
+    {
+        self.to_come = count + 0;
+        Step::NoMemory
+    }
+
+    /// More of a text's or block's content.
+    fn content(&mut self, pair: Pair, b: &[u8]) -> Step
+        requires next { next_pair self.old.table self.old.place.unfinished ≡ Some (pair_of pair) }
+        requires stands { Keeps self.old }
+        requires has { HasPart self.old }
+        requires waits { FrontsWait self.old (part self.old) }
+        requires begun { IsSome (partial_in self.old.place.unfinished) }
         ensures { StepSays self.old (part self.old ++ b.now) result self.new }
     {
         self.to_come = (b.len() + pair.form.width as usize) as u64 - b.len() as u64;
