@@ -11,6 +11,7 @@ pub mod laws;
 mod progress;
 mod reader;
 mod step;
+mod value;
 
 pub use body::BodyFeed;
 pub use bytes::unit_bytes;

@@ -13,7 +13,7 @@ use Rattle.dw_feed.specs.BodyView.{coming}
 use Rattle.dw_feed.specs.FeedInvariant.{left as left_of, wanted, frames_of, chain_of}
 use Rattle.dw_feed.specs.PlainFeed.{holding}
 use Rattle.dw_feed.specs.FieldSteps.{Standing, StepSays, FrontsWait, HasPart, FieldPart, code_meaning, keeps_stands, code_part, code_step, code_refused, code_short, step_same, next_here, wait_more, told, told_not}
-use Rattle.dw_feed.proofs.coming.Coming.code.Goals as goal
+use Rattle.dw_feed.proofs.coming.Coming.code_in_parts.Goals as goal
 
 -- what the call read is what the plain reader reads of the bytes that are kept
 read_here : (g v : PartialUnit) → v ≡ g → (slice : List ℕ) → slice ≡ part g → (lim : ℕ) → lim ≡ left_of g → (o : Outcome Unsigned)
