@@ -1,11 +1,10 @@
 -- A value that is whole is one that a draft may be given.
-use Rattle.std.proofs.Common.{◌≡◌, ℕ, ◌≤◌, false, List, [], ◌++◌, length, Some, refl, sym, ap, subst, ◌∙◌, arith}
+use Rattle.std.proofs.Common.{◌≡◌, ℕ, ◌≤◌, false, List, length, Some, ap, ◌∙◌, arith}
 use Rattle.std.specs.Prelude.{Result, Ok, Err, IfOk, IfErr}
 use Rattle.dw_leb.specs.declared.errors.Reason.{Reason}
 use Rattle.dw_leb.specs.Part.{Part, Taken}
 use Rattle.dw_leb.specs.Reader.{Reader}
 use Rattle.dw_leb.specs.Decide.{Decides, found}
-use Rattle.dw_form.specs.declared.shape.Ctx.{Ctx}
 use Rattle.dw_form.specs.Form.{Attribute, attribute}
 use Rattle.dw_form.specs.Lent.{lent_outcome}
 use Rattle.dw_abbrev.specs.Table.{Pair}

@@ -5,16 +5,14 @@ use Rattle.std.proofs.lemmas.List.{drop_at}
 use Rattle.dw_leb.specs.declared.errors.Reason.{Reason}
 use Rattle.dw_leb.specs.declared.errors.Reason.TheVariants.{Truncated}
 use Rattle.dw_leb.specs.Part.{Taken, judged}
-use Rattle.dw_leb.specs.Number.{Unsigned, uleb}
+use Rattle.dw_leb.specs.Number.{Unsigned, Signed, uleb}
 use Rattle.dw_leb.specs.Reader.{Outcome, Found, Broken, behind, mapped, checked, at_front}
 use Rattle.dw_leb.specs.ReadNumber.{read_uleb}
-use Rattle.dw_leb.specs.Decide.{found, broken}
 use Rattle.dw_form.specs.declared.shape.Ctx.{Ctx}
 use Rattle.dw_form.specs.Form.{Attribute, bad_inner}
 use Rattle.dw_form.specs.ReadForm.{read_attribute, read_formed, indirect_from}
 use Rattle.dw_form.specs.Pieces.{via_bytes}
 use Rattle.dw_abbrev.specs.Table.{Table, Pair, declared}
-use Rattle.dw_leb.specs.Number.{Signed}
 use Rattle.dw_tree.specs.Tree.{Forest, none, more, declared_pairs}
 use Rattle.dw_tree.specs.Place.{Frame, PartialValue, UnfinishedEntry}
 use Rattle.dw_tree.specs.Steps.{partial_in, next_pair, next_pairs, value_at}
@@ -23,7 +21,7 @@ use Rattle.dw_feed.specs.declared.step.Attempt.{Attempt}
 use Rattle.dw_feed.specs.declared.step.Attempt.TheVariants as attempts
 use Rattle.dw_feed.specs.declared.step.Step.{Step}
 use Rattle.dw_feed.specs.declared.step.Step.TheVariants as steps
-use Rattle.dw_feed.specs.FieldPlace.{PlaceFits, PaddingFits}
+use Rattle.dw_feed.specs.FieldPlace.{PaddingFits}
 use Rattle.dw_feed.specs.BodyFeed.{PartialUnit, value_part, part}
 use Rattle.dw_feed.specs.BodyView.{drafted}
 use Rattle.dw_feed.specs.FieldReader.{PlaceBehind, read_value, read_field}

@@ -1,10 +1,10 @@
-use Rattle.std.proofs.Common.{◌≡◌, subst, arith}
+use Rattle.std.proofs.Common.{subst, arith}
 use Rattle.std.specs.Prelude.{Result, Ok, Err, IfOk}
 use Rattle.dw_leb.specs.declared.errors.Reason.{Reason}
 use Rattle.dw_leb.specs.declared.unsigned.Uleb.{Uleb}
 use Rattle.dw_leb.specs.Part.{Taken, judged}
-use Rattle.dw_leb.specs.Number.{Unsigned, uleb}
-use Rattle.dw_leb.specs.Reader.{Outcome, checked, outcome_of}
+use Rattle.dw_leb.specs.Number.{uleb}
+use Rattle.dw_leb.specs.Reader.{outcome_of}
 use Rattle.dw_leb.specs.ReadNumber.{read_uleb}
 use Rattle.dw_leb.specs.View.{uleb_of}
 use Rattle.dw_leb.specs.Field.{are_bytes}

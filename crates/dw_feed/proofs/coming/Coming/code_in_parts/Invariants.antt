@@ -1,4 +1,4 @@
-use Rattle.std.proofs.Common.{◌≡◌, ◌++◌, ℕ, length, None, []}
+use Rattle.std.proofs.Common.{◌≡◌, ◌++◌, length, None, []}
 use Rattle.dw_feed.specs.BodyFeed.{part}
 use Rattle.dw_feed.specs.FeedInvariant.{left as left_of}
 use Rattle.dw_feed.specs.PlainFeed.{holding}

@@ -1,14 +1,15 @@
-use Rattle.std.proofs.Common.{◌≡◌, ◌<◌, ◌++◌, ◌∷◌, [], length, None, ℕ, List, Option, refl, sym, ap, ap₂, subst, ◌∙◌, arith}
+use Rattle.std.proofs.Common.{◌≡◌, ◌++◌, ◌∷◌, [], length, None, ℕ, List, Option, sym, ap, ap₂, subst, ◌∙◌}
+use Rattle.std.proofs.lemmas.List.{nil_from_length}
 use Rattle.std.specs.Prelude.{option_map}
 use Rattle.dw_leb.specs.declared.errors.Reason.{Reason}
 use Rattle.dw_leb.specs.declared.errors.Reason.TheVariants.{Truncated}
 use Rattle.dw_leb.specs.Part.{Taken, judged}
 use Rattle.dw_leb.specs.Number.{Unsigned, uleb}
-use Rattle.dw_leb.specs.Reader.{Outcome, checked, Broken}
+use Rattle.dw_leb.specs.Reader.{checked, Broken}
 use Rattle.dw_leb.specs.ReadNumber.{read_uleb}
 use Rattle.dw_leb.specs.Decide.{broken}
 use Rattle.dw_leb.specs.View.{uleb_of}
-use Rattle.dw_form.specs.Form.{Attribute, bad_inner}
+use Rattle.dw_form.specs.Form.{bad_inner}
 use Rattle.dw_form.specs.ReadForm.{read_attribute}
 use Rattle.dw_form.specs.Pieces.{via_bytes}
 use Rattle.dw_abbrev.specs.PairView.{pair_of}
@@ -19,12 +20,8 @@ use Rattle.dw_feed.specs.BodyFeed.{PartialUnit, part}
 use Rattle.dw_feed.specs.BodyView.{coming}
 use Rattle.dw_feed.specs.FeedInvariant.{context, left as left_of}
 use Rattle.dw_feed.specs.FieldSteps.{keeps_stands, told, told_not}
-use Rattle.dw_feed.specs.ValueSteps.{InValue, keeping, naming, part_free, form_refused, value_step, value_refused, value_wants, value_goes_on, value_named}
+use Rattle.dw_feed.specs.ValueSteps.{InValue, keeping, part_free, form_refused, value_step, value_refused, value_wants, value_goes_on, value_named}
 use Rattle.dw_feed.proofs.coming.Coming.named_form.Goals as goal
-
-none_left : (xs : List ℕ) → length xs ≡ 0 → xs ≡ []
-none_left [] e = refl
-none_left (x ∷ xs) e = absurd (omega (arith, e))
 
 -- what the call refused of the bytes that are kept is refused of the value
 refused_here : (g : PartialUnit) (p : Pair) → p.form.value ≡ 0x16 → partial_in g.place.unfinished ≡ None → g.named ≡ None → (slice : List ℕ) → slice ≡ g.pending → (lim : ℕ) → lim ≡ left_of g → (reason : Reason)
@@ -82,7 +79,7 @@ returns-in-None c =
     let kept : c.as_slice.result.now ≡ g.pending = c.as_slice.ensures.value ∙ ap (λ (x : PartialUnit). x.pending) c.self-in-loop-form.view_is in
     let cut : c.in-Err.reason ≡ Truncated = told c.is_cut.result c.is_cut.ensures c.if-not-is_cut.false in
     let read = refused_here g p i.indirect i.at.between i.unnamed c.as_slice.result.now kept c.left-lim.result i.lim_is Truncated (c.in-Err.ensures.exact ∙ ap (λ (r : Reason). broken Unsigned 0 r) cut) in
-    value_wants c.args.self.now c.args.b.now p g c.loop-form.rest.now i.at (none_left c.loop-form.rest.now c.in-None.ensures.cases) read
+    value_wants c.args.self.now c.args.b.now p g c.loop-form.rest.now i.at (nil_from_length c.loop-form.rest.now c.in-None.ensures.cases) read
 
 pub loop-form-preserved : goal.loop-form-preserved
 loop-form-preserved c =

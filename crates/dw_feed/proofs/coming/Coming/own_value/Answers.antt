@@ -1,4 +1,5 @@
-use Rattle.std.proofs.Common.{◌≡◌, ◌<◌, ◌++◌, ◌∷◌, [], length, ℕ, List, refl, sym, ap, ap₂, subst, ◌∙◌, arith}
+use Rattle.std.proofs.Common.{◌≡◌, ◌++◌, ◌∷◌, [], length, ℕ, sym, ap, ap₂, subst, ◌∙◌}
+use Rattle.std.proofs.lemmas.List.{nil_from_length}
 use Rattle.std.specs.Prelude.{option_map, IsSome}
 use Rattle.dw_leb.specs.declared.errors.Reason.{Reason}
 use Rattle.dw_leb.specs.declared.errors.Reason.TheVariants.{Truncated}
@@ -16,10 +17,6 @@ use Rattle.dw_feed.specs.FeedInvariant.{context, left as left_of}
 use Rattle.dw_feed.specs.FieldSteps.{keeps_stands, told, told_not}
 use Rattle.dw_feed.specs.ValueSteps.{InValue, keeping, value_step, value_whole, value_refused, value_wants, value_goes_on}
 use Rattle.dw_feed.proofs.coming.Coming.own_value.Goals as goal
-
-none_left : (xs : List ℕ) → length xs ≡ 0 → xs ≡ []
-none_left [] e = refl
-none_left (x ∷ xs) e = absurd (omega (arith, e))
 
 -- what is there of the value is cut off
 abbrev IsCutAt : Pair → PartialUnit → Type 0
@@ -57,7 +54,7 @@ returns-in-None c =
     let at = subst (λ (x : PartialUnit). InValue c.args.self.now c.args.b.now p x c.loop-reason.rest.now) (sym c.in-Broken.ensures.1) i in
     let cut : c.in-Broken.reason ≡ Truncated = told c.is_cut.result c.is_cut.ensures c.if-not-is_cut.false in
     let read = subst (IsCutAt p) (sym c.in-Broken.ensures.1) (c.in-Broken.ensures.0 ∙ ap (λ (r : Reason). broken Attribute 0 r) cut) in
-    value_wants c.args.self.now c.args.b.now p h c.loop-reason.rest.now at (none_left c.loop-reason.rest.now c.in-None.ensures.cases) read
+    value_wants c.args.self.now c.args.b.now p h c.loop-reason.rest.now at (nil_from_length c.loop-reason.rest.now c.in-None.ensures.cases) read
 
 pub loop-reason-preserved : goal.loop-reason-preserved
 loop-reason-preserved c =
