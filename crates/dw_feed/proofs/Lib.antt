@@ -5,4 +5,5 @@ mod Samples
 mod BodyFeedRows
 mod HeadFeedRows
 mod DraftRoom
+mod ValueRoom
 mod Turns

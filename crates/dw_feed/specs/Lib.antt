@@ -32,3 +32,5 @@ pub mod FieldSteps
 pub mod BodyView
 pub mod BodyFeedView
 pub mod FedUnit
+pub mod Openings
+pub mod ValueSteps

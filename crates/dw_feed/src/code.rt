@@ -11,7 +11,7 @@ use dw_leb::{Reason, Uleb};
 use dw_unit::Draft;
 
 /// A number, as the plain reader's outcome.
-fn number(b: &[u8], lim: u64) -> Result<Uleb, Reason>
+pub(crate) fn number(b: &[u8], lim: u64) -> Result<Uleb, Reason>
     ensures exact { read_uleb b.now lim ≡ outcome_of uleb_of (λ x. x.width) result }
     ensures room { IfOk result (λ x. (x.width ≤ length b.now) × (x.width ≤ lim)) }
 {

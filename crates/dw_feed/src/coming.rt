@@ -1,20 +1,32 @@
 //! A unit of which only some bytes came (section 7.5).
-ghost use Rattle.std.specs.Prelude.{◌≡◌, ◌≢◌, ◌≤◌, ◌<◌, ◌+◌, ◌-◌, ◌++◌, ◌∷◌, [], length, drop, None, Some, is_some, IsSome, IfSome, option_map, OnOk, OnErr};
+ghost use Rattle.std.specs.Prelude.{◌≡◌, ◌≢◌, ◌≤◌, ◌<◌, ◌+◌, ◌-◌, ◌++◌, ◌∷◌, [], length, drop, None, Some, is_some, IsSome, IfSome, option_map, OnOk, OnErr, false};
 ghost use Rattle.dw_leb.specs.declared.errors.SectionId.TheVariants.{Info};
 ghost use Rattle.dw_leb.specs.Decide.{AreBytes};
 ghost use Rattle.dw_leb.specs.View.{uleb_of};
+ghost use Rattle.dw_leb.specs.Reader.{Broken};
+ghost use Rattle.dw_leb.specs.declared.errors.Reason.TheVariants.{Truncated};
+ghost use Rattle.dw_form.specs.Lent.{attribute_of};
+ghost use Rattle.dw_form.specs.Pieces.{via_bytes};
+ghost use Rattle.dw_form.specs.ReadForm.{read_attribute};
 ghost use Rattle.dw_abbrev.specs.PairView.{pair_of};
-ghost use Rattle.dw_tree.specs.Steps.{next_pair};
-ghost use Rattle.dw_feed.specs.PlainFeed.{root_if_whole, unit_with};
+ghost use Rattle.dw_tree.specs.Steps.{next_pair, partial_in, NextFits};
 ghost use Rattle.dw_header.specs.Laws.{HasHeaderBytes};
+ghost use Rattle.dw_unit.specs.Draft.{given, passes_limit, value_bytes};
+ghost use Rattle.dw_feed.specs.BodyView.{drafted};
+ghost use Rattle.dw_feed.specs.ValueSteps.{ValueSays, naming};
+ghost use Rattle.dw_feed.specs.Openings.{IsOpening};
+ghost use Rattle.dw_feed.specs.PlainFeed.{root_if_whole, unit_with};
 ghost use Rattle.dw_feed.specs.BodyFeed.{Reading, EndsBody, started, part};
-ghost use Rattle.dw_feed.specs.FeedInvariant.{Keeps, Kept, left as left_of, moved_to};
+ghost use Rattle.dw_feed.specs.FeedInvariant.{Keeps, Kept, context, left as left_of, moved_to};
 ghost use Rattle.dw_feed.specs.FieldSteps.{Standing, HasPart, FrontsWait, StepSays, code_meaning, behind_code, BehindCode, CodeBreaks, Waits, TakenSays};
 
 use crate::code::{code_at, is_cut};
-use crate::step::{Step, Taken};
+use crate::step::{Attempt, Step, Taken};
+use crate::value::{form_at, joined, value_at, without_front};
 use arrayvec::ArrayVec;
 use dw_abbrev::{Pair, Table};
+use dw_form::AttrValue;
+use dw_leb::constants::form::DW_FORM_INDIRECT;
 use dw_leb::{Fault, Reason, SectionId, Uleb};
 use dw_unit::{Draft, Header, Unit};
 use std::alloc::{AllocError, Global};
@@ -78,8 +90,25 @@ impl Coming {
         self.pending.len()
     }
 
-    /// The code or null at the place, where it is the next field.
-    pub(crate) fn code(&mut self, b: &[u8]) -> Step
+    /// The code or null at the place, where it is the next field: straight from the piece, where it is whole there.
+    fn code(&mut self, b: &[u8]) -> Step
+        requires free { self.old.place.unfinished ≡ None }
+        requires stands { Keeps self.old }
+        requires has { HasPart self.old }
+        requires waits { FrontsWait self.old (part self.old) }
+        ensures { StepSays self.old (part self.old ++ b.now) result self.new }
+    {
+        if self.pending.is_empty() {
+            let lim = self.left();
+            if let Ok(code) = code_at(&self.draft, b, lim) {
+                return self.put(code, b.len() - code.width as usize);
+            }
+        }
+        self.code_in_parts(b)
+    }
+
+    /// The same byte by byte: of its number some bytes may be kept.
+    fn code_in_parts(&mut self, b: &[u8]) -> Step
         requires free { self.old.place.unfinished ≡ None }
         requires stands { Keeps self.old }
         requires has { HasPart self.old }
@@ -169,13 +198,236 @@ impl Coming {
         }
     }
 
-    /// STUB, to be written: it answers `NoMemory` for each value. The contract is the final one.
     /// The value at the place, under its pair.
     fn value(&mut self, pair: Pair, b: &[u8]) -> Step
         requires next { next_pair self.old.table self.old.place.unfinished ≡ Some (pair_of pair) }
         requires stands { Keeps self.old }
         requires has { HasPart self.old }
         requires waits { FrontsWait self.old (part self.old) }
+        ensures { StepSays self.old (part self.old ++ b.now) result self.new }
+    {
+        if self.draft.partial_value().is_some() {
+            self.content(pair, b)
+        } else if self.named.is_none() && self.pending.is_empty() {
+            self.new_value(pair, b)
+        } else {
+            self.value_in_parts(pair, b)
+        }
+    }
+
+    /// The value at the place, of which nothing is there yet: straight from the piece, where it is whole there.
+    fn new_value(&mut self, pair: Pair, b: &[u8]) -> Step
+        requires next { next_pair self.old.table self.old.place.unfinished ≡ Some (pair_of pair) }
+        requires stands { Keeps self.old }
+        requires has { HasPart self.old }
+        requires between { partial_in self.old.place.unfinished ≡ None }
+        requires none_there { part self.old ≡ [] }
+        ensures { StepSays self.old (part self.old ++ b.now) result self.new }
+    {
+        let lim = self.left();
+        match self.give(pair, b, lim) {
+            Attempt::Whole(size) => Step::Found(b.len() - size),
+            Attempt::Broken(_) => self.value_in_parts(pair, b),
+            Attempt::NoMemory => Step::NoMemory,
+        }
+    }
+
+    /// The value at the place, of whose number or length field some bytes may be kept.
+    fn value_in_parts(&mut self, pair: Pair, b: &[u8]) -> Step
+        requires next { next_pair self.old.table self.old.place.unfinished ≡ Some (pair_of pair) }
+        requires stands { Keeps self.old }
+        requires has { HasPart self.old }
+        requires waits { FrontsWait self.old (part self.old) }
+        requires between { partial_in self.old.place.unfinished ≡ None }
+        ensures { StepSays self.old (part self.old ++ b.now) result self.new }
+    {
+        if pair.form.value == DW_FORM_INDIRECT && self.named.is_none() {
+            self.named_form(pair, b)
+        } else {
+            self.own_value(pair, b)
+        }
+    }
+
+    /// The form that an indirect value names, and the value behind it (section 7.5.3).
+    fn named_form(&mut self, pair: Pair, b: &[u8]) -> Step
+        requires next { next_pair self.old.table self.old.place.unfinished ≡ Some (pair_of pair) }
+        requires stands { Keeps self.old }
+        requires has { HasPart self.old }
+        requires waits { FrontsWait self.old (part self.old) }
+        requires between { partial_in self.old.place.unfinished ≡ None }
+        requires indirect { pair.form.value ≡ 0x16 }
+        requires unnamed { self.old.named ≡ None }
+        ensures { StepSays self.old (part self.old ++ b.now) result self.new }
+    {
+        let lim = self.left();
+        let mut rest = b;
+        loop {
+            match form_at(self.pending.as_slice(), lim) {
+                Ok(form) => {
+                    self.name(form);
+                    return self.own_value(pair, rest);
+                }
+                Err(reason) => {
+                    if !is_cut(reason) {
+                        return Step::Refused(rest.len(), reason);
+                    }
+                }
+            }
+            match rest.split_first() {
+                Some((byte, others)) => {
+                    self.pending.push(*byte);
+                    rest = others;
+                }
+                None => return Step::Wanting,
+            }
+        }
+    }
+
+    /// The form that an indirect value names is whole: it leaves the bytes that are kept.
+    fn name(&mut self, form: Uleb)
+        requires there { form.width ≤ length self.old.pending }
+        ensures { self.new ≡ naming self.old (uleb_of form) }
+    {
+        let behind = without_front(self.pending.as_slice(), form.width as usize);
+        self.named = Some(form);
+        self.pending = behind;
+    }
+
+    /// The value itself: a number, or the beginning of a text or block.
+    fn own_value(&mut self, pair: Pair, b: &[u8]) -> Step
+        requires next { next_pair self.old.table self.old.place.unfinished ≡ Some (pair_of pair) }
+        requires stands { Keeps self.old }
+        requires has { HasPart self.old }
+        requires waits { FrontsWait self.old (part self.old) }
+        requires between { partial_in self.old.place.unfinished ≡ None }
+        requires named { pair.form.value ≡ 0x16 → IsSome self.old.named }
+        ensures { StepSays self.old (part self.old ++ b.now) result self.new }
+    {
+        let lim = self.left();
+        let mut rest = b;
+        loop {
+            match self.give_front(pair, lim) {
+                Attempt::Whole(_) => return Step::Found(rest.len()),
+                Attempt::NoMemory => return Step::NoMemory,
+                Attempt::Broken(reason) => {
+                    if !is_cut(reason) {
+                        return Step::Refused(rest.len(), reason);
+                    }
+                }
+            }
+            if let Some((width, count)) = self.opening(pair) {
+                return self.open(pair, width, count, rest);
+            }
+            match rest.split_first() {
+                Some((byte, others)) => {
+                    self.pending.push(*byte);
+                    rest = others;
+                }
+                None => return Step::Wanting,
+            }
+        }
+    }
+
+    /// What is there of the value, where it is the whole value, goes to the draft.
+    fn give_front(&mut self, pair: Pair, lim: u64) -> Attempt
+        requires next { next_pair self.old.table self.old.place.unfinished ≡ Some (pair_of pair) }
+        requires stands { Standing self.old }
+        requires between { partial_in self.old.place.unfinished ≡ None }
+        requires lim { lim ≡ left_of self.old }
+        ensures { ValueSays self.old (pair_of pair) (part self.old) result self.new }
+    {
+        let front = self.front();
+        self.give(pair, front.as_slice(), lim)
+    }
+
+    /// What is there of the value: the form that it names, and bytes of a number or of a length field.
+    fn front(&self) -> ArrayVec<u8, 32>
+        requires between { partial_in self.now.place.unfinished ≡ None }
+        ensures { result.items ≡ part self.now }
+    {
+        let named = self.named_bytes();
+        joined(named.as_slice(), self.pending.as_slice())
+    }
+
+    /// The bytes of the form that an indirect value names.
+    fn named_bytes(&self) -> ArrayVec<u8, 16>
+        ensures { result.items ≡ via_bytes self.now.named }
+    {
+        match self.named {
+            Some(form) => form.bytes(),
+            None => ArrayVec::new(),
+        }
+    }
+
+    /// The value at the front of these bytes, of which `lim` are left to the unit's end, goes to the draft.
+    fn give(&mut self, pair: Pair, bytes: &[u8], lim: u64) -> Attempt
+        requires next { next_pair self.old.table self.old.place.unfinished ≡ Some (pair_of pair) }
+        requires stands { Standing self.old }
+        requires between { partial_in self.old.place.unfinished ≡ None }
+        requires lim { lim ≡ left_of self.old }
+        ensures { ValueSays self.old (pair_of pair) bytes.now result self.new }
+    {
+        let context = self.draft.header().context();
+        match value_at(context, pair, bytes, lim) {
+            Ok((value, size)) => match self.settle(&value) {
+                Ok(()) => Attempt::Whole(size),
+                Err(_) => Attempt::NoMemory,
+            },
+            Err(reason) => Attempt::Broken(reason),
+        }
+    }
+
+    /// A value that is whole goes to the draft, and nothing of it is kept.
+    fn settle(&mut self, value: &AttrValue<'_>) -> Result<(), AllocError>
+        requires between { partial_in self.old.place.unfinished ≡ None }
+        requires fits { NextFits (context self.old) self.old.table self.old.place.unfinished (attribute_of value.now) }
+        requires short { passes_limit (drafted self.old) (length (value_bytes (drafted self.old) (attribute_of value.now))) ≡ false }
+        ensures { OnOk result (self.new ≡ moved_to (given (attribute_of value.now) (drafted self.old)).place self.old.padding self.old) }
+    {
+        self.draft.value(value)?;
+        self.named = None;
+        self.to_come = 0;
+        self.pending.clear();
+        Ok(())
+    }
+
+    /// The text or block that begins here, where what comes before its content is whole and there is room for
+    /// it: a block's width and count of bytes.
+    fn opening(&self, pair: Pair) -> Option<(Option<u8>, u64)>
+        requires next { next_pair self.now.table self.now.place.unfinished ≡ Some (pair_of pair) }
+        requires stands { Standing self.now }
+        requires has { HasPart self.now }
+        requires between { partial_in self.now.place.unfinished ≡ None }
+        requires named { pair.form.value ≡ 0x16 → IsSome self.now.named }
+        requires cut { read_attribute (context self.now) pair.form.value (pair_of pair).constant (part self.now) (left_of self.now) ≡ Broken 0 Truncated }
+        ensures some { IfSome result (λ x. IsOpening self.now (pair_of pair) x.0 x.1) }
+        ensures none { result ≡ None → length self.now.pending < 16 }
+    {
+        None
+    }
+
+    /// A text or block begins, of which so many bytes are to come.
+    fn open(&mut self, pair: Pair, width: Option<u8>, count: u64, b: &[u8]) -> Step
+        requires next { next_pair self.old.table self.old.place.unfinished ≡ Some (pair_of pair) }
+        requires stands { Keeps self.old }
+        requires has { HasPart self.old }
+        requires waits { FrontsWait self.old (part self.old) }
+        requires between { partial_in self.old.place.unfinished ≡ None }
+        requires named { pair.form.value ≡ 0x16 → IsSome self.old.named }
+        requires opens { IsOpening self.old (pair_of pair) width count }
+        ensures { StepSays self.old (part self.old ++ b.now) result self.new }
+    {
+        self.to_come = count + 0;
+        Step::NoMemory
+    }
+
+    /// More of a text's or block's content.
+    fn content(&mut self, pair: Pair, b: &[u8]) -> Step
+        requires next { next_pair self.old.table self.old.place.unfinished ≡ Some (pair_of pair) }
+        requires stands { Keeps self.old }
+        requires has { HasPart self.old }
+        requires waits { FrontsWait self.old (part self.old) }
+        requires begun { IsSome (partial_in self.old.place.unfinished) }
         ensures { StepSays self.old (part self.old ++ b.now) result self.new }
     {
         self.to_come = (b.len() + pair.form.width as usize) as u64 - b.len() as u64;

@@ -12,6 +12,7 @@ mod progress;
 mod reader;
 mod step;
 mod unit;
+mod value;
 
 pub use body::BodyFeed;
 pub use bytes::unit_bytes;

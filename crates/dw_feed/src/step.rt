@@ -14,6 +14,17 @@ pub(crate) enum Step {
     NoMemory,
 }
 
+/// What one attempt to read the field at the place gives.
+#[derive(Clone, Copy, Debug, PartialEq, Eq)]
+pub(crate) enum Attempt {
+    /// It is at the front, with so many bytes, and was put into the draft.
+    Whole(usize),
+    /// It is refused. Nothing was changed.
+    Broken(Reason),
+    /// A growth was refused.
+    NoMemory,
+}
+
 /// What a unit makes of a piece.
 #[derive(Clone, Copy, Debug, PartialEq, Eq)]
 pub(crate) enum Taken {

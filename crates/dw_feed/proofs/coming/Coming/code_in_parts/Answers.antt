@@ -1,4 +1,5 @@
-use Rattle.std.proofs.Common.{◌≡◌, ◌≢◌, ◌≤◌, ◌<◌, ◌+◌, ◌++◌, ◌∷◌, [], length, None, ℕ, List, refl, sym, ap, ap₂, subst, ◌∙◌, append_assoc, append-nil, arith}
+use Rattle.std.proofs.Common.{◌≡◌, ◌++◌, ◌∷◌, [], length, None, ℕ, List, refl, sym, ap, ap₂, subst, ◌∙◌, append_assoc, append-nil}
+use Rattle.std.proofs.lemmas.List.{nil_from_length}
 use Rattle.dw_leb.specs.declared.errors.Reason.{Reason}
 use Rattle.dw_leb.specs.declared.errors.Reason.TheVariants.{Truncated}
 use Rattle.dw_leb.specs.Number.{Unsigned}
@@ -10,10 +11,11 @@ use Rattle.dw_feed.specs.declared.step.Step.TheVariants as steps
 use Rattle.dw_feed.specs.BodyFeed.{PartialUnit, part}
 use Rattle.std.specs.Prelude.{option_map}
 use Rattle.dw_feed.specs.BodyView.{coming}
-use Rattle.dw_feed.specs.FeedInvariant.{left as left_of, wanted, frames_of, chain_of}
+use Rattle.dw_feed.specs.FeedInvariant.{left as left_of, frames_of, chain_of}
 use Rattle.dw_feed.specs.PlainFeed.{holding}
 use Rattle.dw_feed.specs.FieldSteps.{Standing, StepSays, FrontsWait, HasPart, FieldPart, code_meaning, keeps_stands, code_part, code_step, code_refused, code_short, step_same, next_here, wait_more, told, told_not}
-use Rattle.dw_feed.proofs.coming.Coming.code.Goals as goal
+use Rattle.dw_feed.specs.ValueSteps.{keeping}
+use Rattle.dw_feed.proofs.coming.Coming.code_in_parts.Goals as goal
 
 -- what the call read is what the plain reader reads of the bytes that are kept
 read_here : (g v : PartialUnit) → v ≡ g → (slice : List ℕ) → slice ≡ part g → (lim : ℕ) → lim ≡ left_of g → (o : Outcome Unsigned)
@@ -21,14 +23,6 @@ read_here : (g v : PartialUnit) → v ≡ g → (slice : List ℕ) → slice ≡
 read_here g v e slice s lim l o h =
     ap₂ (λ (bs : List ℕ) (n : ℕ). checked read_uleb (code_meaning g.table (frames_of g) (chain_of g)) bs n) (sym s) (sym l)
     ∙ subst (λ (x : PartialUnit). checked read_uleb (code_meaning x.table (frames_of x) (chain_of x)) slice lim ≡ o) e h
-
-none_left : (xs : List ℕ) → length xs ≡ 0 → xs ≡ []
-none_left [] e = refl
-none_left (x ∷ xs) e = absurd (omega (arith, e))
-
--- one more byte is kept
-abbrev keeping : PartialUnit → List ℕ → PartialUnit
-keeping g bytes = record { header = g.header; unit_length = g.unit_length; table = g.table; place = g.place; padding = g.padding; named = g.named; to_come = g.to_come; pending = bytes }
 
 pub returns-in-Ok : goal.returns-in-Ok
 returns-in-Ok c =
@@ -58,7 +52,7 @@ returns-in-None c =
     let cut : c.in-Err.reason ≡ Truncated = told c.is_cut.result c.is_cut.ensures c.if-not-is_cut.false in
     let read = read_here g _ c.self-in-loop-code.view_is c.as_slice.result.now is_part c.left-lim.result i.lim_is (Broken 0 Truncated) (c.in-Err.ensures.exact ∙ ap (λ (r : Reason). broken Unsigned 0 r) cut) in
     let has : HasPart g = subst (λ o. FieldPart g o) (sym i.free) (i.named, i.to_come) in
-    let all : part g ≡ part c.args.self.now ++ c.args.b.now = sym (append-nil (part g)) ∙ ap (λ (bs : List ℕ). part g ++ bs) (sym (none_left c.loop-code.rest.now c.in-None.ensures.cases)) ∙ i.all in
+    let all : part g ≡ part c.args.self.now ++ c.args.b.now = sym (append-nil (part g)) ∙ ap (λ (bs : List ℕ). part g ++ bs) (sym (nil_from_length c.loop-code.rest.now c.in-None.ensures.cases)) ∙ i.all in
     subst (λ (bs : List ℕ). StepSays c.args.self.now bs steps.Wanting g) all
     (step_same c.args.self.now g i.same (next_here c.args.self.now (keeps_stands c.args.self.now c.requires.stands)) (part g) steps.Wanting g (refl, refl, code_short g i.free (part g) read, has))
 

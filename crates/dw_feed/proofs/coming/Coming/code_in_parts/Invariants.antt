@@ -1,9 +1,9 @@
-use Rattle.std.proofs.Common.{◌≡◌, ◌++◌, ℕ, length, None, []}
+use Rattle.std.proofs.Common.{◌≡◌, ◌++◌, length, None, []}
 use Rattle.dw_feed.specs.BodyFeed.{part}
 use Rattle.dw_feed.specs.FeedInvariant.{left as left_of}
 use Rattle.dw_feed.specs.PlainFeed.{holding}
 use Rattle.dw_feed.specs.FieldSteps.{Standing, FrontsWait}
-use Rattle.dw_feed.proofs.coming.Coming.code.Given as goal
+use Rattle.dw_feed.proofs.coming.Coming.code_in_parts.Given as goal
 
 -- bytes of the number went from the piece to those that are kept
 abbrev pub invariant-loop-code : goal.invariant-loop-code

@@ -1,0 +1,78 @@
+//! Values at the place of a unit under construction, and the forms that indirect values name (section 7.5.3).
+ghost use Rattle.std.specs.Prelude.{◌≡◌, ◌≤◌, ◌++◌, length, drop, IfOk, None, Some};
+ghost use Rattle.dw_leb.specs.Part.{Taken, judged};
+ghost use Rattle.dw_leb.specs.Number.{uleb};
+ghost use Rattle.dw_leb.specs.View.{uleb_of};
+ghost use Rattle.dw_leb.specs.Reader.{checked, outcome_of};
+ghost use Rattle.dw_leb.specs.ReadNumber.{read_uleb};
+ghost use Rattle.dw_form.specs.Form.{IsContext, attribute, bad_inner};
+ghost use Rattle.dw_form.specs.Lent.{attribute_of, lent_outcome};
+ghost use Rattle.dw_form.specs.ReadForm.{read_attribute};
+ghost use Rattle.dw_abbrev.specs.PairView.{pair_of};
+
+use crate::code::number;
+use arrayvec::ArrayVec;
+use dw_abbrev::Pair;
+use dw_form::{AttrValue, Ctx, lend_value};
+use dw_leb::constants::form::{DW_FORM_IMPLICIT_CONST, DW_FORM_INDIRECT};
+use dw_leb::{Reason, Uleb};
+
+/// The value of this pair at the front of `b`, of which `lim` bytes are left to the unit's end.
+pub(crate) fn value_at(
+    context: Ctx,
+    pair: Pair,
+    b: &[u8],
+    lim: u64,
+) -> Result<(AttrValue<'_>, usize), Reason>
+    requires { IsContext context }
+    ensures exact { read_attribute context (pair_of pair).form.value (pair_of pair).constant b.now lim ≡ lent_outcome attribute_of result }
+    ensures found { IfOk result (λ x. Taken (attribute context (pair_of pair).form.value (pair_of pair).constant) b.now lim (attribute_of x.0) x.1) }
+    ensures room { IfOk result (λ x. (x.1 ≤ length b.now) × (x.1 ≤ lim)) }
+{
+    lend_value(context, pair.form.value, pair.constant, b, lim)
+}
+
+/// The form that an indirect value names, at the front of `b`, of which `lim` bytes are left to the unit's
+/// end.
+pub(crate) fn form_at(b: &[u8], lim: u64) -> Result<Uleb, Reason>
+    ensures exact { checked read_uleb bad_inner b.now lim ≡ outcome_of uleb_of (λ x. x.width) result }
+    ensures found { IfOk result (λ x. Taken (judged uleb bad_inner) b.now lim (uleb_of x) x.width) }
+    ensures room { IfOk result (λ x. (x.width ≤ length b.now) × (x.width ≤ lim)) }
+{
+    inner_form(b, lim)
+}
+
+/// The same, as the plain reader's outcome.
+fn inner_form(b: &[u8], lim: u64) -> Result<Uleb, Reason>
+    ensures exact { checked read_uleb bad_inner b.now lim ≡ outcome_of uleb_of (λ x. x.width) result }
+    ensures room { IfOk result (λ x. (x.width ≤ length b.now) × (x.width ≤ lim)) }
+{
+    let form = number(b, lim)?;
+    if form.value == DW_FORM_INDIRECT || form.value == DW_FORM_IMPLICIT_CONST {
+        return Err(Reason::BadIndirect);
+    }
+    Ok(form)
+}
+
+/// Two lists of bytes, one behind the other.
+pub(crate) fn joined(a: &[u8], b: &[u8]) -> ArrayVec<u8, 32>
+    requires first { length a.now ≤ 16 }
+    requires second { length b.now ≤ 16 }
+    ensures { result.items ≡ a.now ++ b.now }
+{
+    let mut all = ArrayVec::new();
+    let _first = all.try_extend_from_slice(a);
+    let _second = all.try_extend_from_slice(b);
+    all
+}
+
+/// The bytes without the first `count`.
+pub(crate) fn without_front(bytes: &[u8], count: usize) -> ArrayVec<u8, 16>
+    requires few { length bytes.now ≤ 16 }
+    requires there { count ≤ length bytes.now }
+    ensures { result.items ≡ drop count bytes.now }
+{
+    let mut rest = ArrayVec::new();
+    let _all = rest.try_extend_from_slice(&bytes[count..]);
+    rest
+}
