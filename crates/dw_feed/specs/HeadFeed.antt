@@ -8,7 +8,7 @@ use Rattle.dw_header.specs.Header.{Header, Accepts}
 use Rattle.dw_header.specs.HeaderPlace.{HeaderFaultUnder, header_bytes}
 use Rattle.dw_header.specs.Laws.{HasHeaderBytes}
 use Rattle.dw_feed.specs.declared.progress.Progress.{Progress}
-use Rattle.dw_feed.specs.declared.progress.Progress.TheVariants.{More, Done, Fault, Spent}
+use Rattle.dw_feed.specs.declared.progress.Progress.TheVariants.{More, Done, Fault, NoMemory, Spent}
 use Rattle.dw_feed.specs.HeaderCut.{IsCut}
 
 -- What was answered so far: nothing yet, and these bytes were taken; a fault; or the header.
@@ -44,6 +44,14 @@ Answers versions order (Reading old) piece n (Fault f) (Refused g) = (n ≤ leng
 Answers versions order (Refused f) piece n (Fault g) (Refused h) = (n ≡ 0) × (g ≡ f) × (h ≡ f)
 Answers versions order Finished piece n Spent Finished = n ≡ 0
 Answers versions order old piece n answer new = ⊥
+
+-- what is said of that which is answered, where it is
+abbrev pub IfDone : {X : Type 0} → (X → Type 0) → Progress X → Type 0
+IfDone P (Done x) = P x
+IfDone P More = Unit {0}
+IfDone P (Fault f) = Unit {0}
+IfDone P NoMemory = Unit {0}
+IfDone P Spent = Unit {0}
 
 -- the feed stays one of the same headers
 pub record FeedsHead (old : HeadFeed) (piece : List ℕ) (n : ℕ) (answer : Progress (Header × ℕ)) (new : HeadFeed) : Type 0 where

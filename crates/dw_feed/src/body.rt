@@ -1,5 +1,5 @@
 //! A unit that is pushed in pieces behind its header (section 7.5).
-ghost use Rattle.std.specs.Prelude.{◌≡◌, length};
+ghost use Rattle.std.specs.Prelude.{◌≡◌, ◌≤◌, length};
 ghost use Rattle.dw_header.specs.Laws.{HasHeaderBytes};
 ghost use Rattle.dw_feed.specs.BodyFeed.{Reading, started, FeedsBody, EndsBody};
 ghost use Rattle.dw_feed.specs.HeldCounts.{held};
@@ -62,7 +62,8 @@ impl BodyFeed {
     /// - `NoMemory`: a growth was refused.
     /// - `Spent`, after `Done` or `NoMemory`.
     pub fn feed(&mut self, piece: &[u8]) -> (usize, Progress<Unit>)
-        ensures { FeedsBody self.old piece.now result.0 result.1 self.new }
+        ensures feeds { FeedsBody self.old piece.now result.0 result.1 self.new }
+        ensures room { result.0 ≤ length piece.now }
     {
         let Some(coming) = &mut self.coming else {
             return match self.fault {

@@ -1,10 +1,11 @@
 //! A header that is pushed in pieces.
-ghost use Rattle.std.specs.Prelude.{◌≡◌, ◌++◌, ◌∷◌, []};
+ghost use Rattle.std.specs.Prelude.{◌≡◌, ◌≤◌, ◌++◌, ◌∷◌, [], length};
 ghost use Rattle.dw_leb.specs.declared.errors.Reason.TheVariants.{Truncated};
 ghost use Rattle.dw_header.specs.declared.versions.Versions.TheVariants.{Five};
 ghost use Rattle.dw_header.specs.HeaderPlace.{HeaderFaultUnder};
+ghost use Rattle.dw_header.specs.Laws.{HasHeaderBytes};
 ghost use Rattle.dw_feed.specs.HeaderCut.{IsCut};
-ghost use Rattle.dw_feed.specs.HeadFeed.{FeedsHead, Answers, Ends, Reading};
+ghost use Rattle.dw_feed.specs.HeadFeed.{FeedsHead, IfDone, Answers, Ends, Reading};
 ghost use Rattle.dw_feed.specs.HeadFeedView.{state_of, ended, JudgedAs, ShowsHead};
 
 use crate::progress::Progress;
@@ -77,7 +78,9 @@ impl HeadFeed {
     /// - `Spent`, after the header was answered.
     /// - never `NoMemory`.
     pub fn feed(&mut self, piece: &[u8]) -> (usize, Progress<(Header, u64)>)
-        ensures { FeedsHead self.old piece.now result.0 result.1 self.new }
+        ensures feeds { FeedsHead self.old piece.now result.0 result.1 self.new }
+        ensures spelled { IfDone (λ x. HasHeaderBytes x.0 x.1) result.1 }
+        ensures room { result.0 ≤ length piece.now }
     {
         match self.answered {
             None => {

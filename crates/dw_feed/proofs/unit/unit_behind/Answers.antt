@@ -10,7 +10,7 @@ returns-in-Done-clause-found c =
     let g : PartialUnit = started c.args.header c.args.unit_length c.args.table.value in
     let piece : List ℕ = c.args.b.now in
     let n : ℕ = c.feed-count.result.0 in
-    let a = subst (λ (x : BodyFeed). FeedsBody x piece n c.feed-count.result.1 c.feed-count.new.self) c.new-feed.ensures c.feed-count.ensures in
+    let a = subst (λ (x : BodyFeed). FeedsBody x piece n c.feed-count.result.1 c.feed-count.new.self) c.new-feed.ensures c.feed-count.ensures.feeds in
     done_says g piece n c.in-Done.unit c.feed-count.new.self (subst (λ (x : Progress WholeUnit). FeedsBody (Reading g) piece n x c.feed-count.new.self) c.in-Done.is a)
 
 pub returns-in-Some : goal.returns-in-Some
@@ -18,5 +18,5 @@ returns-in-Some c =
     let g : PartialUnit = started c.args.header c.args.unit_length c.args.table.value in
     let piece : List ℕ = c.args.b.now in
     let n : ℕ = c.feed-count.result.0 in
-    let a = subst (λ (x : BodyFeed). FeedsBody x piece n c.feed-count.result.1 c.feed-count.new.self) c.new-feed.ensures c.feed-count.ensures in
+    let a = subst (λ (x : BodyFeed). FeedsBody x piece n c.feed-count.result.1 c.feed-count.new.self) c.new-feed.ensures c.feed-count.ensures.feeds in
     record { found = tt; broken = ended_breaks g piece n c.feed-count.result.1 c.feed-count.new.self c.in-Some.fault a c.in-Some.ensures }

@@ -25,8 +25,8 @@ same_unit a b o e f = let q : some_unit a ≡ some_unit b = sym e ∙ f in cc
 feeds_done : (old new : BodyFeed) (g : PartialUnit) (piece : List ℕ) (n : ℕ) (u : WholeUnit) → Reading g ≡ old → Finished ≡ new → SaysDone g piece n u → FeedsBody old piece n (answers.Done u) new
 feeds_done old new g piece n u e f says = subst (λ (x : BodyFeed). FeedsBody x piece n (answers.Done u) new) e (subst (FeedsBody (Reading g) piece n (answers.Done u)) f says)
 
-pub returns-in-Some-take : goal.returns-in-Some-take
-returns-in-Some-take c =
+pub returns-in-Some-take-clause-feeds : goal.returns-in-Some-take-clause-feeds
+returns-in-Some-take-clause-feeds c =
     let g : PartialUnit = c.in-Some.coming in
     let old : Reading g ≡ c.args.self.now = ap (λ (o : Option PartialUnit). feed_of o c.self.inside.fault) (sym c.in-Some.is) ∙ c.self.view_is in
     let same : c.take.new.self ≡ c.in-Some-take.coming = same_unit c.take.new.self c.in-Some-take.coming c.take-in-Whole.result c.take-in-Whole.ensures.value c.in-Some-take.is in
