@@ -34,3 +34,4 @@ pub mod BodyFeedView
 pub mod FedUnit
 pub mod Openings
 pub mod ValueSteps
+pub mod EmptyPiece

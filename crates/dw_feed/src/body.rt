@@ -1,9 +1,11 @@
 //! A unit that is pushed in pieces behind its header (section 7.5).
-ghost use Rattle.std.specs.Prelude.{◌≡◌, ◌≤◌, length};
+ghost use Rattle.std.specs.Prelude.{◌≡◌, ◌≤◌, [], length};
 ghost use Rattle.dw_header.specs.Laws.{HasHeaderBytes};
 ghost use Rattle.dw_feed.specs.BodyFeed.{Reading, started, FeedsBody, EndsBody};
+ghost use Rattle.dw_feed.specs.EmptyPiece.{Rests};
 ghost use Rattle.dw_feed.specs.HeldCounts.{held};
 
+use crate::code::is_cut;
 use crate::coming::Coming;
 use crate::progress::Progress;
 use crate::step::Taken;
@@ -55,16 +57,20 @@ impl BodyFeed {
     /// Takes bytes of the piece, and answers how many, and what they show together with those that were
     /// taken before.
     ///
-    /// - `More`: the whole piece was taken, and a longer one is needed.
+    /// - `More`: the whole piece was taken, and a longer one is needed. After an empty piece nothing changed.
     /// - `Done`: the unit. The last byte that was taken is the unit's last.
     /// - `Fault`: the unit's fault, in `.debug_info`, never `Truncated`; its offset counts from the first
     ///   byte of the unit. The last byte that was taken shows it first. Every later call answers it again.
-    /// - `NoMemory`: a growth was refused.
+    /// - `NoMemory`: a growth was refused. It isn't answered to an empty piece.
     /// - `Spent`, after `Done` or `NoMemory`.
     pub fn feed(&mut self, piece: &[u8]) -> (usize, Progress<Unit>)
         ensures feeds { FeedsBody self.old piece.now result.0 result.1 self.new }
+        ensures empty { piece.now ≡ [] → Rests self.old result.1 self.new }
         ensures room { result.0 ≤ length piece.now }
     {
+        if piece.is_empty() {
+            return (0, self.at_rest());
+        }
         let Some(coming) = &mut self.coming else {
             return match self.fault {
                 Some(fault) => (0, Progress::Fault(fault)),
@@ -91,6 +97,26 @@ impl BodyFeed {
                 (0, Progress::NoMemory)
             }
         }
+    }
+
+    /// What an empty piece shows.
+    fn at_rest(&mut self) -> Progress<Unit>
+        ensures feeds { FeedsBody self.old [] 0 result self.new }
+        ensures same { Rests self.old result self.new }
+    {
+        let Some(coming) = &self.coming else {
+            return match self.fault {
+                Some(fault) => Progress::Fault(fault),
+                None => Progress::Spent,
+            };
+        };
+        let fault = coming.cut_off();
+        if is_cut(fault.reason) {
+            return Progress::More;
+        }
+        self.coming = None;
+        self.fault = Some(fault);
+        Progress::Fault(fault)
     }
 
     /// The end of the input: the fault of a unit of which bytes are missing, or the fault that was answered

@@ -9,7 +9,8 @@
 //! - `read_unit` returns the unit at the front of bytes, or the first fault; `read_unit_from` does
 //!   so from any reader; `read_unit_as` and `read_unit_from_as` also read units of version 4, where
 //!   `Versions` says so;
-//! - `HeadFeed` takes a header that its caller pushes in pieces of any size, and answers by `Progress`;
+//! - `HeadFeed` and `BodyFeed` take a header, and the rest of its unit, that their caller pushes in pieces of
+//!   any size, and answer by `Progress` at the first byte that shows the header, the unit or its fault;
 //! - `Unit` hands out its entries (`EntryRef`) and their attributes (`AttrRef`), borrowed;
 //! - `UnitBuilder` makes a unit entry by entry, over a table of `TableBuilder`;
 //! - `write_unit` writes a unit as it was read or built, each number in its own width.
@@ -18,12 +19,14 @@
 #![tactic(auto)]
 
 pub use dw_abbrev::{Decl, Pair, Table, TableBuilder, TableRefusal, Tables};
-pub use dw_feed::{HeadFeed, Progress, read_unit_from, read_unit_from_as};
+pub use dw_feed::{
+    BodyFeed, HeadFeed, Progress, read_unit, read_unit_as, read_unit_from, read_unit_from_as,
+};
 pub use dw_form::{AttrValue, Ctx, Shape, Value};
 pub use dw_leb::{
     Fault, Format, Order, ReadError, Reason, SectionId, Sleb, Uleb, Watched, WriteError, constants,
 };
 pub use dw_unit::{
     AttrRef, Attrs, Children, Draft, Entries, EntryRef, Header, Kind, Refusal, Unit, UnitBuilder,
-    Versions, most_levels, read_header, read_header_as, read_unit, read_unit_as, write_unit,
+    Versions, most_levels, read_header, read_header_as, write_unit,
 };

@@ -1,0 +1,143 @@
+//! An example of a program that pushes: the unit at the front of a `.debug_info`, in pieces.
+//!
+//! `pieces ABBREV INFO` reads the unit in pieces of several sizes, and says of each whether the unit that came is
+//! written as the bytes that were pushed. `pieces ABBREV INFO SIZE` reads it once in pieces of so many bytes, and
+//! says how many entries it has: with 0 by the reader that recurses, to compare the two.
+#![tactic(auto)]
+
+use rothelduf::{
+    BodyFeed, Fault, HeadFeed, Header, Order, Progress, ReadError, Table, Tables, Unit, Versions,
+    Watched, WriteError, write_unit,
+};
+use dw_unit::read_unit_as;
+use std::alloc::{AllocError, Global};
+use std::rc::Rc;
+use std::rt::{Env, Files};
+use std::{env, fs, io};
+use thiserror::Error;
+
+/// Why the example gives up.
+#[derive(Debug, Drop, Error)]
+enum PiecesError {
+    #[error("{0}")]
+    Io(#[from] io::Error),
+    #[error("{0}")]
+    Read(#[from] ReadError),
+    #[error("{0}")]
+    Fault(#[from] Fault),
+    #[error("{0}")]
+    Write(#[from] WriteError),
+    #[error("memory")]
+    Memory(#[from] AllocError),
+    #[error("usage: pieces ABBREV INFO [SIZE]")]
+    Usage,
+}
+
+fn main(rt: HostRuntime) -> Result<(), PiecesError> {
+    let words = env::args(&rt)?
+        .skip(1)
+        .collect::<Vec<String>>(rt.alloc())?;
+    match words.as_slice() {
+        [abbrev, info] => every_size(&rt, abbrev.as_str(), info.as_str()),
+        [abbrev, info, size] => {
+            let size = size.as_str().parse().map_err(|_| PiecesError::Usage)?;
+            one_size(&rt, abbrev.as_str(), info.as_str(), size)
+        }
+        _ => Err(PiecesError::Usage),
+    }
+}
+
+fn every_size(
+    rt: &(impl AllocGlobal + Files + Print),
+    abbrev: &str,
+    info: &str,
+) -> Result<(), PiecesError> {
+    let abbreviations = fs::read(rt, abbrev)?;
+    let info = fs::read(rt, info)?;
+    let mut tables = Tables::new(rt.alloc(), abbreviations.as_slice());
+    for size in [1, 2, 3, 7, 16, 17, 4096] {
+        let unit = pushed(rt.alloc(), &mut tables, info.as_slice(), size)?;
+        let same = is_front(rt.alloc(), &unit, info.as_slice())?;
+        println!(rt; "{size}: {same}")?;
+    }
+    Ok(())
+}
+
+fn one_size(
+    rt: &(impl AllocGlobal + Files + Print),
+    abbrev: &str,
+    info: &str,
+    size: usize,
+) -> Result<(), PiecesError> {
+    let abbreviations = fs::read(rt, abbrev)?;
+    let info = fs::read(rt, info)?;
+    let mut tables = Tables::new(rt.alloc(), abbreviations.as_slice());
+    let unit = match size {
+        0 => recursive(rt.alloc(), &mut tables, info.as_slice())?,
+        size => pushed(rt.alloc(), &mut tables, info.as_slice(), size)?,
+    };
+    println!(rt; "{} entries", unit.entries().count())?;
+    Ok(())
+}
+
+fn recursive(alloc: Global, tables: &mut Tables<'_>, bytes: &[u8]) -> Result<Unit, PiecesError> {
+    let (unit, _size) = read_unit_as(alloc, Order::Little, Versions::FourAndFive, tables, bytes)?;
+    Ok(unit)
+}
+
+/// The unit at the front of the bytes, which are pushed in pieces of so many.
+fn pushed(
+    alloc: Global,
+    tables: &mut Tables<'_>,
+    bytes: &[u8],
+    size: usize,
+) -> Result<Unit, PiecesError> {
+    let (header, unit_length, rest) = head(bytes, size)?;
+    let table = tables.get(header.abbrev_offset())?;
+    let mut feed = BodyFeed::new(alloc, header, unit_length, table);
+    let mut left = rest;
+    while !left.is_empty() {
+        let (piece, behind) = left.split_at(left.len().min(size));
+        left = behind;
+        match feed.feed(piece) {
+            (_, Progress::More) => {}
+            (_, Progress::Done(unit)) => return Ok(unit),
+            (_, Progress::Fault(fault)) => return Err(PiecesError::Fault(fault)),
+            (_, Progress::NoMemory | Progress::Spent) => {
+                return Err(PiecesError::Read(ReadError::NoMemory));
+            }
+        }
+    }
+    ended(feed.end())
+}
+
+/// The header at the front of the bytes, which are pushed in pieces of so many, and the bytes behind it.
+fn head(bytes: &[u8], size: usize) -> Result<(Header, u64, &[u8]), PiecesError> {
+    let mut feed = HeadFeed::new_as(Order::Little, Versions::FourAndFive);
+    let mut left = bytes;
+    while !left.is_empty() {
+        let piece = &left[..left.len().min(size)];
+        let (count, answer) = feed.feed(piece);
+        left = &left[count..];
+        match answer {
+            Progress::Done((header, unit_length)) => return Ok((header, unit_length, left)),
+            Progress::Fault(fault) => return Err(PiecesError::Fault(fault)),
+            _ => {}
+        }
+    }
+    ended(feed.end())
+}
+
+fn ended<T>(end: Option<Fault>) -> Result<T, PiecesError> {
+    match end {
+        Some(fault) => Err(PiecesError::Fault(fault)),
+        None => Err(PiecesError::Read(ReadError::NoMemory)),
+    }
+}
+
+/// Whether the unit is written as the front of the bytes.
+fn is_front(alloc: Global, unit: &Unit, bytes: &[u8]) -> Result<bool, WriteError> {
+    let mut writer = Watched::new(Vec::new(alloc));
+    write_unit(unit, &mut writer)?;
+    Ok(bytes.starts_with(writer.into_inner().as_slice()))
+}
