@@ -6,3 +6,4 @@ mod BodyFeedRows
 mod HeadFeedRows
 mod DraftRoom
 mod Turns
+mod Zero

@@ -32,3 +32,4 @@ pub mod FieldSteps
 pub mod BodyView
 pub mod BodyFeedView
 pub mod Openings
+pub mod ContentSteps

@@ -78,9 +78,9 @@ ended_bytes k p ps b is = by b.via refl
 
 -- ---- one that isn't whole wants more
 
--- a text has no zero yet, and a block has a length that its field holds, within lim, and content still to come
+-- a text has no zero yet, and no count of bytes that are to come; a block has a length that its field holds, within lim, and content still to come
 abbrev pub IsIncomplete : Shape → Option ℕ → List ℕ → ℕ → ℕ → Type 0
-IsIncomplete shapes.Text None bytes to_come lim = AllByRecursion (λ b. is_zero b ≡ false) bytes × (length bytes < lim)
+IsIncomplete shapes.Text None bytes to_come lim = AllByRecursion (λ b. is_zero b ≡ false) bytes × (length bytes < lim) × (to_come ≡ 0)
 IsIncomplete (shapes.Counted n) (Some width) bytes to_come lim = (width ≡ n) × (length bytes + to_come < 256 ^ n) × (n + (length bytes + to_come) ≤ lim) × (0 < to_come)
 IsIncomplete shapes.CountedUleb (Some width) bytes to_come lim = uleb.Fits (record { value = length bytes + to_come; width = width }) × (width + (length bytes + to_come) ≤ lim) × (0 < to_come)
 IsIncomplete s o bytes to_come lim = ⊥
