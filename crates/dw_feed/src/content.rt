@@ -5,6 +5,7 @@ ghost use Rattle.dw_tree.specs.Steps.{next_pair, partial_in};
 ghost use Rattle.dw_feed.specs.BodyFeed.{part};
 ghost use Rattle.dw_feed.specs.FeedInvariant.{Keeps, left as left_of};
 ghost use Rattle.dw_feed.specs.FieldSteps.{HasPart, StepSays};
+ghost use Rattle.dw_feed.specs.Openings.{OpensHere};
 ghost use Rattle.dw_feed.specs.ContentSteps.{room_of_text, HasNoZero, ZeroIn};
 
 use crate::coming::Coming;
@@ -14,6 +15,24 @@ use dw_form::{AttrValue, Value};
 use dw_leb::Reason;
 
 impl Coming {
+    /// A text or block begins, of which so many bytes are to come.
+    pub(crate) fn open(&mut self, width: Option<u8>, count: u64, b: &[u8]) -> Step
+        requires stands { Keeps self.old }
+        requires has { HasPart self.old }
+        requires between { partial_in self.old.place.unfinished ≡ None }
+        requires opens { OpensHere self.old width count }
+        ensures { StepSays self.old (part self.old ++ b.now) result self.new }
+    {
+        match self.draft.start(self.named, width) {
+            Ok(()) => {}
+            Err(_) => return Step::NoMemory,
+        }
+        self.named = None;
+        self.to_come = count;
+        self.pending.clear();
+        self.content(b)
+    }
+
     /// More of a text's or block's content.
     pub(crate) fn content(&mut self, b: &[u8]) -> Step
         requires stands { Keeps self.old }
