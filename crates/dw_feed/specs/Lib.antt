@@ -33,3 +33,5 @@ pub mod BodyView
 pub mod BodyFeedView
 pub mod Openings
 pub mod ContentSteps
+pub mod NamedValues
+pub mod LengthFields

@@ -1,7 +1,7 @@
 -- A text or block that begins: what stands before its content is whole, and there is room for all of it.
 use Rattle.std.proofs.Common.{◌≡◌, ◌≢◌, ◌+◌, ℕ, List, [], ◌∷◌, ◌++◌, length, Option, Some, None, refl, sym, ap, ap₂, subst, ◌∙◌, append-nil, arith}
 use Rattle.std.specs.Prelude.{◌<◌, zero, suc, drop, option_map, slice_get, IsSome, IsSomeAnd}
-use Rattle.dw_leb.specs.Number.{Unsigned}
+use Rattle.dw_leb.specs.Number.{Unsigned, Signed}
 use Rattle.dw_leb.specs.declared.order.Format.{Format}
 use Rattle.dw_form.specs.declared.shape.Shape.{Shape}
 use Rattle.dw_form.specs.declared.shape.Shape.TheVariants as shapes
@@ -16,9 +16,16 @@ use Rattle.dw_feed.specs.declared.step.Step.{Step}
 use Rattle.dw_feed.specs.BodyFeed.{PartialUnit, count_if, partial_taken, pairs_left, value_part, part}
 use Rattle.dw_feed.specs.BodyView.{coming}
 use Rattle.dw_feed.specs.FeedInvariant.{Keeps, context, left}
-use Rattle.dw_feed.specs.PartialValues.{ComesInPieces, IsPartialAs, NamedFits, IsIncomplete, lim_behind}
+use Rattle.dw_feed.specs.PartialValues.{shape_of_indirect, ComesInPieces, IsPartialAs, NamedFits, FewKept, FewKeptIf, IsIncomplete, lim_behind}
 use Rattle.dw_feed.specs.PlainFeed.{holding, held_keeps, keeps_held}
 use Rattle.dw_feed.specs.FieldSteps.{ValuePart, FieldPart, HasPart, HasNextHere, HasNext, StepSays, step_same, same_left}
+use Rattle.dw_leb.specs.declared.errors.Reason.TheVariants.{Truncated}
+use Rattle.dw_leb.specs.Reader.{Outcome, Broken}
+use Rattle.dw_leb.specs.Moments.{IsCut}
+use Rattle.dw_form.specs.Form.{ShapeFits, Attribute}
+use Rattle.dw_form.specs.ReadForm.{read_shaped, read_shaped_if, read_attribute}
+use Rattle.dw_feed.specs.NamedValues.{constant_behind, value_cut}
+use Rattle.dw_feed.specs.LengthFields.{HasLength, HasNoLength, length_opens, length_waits}
 use Rattle.dw_feed.specs.ContentSteps.{PartialHere, IsShort, here_has}
 
 -- Of the value at the place, under this pair, the length field is all that is kept, or of a text nothing. There is room for the
@@ -50,15 +57,15 @@ opened g width count = record {
   pending = [];
 }
 
+-- one more byte is kept of a number or of a length field
+abbrev pub with_byte : PartialUnit → ℕ → PartialUnit
+with_byte g b = record { header = g.header; unit_length = g.unit_length; table = g.table; place = g.place; padding = g.padding; named = g.named; to_come = g.to_come; pending = g.pending ++ b ∷ [] }
+
 -- the program's unit after it began one
 pub opened_is : (g : PartialUnit) (d d1 : Drafted) (n : ℕ) (named : Option Unsigned) (to_come count : ℕ) (pending none_kept : List ℕ) (width : Option ℕ) → coming d n named to_come pending ≡ g → d1 ≡ started named width d → none_kept ≡ [] → coming d1 n None count none_kept ≡ opened g width count
 opened_is g d d1 n named to_come count pending none_kept width e e1 e2 = ap₂ (λ (x : Drafted) (bs : List ℕ). coming x n None count bs) e1 e2 ∙ ap (λ (u : PartialUnit). opened u width count) e
 
 -- a value that names its form comes in no pieces
-shape_of_indirect : (address_size : ℕ) (format : Format) → shape 0x16 address_size format ≡ Some shapes.Indirect
-unfolding shape
-shape_of_indirect address_size format = refl
-
 not_indirect : (address_size : ℕ) (format : Format) (form : ℕ) (s : Shape) (width : Option ℕ) → form ≡ 0x16 → shape form address_size format ≡ Some s → ComesInPieces s width → ⊥
 not_indirect address_size format form s width e h begins =
     let same : Some shapes.Indirect ≡ Some s = sym (shape_of_indirect address_size format) ∙ ap (λ (n : ℕ). shape n address_size format) (sym e) ∙ h in
@@ -78,6 +85,7 @@ pub record ValueHere (g : PartialUnit) : Type 0 where
   pub none_to_come : g.to_come ≡ 0
   pub named_fits : NamedFits g.named (left g)
   pub indirect : (u : Unsigned) → g.named ≡ Some u → pair.form.value ≡ 0x16
+  pub few_kept : FewKeptIf (shape (form_in pair.form.value g.named) (context g).address_size (context g).format) g.pending (lim_behind g.named (left g))
 
 slice_first : (ps : List Pair) (n : ℕ) (p : Pair) (qs : List Pair) → drop n ps ≡ p ∷ qs → slice_get ps n ≡ Some p
 slice_first [] zero p qs e = absurd cc
@@ -101,6 +109,7 @@ value_here g has some free = by g.place.unfinished refl has some free
       none_to_come = v.0;
       named_fits = v.1;
       indirect = v.2;
+      few_kept = v.3;
     }
 
     by : (o : Option UnfinishedEntry) → g.place.unfinished ≡ o → FieldPart g o → IsSome (next_pair g.table o) → partial_in o ≡ None → ValueHere g
@@ -184,3 +193,56 @@ opens_some g width count opens = by (next_pair g.table g.place.unfinished) opens
     by : (o : Option Pair) → IsSomeAnd o (λ p. IsOpening g p width count) → IsSome o
     by None h = absurd h
     by (Some p) h = refl
+
+-- ---- whether one begins here
+
+module _ (g : PartialUnit) (h : ValueHere g) (named : h.pair.form.value ≡ 0x16 → IsSome g.named) (cut : read_attribute (context g) h.pair.form.value h.pair.constant (part g) (left g) ≡ Broken 0 Truncated) where
+  abbrev form : ℕ
+  form = form_in h.pair.form.value g.named
+
+  abbrev constant : Option Signed
+  constant = constant_behind g.named h.pair.constant
+
+  abbrev lim : ℕ
+  lim = lim_behind g.named (left g)
+
+  shape_cut : (o : Option Shape) → shape form (context g).address_size (context g).format ≡ o → IsCut (read_shaped_if (context g) constant o g.pending lim)
+  shape_cut o e =
+      let there : part g ≡ via_bytes g.named ++ g.pending = ap (λ (q : Option PartialValue). value_part g q ++ g.pending) (ap partial_in h.unfinished ∙ h.none_partial) in
+      let is_cut : IsCut (read_attribute (context g) h.pair.form.value h.pair.constant (via_bytes g.named ++ g.pending) (left g)) =
+      subst (λ (bs : List ℕ). IsCut (read_attribute (context g) h.pair.form.value h.pair.constant bs (left g))) there (subst IsCut (sym cut) refl) in
+      let direct : g.named ≡ None → h.pair.form.value ≢ 0x16 = λ none i. none_some (subst IsSome none (named i)) in
+      subst (λ (x : Option Shape). IsCut (read_shaped_if (context g) constant x g.pending lim)) e (value_cut (context g) h.pair.form.value h.pair.constant g.pending (left g) g.named direct h.indirect h.named_fits is_cut)
+    where
+      none_some : IsSome {T = Unsigned} None → ⊥
+      none_some i = cc
+
+  few_kept : (s : Shape) → shape form (context g).address_size (context g).format ≡ Some s → FewKept s g.pending lim
+  few_kept s e = subst (λ (o : Option Shape). FewKeptIf o g.pending lim) e h.few_kept
+
+  pub known_here : shape form (context g).address_size (context g).format ≡ None → ⊥
+  known_here e = let c = shape_cut None e in unknown c
+    where
+      unknown : IsCut (read_shaped_if (context g) constant None g.pending lim) → ⊥
+      unknown c = cc
+
+  opens_where : (s : Shape) → shape form (context g).address_size (context g).format ≡ Some s → (width : Option ℕ) (count : ℕ) → HasLength (context g).order s width count g.pending lim → IsOpening g h.pair width count
+  opens_where s e width count has =
+      let o = length_opens (context g) constant g.pending lim s width count (few_kept s e) has (shape_cut (Some s) e) in
+      record { shape_is = s; has = e; begins = o.0; kept = o.1; room = o.2 }
+
+  pub opens_here : (s : Shape) → shape form (context g).address_size (context g).format ≡ Some s → (width : Option ℕ) (count : ℕ) → HasLength (context g).order s width count g.pending lim → OpensHere g width count
+  opens_here s e width count has = subst (λ (o : Option Pair). IsSomeAnd o (λ p. IsOpening g p width count)) (sym h.pair_is) (opens_where s e width count has)
+
+  waits_where : (s : Shape) → shape form (context g).address_size (context g).format ≡ Some s → ShapeFits s → HasNoLength (context g).order s g.pending lim → (length g.pending < 16) × ((b : ℕ) → FewKept s (g.pending ++ b ∷ []) lim)
+  waits_where s e fits none = length_waits (context g) constant g.pending lim s fits none (shape_cut (Some s) e)
+
+  pub pending_room : (s : Shape) → shape form (context g).address_size (context g).format ≡ Some s → ShapeFits s → HasNoLength (context g).order s g.pending lim → length g.pending < 16
+  pending_room s e fits none = (waits_where s e fits none).0
+
+  pub byte_has : (s : Shape) → shape form (context g).address_size (context g).format ≡ Some s → ShapeFits s → HasNoLength (context g).order s g.pending lim → (b : ℕ) → HasPart (with_byte g b)
+  byte_has s e fits none b =
+      let few : FewKeptIf (shape form (context g).address_size (context g).format) (g.pending ++ b ∷ []) lim = subst (λ (o : Option Shape). FewKeptIf o (g.pending ++ b ∷ []) lim) (sym e) ((waits_where s e fits none).1 b) in
+      let v : ValuePart (with_byte g b) (h.pair ∷ h.pairs) None = (h.none_to_come, h.named_fits, h.indirect, few) in
+      let w : FieldPart (with_byte g b) (Some h.entry) = subst (λ (o : Option PartialValue). ValuePart (with_byte g b) (next_pairs g.table h.entry) o) (sym h.none_partial) (subst (λ (ps : List Pair). ValuePart (with_byte g b) ps None) (sym h.next) v) in
+      subst (FieldPart (with_byte g b)) (sym h.unfinished) w

@@ -5,14 +5,10 @@ ghost use Rattle.dw_leb.specs.Decide.{AreBytes};
 ghost use Rattle.dw_leb.specs.View.{uleb_of};
 ghost use Rattle.dw_abbrev.specs.PairView.{pair_of};
 ghost use Rattle.dw_tree.specs.Steps.{next_pair, partial_in};
-ghost use Rattle.dw_leb.specs.Reader.{Broken};
-ghost use Rattle.dw_leb.specs.declared.errors.Reason.TheVariants.{Truncated};
-ghost use Rattle.dw_form.specs.ReadForm.{read_attribute};
-ghost use Rattle.dw_feed.specs.Openings.{IsOpening};
 ghost use Rattle.dw_feed.specs.PlainFeed.{root_if_whole, unit_with};
 ghost use Rattle.dw_header.specs.Laws.{HasHeaderBytes};
 ghost use Rattle.dw_feed.specs.BodyFeed.{Reading, EndsBody, started, part};
-ghost use Rattle.dw_feed.specs.FeedInvariant.{Keeps, Kept, context, left as left_of, moved_to};
+ghost use Rattle.dw_feed.specs.FeedInvariant.{Keeps, Kept, left as left_of, moved_to};
 ghost use Rattle.dw_feed.specs.FieldSteps.{Standing, HasPart, FrontsWait, StepSays, code_meaning, behind_code, BehindCode, CodeBreaks, Waits, TakenSays};
 
 use crate::code::{code_at, is_cut};
@@ -33,7 +29,7 @@ const INDIRECT: u64 = 0x16;
 #[derive(Debug, Drop)]
 pub(crate) struct Coming {
     pub(crate) draft: Draft,
-    pub(crate) unit_length: u64,
+    unit_length: u64,
     /// The form that an indirect value names, before the value itself begins (section 7.5.3).
     pub(crate) named: Option<Uleb>,
     /// How many bytes of a block are still to come.
