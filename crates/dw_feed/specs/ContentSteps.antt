@@ -1,12 +1,11 @@
 -- A feed in the middle of a text or block: it takes more of the content, and with the last of it the value is found.
-use Rattle.std.proofs.Common.{◌≡◌, ◌≢◌, ◌⊎◌, ℕ, zero, suc, ◌+◌, ◌-◌, ◌^◌, ◌<◌, ◌≤◌, min, Bool, true, false, List, [], ◌∷◌, ◌++◌, length, take, Option, Some, None, refl, sym, ap, ap₂, subst, ◌∙◌, append_assoc, append-nil, arith, length-append, take_all, inl, inr}
+use Rattle.std.proofs.Common.{◌≡◌, ◌⊎◌, ℕ, ◌+◌, ◌-◌, ◌^◌, ◌<◌, ◌≤◌, min, false, List, [], ◌∷◌, ◌++◌, length, take, Option, Some, None, refl, sym, ap, ap₂, subst, ◌∙◌, append_assoc, append-nil, arith, length-append, take_all, inl, inr}
 use Rattle.std.specs.Prelude.{◌==◌, option_map, IsSome, IfSome}
 use Rattle.std.specs.List.{AllByRecursion}
 use Rattle.std.proofs.lemmas.Bool.{eqb-false, eq-eqb, ne_eqb}
 use Rattle.dw_leb.specs.Number.{Unsigned, Signed, uleb, fixed_bytes}
 use Rattle.dw_leb.specs.NumberMoments.{is_zero, text_faults}
-use Rattle.dw_leb.specs.declared.errors.Reason.{Reason}
-use Rattle.dw_leb.specs.declared.errors.Reason.TheVariants.{Truncated, PastUnit}
+use Rattle.dw_leb.specs.declared.errors.Reason.TheVariants.{PastUnit}
 use Rattle.dw_leb.specs.Reader.{Broken}
 use Rattle.dw_leb.specs.DecideNumber.{length-uleb}
 use Rattle.dw_leb.specs.Digits.{length-fixed}
@@ -20,18 +19,18 @@ use Rattle.dw_form.specs.StoredView.{text_or_block}
 use Rattle.dw_abbrev.specs.Table.{Pair}
 use Rattle.dw_tree.specs.Tree.{Forest, none, more}
 use Rattle.dw_tree.specs.Place.{Frame, PartialValue, UnfinishedEntry, Place}
-use Rattle.dw_tree.specs.Steps.{partial_in, given_partial, longer, partial_attribute, next_pairs, first_bytes, FirstFits, next_bytes, NextFits, ended_by, value_at, Growing, settle}
+use Rattle.dw_tree.specs.Steps.{partial_in, given_partial, longer, partial_attribute, next_pairs, first_bytes, FirstFits, next_bytes, NextFits, ended_by, value_at, settle}
 use Rattle.dw_unit.specs.Draft.{Drafted, tree_in, ended, extended, passes_limit, partial_of, value_bytes, PartialFits, PartialShort}
-use Rattle.dw_feed.specs.FieldPlace.{PlaceFits, PaddingFits}
+use Rattle.dw_feed.specs.FieldPlace.{PaddingFits}
 use Rattle.dw_feed.specs.BodyView.{coming, drafted}
 use Rattle.dw_feed.specs.BodyFeed.{PartialUnit, count_if, partial_taken, part}
 use Rattle.dw_feed.specs.FeedInvariant.{Keeps, context, frames_of, chain_of, left, wanted, moved_to}
 use Rattle.dw_feed.specs.PartialValues.{ComesInPieces, IsPartialAs, NamedFits, IsIncomplete, lim_behind, ending, ended_bytes}
 use Rattle.dw_feed.specs.PartialSteps.{taking, taking_stays, part_is, taking_part, partial_waits, partial_found}
 use Rattle.dw_feed.specs.FieldOutcomes.{value_broken}
-use Rattle.dw_feed.specs.FieldReader.{PlaceBehind, read_field}
+use Rattle.dw_feed.specs.FieldReader.{read_field}
 use Rattle.dw_feed.specs.NextField.{next_moment, next_value_moment}
-use Rattle.dw_feed.specs.PlainFeed.{field_at, holding, held_keeps, keeps_held}
+use Rattle.dw_feed.specs.PlainFeed.{field_at, held_keeps, keeps_held}
 use Rattle.dw_feed.specs.FieldSteps.{Standing, keeps_stands, ValuePart, FieldPart, HasPart, HasNext, HasNextHere, StepSays, same_left, same_wants, step_same, has_moment}
 use Rattle.dw_feed.specs.declared.step.Step.TheVariants as steps
 

@@ -1,5 +1,5 @@
 -- The length field of a block that is cut off: where it is whole, the content is cut off, and else one byte more is wanted.
-use Rattle.std.proofs.Common.{◌≡◌, ◌≢◌, ◌⊎◌, ℕ, zero, suc, ◌+◌, ◌-◌, ◌^◌, ◌<◌, ◌≤◌, min, Bool, true, false, List, [], ◌∷◌, ◌++◌, length, Option, Some, None, refl, sym, ap, subst, ◌∙◌, append-nil, arith, length-append, inl, inr}
+use Rattle.std.proofs.Common.{◌≡◌, ◌⊎◌, ℕ, zero, suc, ◌+◌, ◌^◌, ◌<◌, ◌≤◌, Bool, true, false, List, [], ◌∷◌, ◌++◌, length, Option, Some, None, sym, ap, subst, ◌∙◌, append-nil, arith, length-append, inl, inr}
 use Rattle.std.specs.Prelude.{IsSomeAnd, if◌then◌else◌}
 use Rattle.dw_leb.specs.declared.order.Order.{Order}
 use Rattle.dw_leb.specs.declared.errors.Reason.{Reason}
@@ -9,13 +9,13 @@ use Rattle.dw_leb.specs.Number.{Unsigned, Signed, uleb, fixed, fixed_bytes}
 use Rattle.dw_leb.specs.Reader.{Outcome, Found, Broken, mapped, behind}
 use Rattle.dw_leb.specs.ReadNumber.{bytes_of, read_fixed, read_uleb}
 use Rattle.dw_leb.specs.DecideNumber.{uleb_decides, length-uleb}
-use Rattle.dw_leb.specs.Digits.{fixed_decides, length-fixed}
-use Rattle.dw_leb.specs.Moments.{IsCut, HasMoment, fewer_or_enough}
+use Rattle.dw_leb.specs.Digits.{fixed_decides}
+use Rattle.dw_leb.specs.Moments.{IsCut, fewer_or_enough}
 use Rattle.dw_leb.specs.NumberMoments.{until, ends_number, most_groups, leb_moment, text_moment, uleb_has, count_moment}
 use Rattle.dw_form.specs.declared.shape.Ctx.{Ctx}
 use Rattle.dw_form.specs.declared.shape.Shape.{Shape}
 use Rattle.dw_form.specs.declared.shape.Shape.TheVariants as shapes
-use Rattle.dw_form.specs.Form.{ShapeFits, Value, Block}
+use Rattle.dw_form.specs.Form.{ShapeFits, Block}
 use Rattle.dw_form.specs.ReadForm.{read_shaped}
 use Rattle.dw_form.specs.FormMoments.{shaped_moment, shaped_has, block_wants, block_faults, uleb_block_wants, uleb_block_faults}
 use Rattle.dw_feed.specs.BodyFeed.{count_if}

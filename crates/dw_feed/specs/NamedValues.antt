@@ -1,18 +1,18 @@
 -- A value by the form in effect: behind the form that an indirect value names, what that form reads.
-use Rattle.std.proofs.Common.{◌≡◌, ◌≢◌, ℕ, ◌-◌, ◌≤◌, List, ◌++◌, length, Option, Some, None, refl, sym, ap, ap₂, subst, ◌∙◌, arith}
+use Rattle.std.proofs.Common.{◌≡◌, ◌≢◌, ℕ, ◌-◌, ◌≤◌, List, ◌++◌, length, Option, Some, None, refl, ap, subst, ◌∙◌, arith}
 use Rattle.std.specs.Prelude.{◌==◌}
 use Rattle.std.proofs.lemmas.Bool.{ne_eqb}
 use Rattle.std.proofs.lemmas.List.{drop_at}
 use Rattle.dw_leb.specs.Part.{judged}
 use Rattle.dw_leb.specs.Number.{Unsigned, Signed, uleb}
-use Rattle.dw_leb.specs.Reader.{Outcome, Found, Broken, paired, behind, mapped, checked, at_front}
+use Rattle.dw_leb.specs.Reader.{Outcome, Found, Broken, paired, behind, mapped, at_front}
 use Rattle.dw_leb.specs.ReadNumber.{read_uleb}
 use Rattle.dw_leb.specs.Decide.{judged_decides}
 use Rattle.dw_leb.specs.DecideNumber.{uleb_decides, length-uleb}
 use Rattle.dw_leb.specs.Moments.{IsCut}
 use Rattle.dw_form.specs.declared.shape.Ctx.{Ctx}
-use Rattle.dw_form.specs.Form.{Attribute, Value, bad_inner}
-use Rattle.dw_form.specs.ReadForm.{read_formed, read_indirect, direct_from, indirect_from, read_by_indirection, read_attribute}
+use Rattle.dw_form.specs.Form.{bad_inner}
+use Rattle.dw_form.specs.ReadForm.{read_formed, direct_from, indirect_from, read_by_indirection, read_attribute}
 use Rattle.dw_form.specs.Pieces.{form_in, via_bytes}
 use Rattle.dw_feed.specs.PartialValues.{NamedFits, lim_behind}
 

@@ -13,20 +13,20 @@ use Rattle.dw_tree.specs.Place.{PartialValue, UnfinishedEntry}
 use Rattle.dw_tree.specs.Steps.{partial_in, given_partial, next_pair, next_pairs}
 use Rattle.dw_unit.specs.Draft.{Drafted, started}
 use Rattle.dw_feed.specs.declared.step.Step.{Step}
-use Rattle.dw_feed.specs.BodyFeed.{PartialUnit, count_if, partial_taken, pairs_left, value_part, part}
+use Rattle.dw_feed.specs.BodyFeed.{PartialUnit, count_if, partial_taken, value_part, part}
 use Rattle.dw_feed.specs.BodyView.{coming}
 use Rattle.dw_feed.specs.FeedInvariant.{Keeps, context, left}
-use Rattle.dw_feed.specs.PartialValues.{shape_of_indirect, ComesInPieces, IsPartialAs, NamedFits, FewKept, FewKeptIf, IsIncomplete, lim_behind}
+use Rattle.dw_feed.specs.PartialValues.{shape_of_indirect, ComesInPieces, NamedFits, FewKept, FewKeptIf, IsIncomplete, lim_behind}
 use Rattle.dw_feed.specs.PlainFeed.{holding, held_keeps, keeps_held}
 use Rattle.dw_feed.specs.FieldSteps.{ValuePart, FieldPart, HasPart, HasNextHere, HasNext, StepSays, step_same, same_left}
 use Rattle.dw_leb.specs.declared.errors.Reason.TheVariants.{Truncated}
-use Rattle.dw_leb.specs.Reader.{Outcome, Broken}
+use Rattle.dw_leb.specs.Reader.{Broken}
 use Rattle.dw_leb.specs.Moments.{IsCut}
-use Rattle.dw_form.specs.Form.{ShapeFits, Attribute}
-use Rattle.dw_form.specs.ReadForm.{read_shaped, read_shaped_if, read_attribute}
+use Rattle.dw_form.specs.Form.{ShapeFits}
+use Rattle.dw_form.specs.ReadForm.{read_shaped_if, read_attribute}
 use Rattle.dw_feed.specs.NamedValues.{constant_behind, value_cut}
 use Rattle.dw_feed.specs.LengthFields.{HasLength, HasNoLength, length_opens, length_waits}
-use Rattle.dw_feed.specs.ContentSteps.{PartialHere, IsShort, here_has}
+use Rattle.dw_feed.specs.ContentSteps.{PartialHere, here_has}
 
 -- Of the value at the place, under this pair, the length field is all that is kept, or of a text nothing. There is room for the
 -- content up to the unit's end, and there is some to come.

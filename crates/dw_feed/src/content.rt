@@ -1,5 +1,5 @@
 //! Texts and blocks of a unit whose bytes are pushed: they are kept as they come (section 7.5.5).
-ghost use Rattle.std.specs.Prelude.{◌≡◌, ◌≤◌, ◌<◌, ◌++◌, ℕ, None, Some, is_some, IsSome, IfSome, length, take, min, option_map};
+ghost use Rattle.std.specs.Prelude.{◌≡◌, ◌<◌, ◌++◌, ℕ, None, Some, IsSome, IfSome, length, take, min, option_map};
 ghost use Rattle.dw_leb.specs.View.{uleb_of};
 ghost use Rattle.dw_leb.specs.Reader.{Broken};
 ghost use Rattle.dw_leb.specs.declared.errors.Reason.TheVariants.{Truncated};
@@ -20,7 +20,7 @@ use crate::coming::Coming;
 use crate::step::Step;
 use bstr::ByteSlice;
 use dw_abbrev::Pair;
-use dw_form::{AttrValue, Shape, Value};
+use dw_form::{Shape, Value};
 use dw_leb::{Order, Reason, Uleb, read_fixed};
 
 impl Coming {
@@ -88,13 +88,9 @@ impl Coming {
         requires has { HasPart self.now }
         ensures { result ≡ room_of_text (left_of self.now) (partial_in self.now.place.unfinished) }
     {
-        match self.draft.partial_value() {
-            Some(
-                AttrValue {
-                    via,
-                    value: Value::Text(bytes),
-                },
-            ) => { Some(behind(via, self.left()) - bytes.len() as u64) }
+        let partial = self.draft.partial_value()?;
+        match partial.value {
+            Value::Text(bytes) => Some(behind(partial.via, self.left()) - bytes.len() as u64),
             _ => None,
         }
     }

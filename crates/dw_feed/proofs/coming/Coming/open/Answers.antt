@@ -1,4 +1,4 @@
-use Rattle.std.proofs.Common.{◌≡◌, ◌++◌, sym, subst, ◌∙◌, ap}
+use Rattle.std.proofs.Common.{◌++◌, sym, subst}
 use Rattle.std.specs.Prelude.{option_map}
 use Rattle.dw_leb.specs.View.{uleb_of}
 use Rattle.dw_feed.specs.BodyFeed.{PartialUnit, part}

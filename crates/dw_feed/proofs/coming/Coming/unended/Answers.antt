@@ -1,11 +1,10 @@
-use Rattle.std.proofs.Common.{◌≡◌, ◌<◌, ◌≤◌, ◌-◌, ◌++◌, min, ℕ, List, length, take, drop, refl, sym, ap, subst, ◌∙◌, arith, length-drop, take_all, take-append-drop}
+use Rattle.std.proofs.Common.{◌≡◌, ◌<◌, ◌≤◌, ◌-◌, ◌++◌, min, ℕ, List, length, take, drop, sym, ap, subst, ◌∙◌, arith, length-drop, take_all, take-append-drop}
 use Rattle.std.proofs.lemmas.List.{length-take-le}
 use Rattle.std.specs.Prelude.{option_map}
 use Rattle.dw_leb.specs.View.{uleb_of}
 use Rattle.dw_leb.specs.declared.errors.Reason.TheVariants.{PastUnit}
 use Rattle.dw_feed.specs.declared.step.Step.{Step}
 use Rattle.dw_feed.specs.declared.step.Step.TheVariants as steps
-use Rattle.dw_unit.specs.Draft.{extended}
 use Rattle.dw_feed.specs.BodyFeed.{PartialUnit, part}
 use Rattle.dw_feed.specs.BodyView.{coming}
 use Rattle.dw_feed.specs.FieldSteps.{StepSays}
