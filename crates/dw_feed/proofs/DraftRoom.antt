@@ -1,8 +1,7 @@
 -- What is left of a unit is room for a draft.
-use Rattle.std.proofs.Common.{◌≡◌, ◌≢◌, ℕ, zero, suc, ◌+◌, ◌-◌, ◌^◌, ◌<◌, ◌≤◌, Bool, true, false, List, [], ◌∷◌, ◌++◌, length, Option, Some, None, refl, sym, ap, subst, ◌∙◌, arith, length-append}
+use Rattle.std.proofs.Common.{◌≡◌, ◌≢◌, ℕ, zero, suc, ◌+◌, ◌-◌, ◌^◌, ◌<◌, ◌≤◌, Bool, true, false, List, [], ◌∷◌, length, Some, None, refl, arith, length-append}
 use Rattle.std.specs.Prelude.{nat_le, nat_lt, ◌==◌, if◌then◌else◌}
-use Rattle.std.proofs.lemmas.Bool.{leb-true, leb-false, ltb-true, ltb-false, lt-ltb, eq-eqb, ne_eqb}
-use Rattle.dw_leb.specs.declared.errors.Reason.{Reason}
+use Rattle.std.proofs.lemmas.Bool.{leb-true, leb-false, ltb-true, ltb-false, eq-eqb, ne_eqb}
 use Rattle.dw_leb.specs.declared.errors.Reason.TheVariants.{ReservedLength, LengthTooBig, TooDeep}
 use Rattle.dw_leb.specs.declared.order.Order.{Order}
 use Rattle.dw_leb.specs.declared.order.Format.{Format}
@@ -12,11 +11,11 @@ use Rattle.dw_leb.specs.Number.{Unsigned, length_size, reserved, too_far, length
 use Rattle.dw_leb.specs.DecideNumber.{initial-size}
 use Rattle.dw_abbrev.specs.Table.{Table}
 use Rattle.dw_header.specs.Header.{Header, fields, fields_of}
-use Rattle.dw_header.specs.HeaderPlace.{header_bytes, header_size}
-use Rattle.dw_tree.specs.Tree.{Forest, none, more, nesting, unknown}
+use Rattle.dw_header.specs.HeaderPlace.{header_bytes}
+use Rattle.dw_tree.specs.Tree.{Forest, nesting, unknown}
 use Rattle.dw_tree.specs.Levels.{nesting_is}
 use Rattle.dw_tree.specs.Place.{Frame}
-use Rattle.dw_unit.specs.Draft.{Drafted, drafted_size, size_limit, passes_limit}
+use Rattle.dw_unit.specs.Draft.{drafted_size, size_limit, passes_limit}
 use Rattle.dw_unit.specs.Entries.{has_room}
 use Rattle.dw_feed.specs.PlaceRows.{draft_size}
 use Rattle.dw_feed.specs.BodyFeed.{PartialUnit, before}

@@ -7,3 +7,4 @@ mod HeadFeedRows
 mod DraftRoom
 mod ValueRoom
 mod Turns
+mod Zero

@@ -1,5 +1,5 @@
 -- How many fields may still come: each has a byte, or is one of the values of the unfinished entry.
-use Rattle.std.proofs.Common.{◌≡◌, ◌≢◌, ◌⊎◌, ℕ, zero, suc, ◌+◌, ◌-◌, ◌*◌, ◌<◌, ◌≤◌, Bool, true, false, List, [], ◌∷◌, ◌++◌, length, take, drop, Option, Some, None, refl, sym, ap, subst, ◌∙◌, arith, inl, inr, length-append, length-drop}
+use Rattle.std.proofs.Common.{◌≡◌, ◌⊎◌, ℕ, zero, suc, ◌+◌, ◌-◌, ◌*◌, ◌<◌, ◌≤◌, Bool, true, false, List, [], ◌∷◌, ◌++◌, length, take, drop, Option, Some, None, refl, sym, ap, subst, ◌∙◌, arith, inl, inr, length-append, length-drop}
 use Rattle.std.proofs.lemmas.List.{length-take-le}
 use Rattle.std.specs.Prelude.{◌==◌, is_some, if◌then◌else◌}
 use Rattle.dw_leb.specs.declared.errors.Reason.{Reason}
@@ -11,11 +11,12 @@ use Rattle.dw_leb.specs.Reader.{Outcome, Found, Broken, mapped, made, checked}
 use Rattle.dw_leb.specs.ReadNumber.{read_uleb}
 use Rattle.dw_leb.specs.Moments.{fewer_or_enough}
 use Rattle.dw_form.specs.declared.shape.Ctx.{Ctx}
-use Rattle.dw_form.specs.Form.{Attribute}
+use Rattle.dw_form.specs.Form.{Attribute, shape}
+use Rattle.dw_form.specs.Pieces.{form_in}
 use Rattle.dw_form.specs.ReadForm.{read_attribute}
 use Rattle.dw_abbrev.specs.Table.{Pair, Declaration, Table, declared, declared_in, is_null}
 use Rattle.dw_tree.specs.Tree.{Tree, Forest, none, more, declared_pairs, bad_root, bad_child, not_null, nesting}
-use Rattle.dw_tree.specs.Place.{Frame, Spot, PartialValue, UnfinishedEntry, Place}
+use Rattle.dw_tree.specs.Place.{Frame, Spot, PartialValue, UnfinishedEntry}
 use Rattle.dw_tree.specs.Steps.{next_pairs, partial_in, settled, settle_by, settle}
 use Rattle.dw_unit.specs.Entries.{has_room}
 use Rattle.dw_feed.specs.declared.step.Step.TheVariants as steps
@@ -24,6 +25,7 @@ use Rattle.dw_feed.specs.BodyFeed.{PartialUnit, Reading, Refused, Finished, pair
 use Rattle.dw_feed.specs.FeedInvariant.{context, frames_of, chain_of, body_so_far, left, wanted, moved_to}
 use Rattle.dw_feed.specs.FeedSteps.{At, RanSays, found_wants, done_says, goes_on, more_says, field_fault_says, at_same_field}
 use Rattle.dw_feed.specs.FieldReader.{PlaceBehind, by_code, read_value, read_field, follows}
+use Rattle.dw_feed.specs.PartialValues.{none_kept}
 use Rattle.dw_feed.specs.PlainFeed.{field_at, ran, fault_at, root_if_whole, unit_with}
 use Rattle.dw_feed.specs.FieldSteps.{Waits, Standing, HasPart, HasNext, FieldPart, ValuePart, StepSays, keeps_stands, next_here, has_moment, same_wants}
 
@@ -238,7 +240,7 @@ module _ (g0 : PartialUnit) (piece : List ℕ) (g : PartialUnit) (rest : List �
       where
         by_pairs : (ps : List Pair) → 0 < length ps → ValuePart (moved_to q.0 q.1 g) ps None
         by_pairs [] h = absurd (omega (arith, h))
-        by_pairs (p ∷ ps) h = (refl, tt, λ u e. absurd cc)
+        by_pairs (p ∷ ps) h = (refl, tt, λ u e. absurd cc, none_kept (shape (form_in p.form.value None) (context g).address_size (context g).format) (left (moved_to q.0 q.1 g)))
 
         by : (o : Option UnfinishedEntry) → partial_in o ≡ None → HasNext g.table o → FieldPart (moved_to q.0 q.1 g) o
         by None e h = (refl, refl)

@@ -1,9 +1,6 @@
 -- A body feed's fields as the feed of the definitions.
-use Rattle.std.proofs.Common.{◌≡◌, ◌⊎◌, ℕ, ◌-◌, ◌≤◌, ◌<◌, List, [], ◌++◌, length, Option, Some, None, refl, sym, ap, subst, inl, inr, arith}
+use Rattle.std.proofs.Common.{◌≡◌, ◌⊎◌, ◌<◌, length, Option, Some, None, ap, inl, inr}
 use Rattle.dw_leb.specs.declared.errors.Fault.{Fault}
-use Rattle.dw_feed.specs.declared.progress.Progress.{Progress}
-use Rattle.dw_feed.specs.declared.progress.Progress.TheVariants as answers
-use Rattle.dw_unit.specs.Unit.{WholeUnit}
 use Rattle.dw_feed.specs.BodyFeed.{PartialUnit, BodyFeed, Reading, Refused, Finished, started, part}
 use Rattle.dw_feed.specs.FeedInvariant.{Keeps, Kept}
 use Rattle.dw_feed.specs.FieldSteps.{HasPart, Waits}

@@ -1,6 +1,6 @@
 -- An empty piece shows what the end of the input would show: that more is needed, and then nothing changes, or a fault that stands
 -- before any byte.
-use Rattle.std.proofs.Common.{◌≡◌, ◌≢◌, ◌⊎◌, ℕ, ◌<◌, List, [], ◌++◌, length, take, Some, refl, sym, ap, subst, ◌∙◌, append-nil, arith, inl, inr}
+use Rattle.std.proofs.Common.{◌≡◌, ◌≢◌, ◌⊎◌, ℕ, ◌<◌, List, [], ◌++◌, length, Some, refl, sym, ap, subst, ◌∙◌, append-nil, arith, inl, inr}
 use Rattle.dw_leb.specs.declared.errors.Reason.{Reason}
 use Rattle.dw_leb.specs.declared.errors.Reason.TheVariants.{Truncated}
 use Rattle.dw_leb.specs.declared.errors.Fault.{Fault}
@@ -10,7 +10,7 @@ use Rattle.dw_unit.specs.UnitLaws.{one_break}
 use Rattle.dw_feed.specs.declared.progress.Progress.{Progress}
 use Rattle.dw_feed.specs.declared.progress.Progress.TheVariants as answers
 use Rattle.dw_feed.specs.BodyFeed.{PartialUnit, BodyFeed, Reading, Refused, Finished, started, part, before, stream, IsCutOff, StandsFirst, FeedsBody, EndsBody}
-use Rattle.dw_feed.specs.FeedInvariant.{Keeps, Kept, wanted, waits}
+use Rattle.dw_feed.specs.FeedInvariant.{Kept, wanted, waits}
 
 -- while more is needed nothing changes; no memory is wanted
 abbrev pub Rests : BodyFeed → Progress WholeUnit → BodyFeed → Type 0

@@ -1,9 +1,9 @@
 -- One step of a body feed, as its functions say it: the field at the place, over what is there of it and what is left of the piece.
-use Rattle.std.proofs.Common.{◌≡◌, ◌≢◌, ◌⊎◌, ℕ, ◌+◌, ◌-◌, ◌<◌, ◌≤◌, Bool, true, false, List, [], ◌∷◌, ◌++◌, length, Option, Some, None, refl, sym, ap, ap₂, subst, ◌∙◌, arith, inl, inr, length-append, length-drop, append-nil}
+use Rattle.std.proofs.Common.{◌≡◌, ◌≢◌, ◌⊎◌, ℕ, ◌+◌, ◌-◌, ◌<◌, ◌≤◌, Bool, true, false, List, [], ◌∷◌, ◌++◌, length, Option, Some, None, refl, sym, ap, subst, ◌∙◌, arith, inl, inr, length-append, length-drop}
 use Rattle.std.specs.Prelude.{option_map, is_some, IsTrue, ◌↔◌}
 use Rattle.dw_leb.specs.declared.errors.Reason.{Reason}
 use Rattle.dw_leb.specs.declared.errors.Reason.TheVariants.{Truncated}
-use Rattle.dw_leb.specs.Reader.{Outcome, Found, Broken, Reader, mapped, made, checked}
+use Rattle.dw_leb.specs.Reader.{Outcome, Found, Broken, mapped, made, checked}
 use Rattle.dw_leb.specs.Number.{Unsigned}
 use Rattle.dw_leb.specs.ReadNumber.{read_uleb}
 use Rattle.dw_form.specs.declared.shape.Ctx.{Ctx}
@@ -29,11 +29,12 @@ use Rattle.dw_feed.specs.FieldPlace.{PlaceFits}
 use Rattle.dw_feed.specs.FieldFound.{place}
 use Rattle.dw_feed.specs.NextField.{read_next, next_value_moment, next_moment, next_has}
 use Rattle.dw_feed.specs.FieldReader.{PlaceBehind, by_code, read_value, read_field}
-use Rattle.dw_form.specs.Pieces.{via_bytes}
+use Rattle.dw_form.specs.Form.{shape}
+use Rattle.dw_form.specs.Pieces.{form_in, via_bytes}
 use Rattle.dw_feed.specs.BodyFeed.{PartialUnit, Reading, Refused, Finished, EndsBody, started, value_part, part}
 use Rattle.dw_feed.specs.FeedInvariant.{Keeps, Kept, body_so_far, frames_of, chain_of, context, left, wanted, moved_to}
 use Rattle.dw_feed.specs.PlainFeed.{ran, fault_at, root_if_whole, unit_with, field_at, holding, held_left, held_wanted}
-use Rattle.dw_feed.specs.PartialValues.{IsPartialAs, NamedFits, IsIncomplete, lim_behind}
+use Rattle.dw_feed.specs.PartialValues.{IsPartialAs, NamedFits, FewKeptIf, IsIncomplete, lim_behind}
 
 -- ---- a place that stands, where the unit may be whole
 
@@ -47,10 +48,10 @@ keeps_stands g keeps = record { head = keeps.head; stands = keeps.stands; within
 
 -- ---- what may be there of the field at the place
 
--- of a value with this pair: the form that it names, and bytes of a number; or a text or block that isn't whole
+-- of a value with this pair: the form that it names, and bytes of a number or of a length field; or a text or block that isn't whole
 abbrev pub ValuePart : PartialUnit → List Pair → Option PartialValue → Type 0
 ValuePart g [] o = ⊥
-ValuePart g (p ∷ ps) None = (g.to_come ≡ 0) × NamedFits g.named (left g) × ((u : Unsigned) → g.named ≡ Some u → p.form.value ≡ 0x16)
+ValuePart g (p ∷ ps) None = (g.to_come ≡ 0) × NamedFits g.named (left g) × ((u : Unsigned) → g.named ≡ Some u → p.form.value ≡ 0x16) × FewKeptIf (shape (form_in p.form.value g.named) (context g).address_size (context g).format) g.pending (lim_behind g.named (left g))
 ValuePart g (p ∷ ps) (Some b) = (g.named ≡ None) × (g.pending ≡ []) × NamedFits b.via (left g) × ((is : IsPartialAs (context g) p b) × IsIncomplete is.shape_is b.width b.bytes g.to_come (lim_behind b.via (left g)))
 
 -- of a code the bytes of its number alone

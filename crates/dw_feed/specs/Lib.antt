@@ -35,3 +35,6 @@ pub mod FedUnit
 pub mod Openings
 pub mod ValueSteps
 pub mod EmptyPiece
+pub mod ContentSteps
+pub mod NamedValues
+pub mod LengthFields

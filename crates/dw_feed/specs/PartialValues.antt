@@ -3,6 +3,7 @@ use Rattle.std.proofs.Common.{◌≡◌, ◌≢◌, ℕ, ◌+◌, ◌-◌, ◌^�
 use Rattle.std.specs.Prelude.{◌==◌}
 use Rattle.std.specs.List.{AllByRecursion}
 use Rattle.std.proofs.lemmas.Bool.{eq-eqb, ne_eqb}
+use Rattle.dw_leb.specs.declared.order.Format.{Format}
 use Rattle.dw_leb.specs.Part.{judged}
 use Rattle.dw_leb.specs.Number.{Unsigned, Signed, uleb, fixed_bytes}
 use Rattle.dw_leb.specs.DecideNumber.{length-uleb}
@@ -16,7 +17,7 @@ use Rattle.dw_form.specs.StoredView.{text_or_block}
 use Rattle.dw_abbrev.specs.Table.{Pair}
 use Rattle.dw_tree.specs.Place.{PartialValue}
 use Rattle.dw_tree.specs.Steps.{partial_attribute, first_bytes, longer}
-use Rattle.dw_leb.specs.NumberMoments.{is_zero, text_wants}
+use Rattle.dw_leb.specs.NumberMoments.{is_zero, leb_moment, text_wants}
 use Rattle.dw_form.specs.FormMoments.{shaped_moment, shaped_moment_if, formed_moment, attribute_moment, block_wants, uleb_block_wants, named_wants, plain_wants}
 use Rattle.dw_feed.specs.BodyFeed.{first_form, count_bytes, count_if, partial_taken}
 
@@ -78,9 +79,9 @@ ended_bytes k p ps b is = by b.via refl
 
 -- ---- one that isn't whole wants more
 
--- a text has no zero yet, and a block has a length that its field holds, within lim, and content still to come
+-- a text has no zero yet, and no count of bytes that are to come; a block has a length that its field holds, within lim, and content still to come
 abbrev pub IsIncomplete : Shape → Option ℕ → List ℕ → ℕ → ℕ → Type 0
-IsIncomplete shapes.Text None bytes to_come lim = AllByRecursion (λ b. is_zero b ≡ false) bytes × (length bytes < lim)
+IsIncomplete shapes.Text None bytes to_come lim = AllByRecursion (λ b. is_zero b ≡ false) bytes × (length bytes < lim) × (to_come ≡ 0)
 IsIncomplete (shapes.Counted n) (Some width) bytes to_come lim = (width ≡ n) × (length bytes + to_come < 256 ^ n) × (n + (length bytes + to_come) ≤ lim) × (0 < to_come)
 IsIncomplete shapes.CountedUleb (Some width) bytes to_come lim = uleb.Fits (record { value = length bytes + to_come; width = width }) × (width + (length bytes + to_come) ≤ lim) × (0 < to_come)
 IsIncomplete s o bytes to_come lim = ⊥
@@ -102,6 +103,47 @@ shaped_short k shapes.Sleb o bytes to_come lim h = absurd h
 shaped_short k shapes.Present o bytes to_come lim h = absurd h
 shaped_short k shapes.Implicit o bytes to_come lim h = absurd h
 shaped_short k shapes.Indirect o bytes to_come lim h = absurd h
+
+-- ---- what is kept of a value before its content
+
+-- no more than its length field: of a text nothing, and of a number as an unsigned LEB128 nothing behind its last byte; no more
+-- than the number of a form that isn't named yet
+abbrev pub FewKept : Shape → List ℕ → ℕ → Type 0
+FewKept shapes.Text bytes lim = bytes ≡ []
+FewKept (shapes.Counted n) bytes lim = length bytes ≤ n
+FewKept shapes.CountedUleb bytes lim = length bytes ≤ leb_moment bytes lim
+FewKept shapes.Indirect bytes lim = length bytes ≤ leb_moment bytes lim
+FewKept s bytes lim = Unit {0}
+
+abbrev pub FewKeptIf : Option Shape → List ℕ → ℕ → Type 0
+FewKeptIf None bytes lim = Unit {0}
+FewKeptIf (Some s) bytes lim = FewKept s bytes lim
+
+pub none_kept : (s : Option Shape) (lim : ℕ) → FewKeptIf s [] lim
+none_kept None lim = tt
+none_kept (Some shapes.Text) lim = refl
+none_kept (Some (shapes.Counted n)) lim = omega arith
+none_kept (Some shapes.CountedUleb) lim = omega arith
+none_kept (Some (shapes.Fixed n)) lim = tt
+none_kept (Some shapes.Uleb) lim = tt
+none_kept (Some shapes.Sleb) lim = tt
+none_kept (Some shapes.Present) lim = tt
+none_kept (Some shapes.Implicit) lim = tt
+none_kept (Some shapes.Indirect) lim = omega arith
+
+-- before its form is named, of an indirect value the bytes of that form are
+pub shape_of_indirect : (address_size : ℕ) (format : Format) → shape 0x16 address_size format ≡ Some shapes.Indirect
+unfolding shape
+shape_of_indirect address_size format = refl
+
+kept_of_form : (address_size : ℕ) (format : Format) (form : ℕ) → form ≡ 0x16 → shape form address_size format ≡ Some shapes.Indirect
+kept_of_form address_size format form e = ap (λ (n : ℕ). shape n address_size format) e ∙ shape_of_indirect address_size format
+
+pub unnamed_kept : (address_size : ℕ) (format : Format) (form : ℕ) (bytes : List ℕ) (lim : ℕ) → form ≡ 0x16 → length bytes ≤ leb_moment bytes lim → FewKeptIf (shape form address_size format) bytes lim
+unnamed_kept address_size format form bytes lim e few = subst (λ (o : Option Shape). FewKeptIf o bytes lim) (sym (kept_of_form address_size format form e)) few
+
+pub unnamed_few : (address_size : ℕ) (format : Format) (form : ℕ) (bytes : List ℕ) (lim : ℕ) → form ≡ 0x16 → FewKeptIf (shape form address_size format) bytes lim → length bytes ≤ leb_moment bytes lim
+unnamed_few address_size format form bytes lim e few = subst (λ (o : Option Shape). FewKeptIf o bytes lim) (kept_of_form address_size format form e) few
 
 -- the form that is named may stand in an indirect value, within lim
 abbrev pub NamedFits : Option Unsigned → ℕ → Type 0

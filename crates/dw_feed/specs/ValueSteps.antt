@@ -1,17 +1,21 @@
 -- A value at the place of a body feed: what an attempt to read it gives, what is kept of it, and the steps of the functions that
 -- read it byte by byte.
-use Rattle.std.proofs.Common.{◌≡◌, ◌≢◌, ℕ, suc, zero, ◌+◌, ◌-◌, ◌<◌, ◌≤◌, List, [], ◌∷◌, ◌++◌, length, drop, slice_get, Option, Some, None, refl, sym, ap, subst, ◌∙◌, append_assoc, append-nil, arith, length-append}
-use Rattle.std.proofs.lemmas.List.{drop_at}
+use Rattle.std.proofs.Common.{◌≡◌, ◌≢◌, ℕ, suc, zero, ◌-◌, ◌<◌, ◌≤◌, List, [], ◌∷◌, ◌++◌, length, drop, slice_get, Option, Some, None, refl, sym, ap, subst, ◌∙◌, append_assoc, append-nil, arith, length-append, length-drop, inl, inr}
+use Rattle.std.specs.Prelude.{◌==◌, ◌||◌}
+use Rattle.std.proofs.lemmas.List.{drop_at, nil_from_length}
 use Rattle.dw_leb.specs.declared.errors.Reason.{Reason}
-use Rattle.dw_leb.specs.declared.errors.Reason.TheVariants.{Truncated}
+use Rattle.dw_leb.specs.declared.errors.Reason.TheVariants.{Truncated, BadIndirect}
 use Rattle.dw_leb.specs.Part.{Taken, judged}
 use Rattle.dw_leb.specs.Number.{Unsigned, Signed, uleb}
 use Rattle.dw_leb.specs.Reader.{Outcome, Found, Broken, behind, mapped, checked, at_front}
 use Rattle.dw_leb.specs.ReadNumber.{read_uleb}
+use Rattle.dw_leb.specs.DecideNumber.{uleb_decides}
+use Rattle.dw_leb.specs.Moments.{IsCut, fewer_or_enough, refuses_where, checked_moment}
+use Rattle.dw_leb.specs.NumberMoments.{leb_moment, uleb_has}
 use Rattle.dw_form.specs.declared.shape.Ctx.{Ctx}
-use Rattle.dw_form.specs.Form.{Attribute, bad_inner}
+use Rattle.dw_form.specs.Form.{Attribute, shape, bad_inner}
 use Rattle.dw_form.specs.ReadForm.{read_attribute, read_formed, indirect_from}
-use Rattle.dw_form.specs.Pieces.{via_bytes}
+use Rattle.dw_form.specs.Pieces.{form_in, via_bytes}
 use Rattle.dw_abbrev.specs.Table.{Table, Pair, declared}
 use Rattle.dw_tree.specs.Tree.{Forest, none, more, declared_pairs}
 use Rattle.dw_tree.specs.Place.{Frame, PartialValue, UnfinishedEntry}
@@ -28,7 +32,8 @@ use Rattle.dw_feed.specs.FieldReader.{PlaceBehind, read_value, read_field}
 use Rattle.dw_feed.specs.FeedInvariant.{context, frames_of, chain_of, left, wanted, moved_to, Keeps}
 use Rattle.dw_feed.specs.PlainFeed.{field_at, holding}
 use Rattle.dw_feed.specs.FeedSteps.{cut_wants}
-use Rattle.dw_feed.specs.PartialValues.{NamedFits}
+use Rattle.dw_feed.specs.PartialValues.{NamedFits, FewKeptIf, lim_behind, none_kept, unnamed_kept, unnamed_few}
+use Rattle.dw_feed.specs.LengthFields.{one_more}
 use Rattle.dw_feed.specs.FieldSteps.{Standing, ValuePart, FieldPart, HasPart, HasNextHere, FrontsWait, StepSays, keeps_stands, next_here, step_same, stop_found, stop_broken, wait_more}
 
 -- ---- an attempt to read the value at the front of bytes
@@ -140,29 +145,69 @@ module _ (g : PartialUnit) (between : partial_in g.place.unfinished ≡ None) wh
       ∙ ap (λ (o : Option Unsigned). via_bytes o ++ g.pending) (sym unnamed)
       ∙ sym (part_free g between)
 
-  pub has_kept : (bytes : List ℕ) → HasPart g → HasPart (keeping g bytes)
-  has_kept bytes has = by g.place.unfinished between has
+  -- of an indirect value whose form isn't named yet bytes of its number are kept
+  pub form_kept : (p : Pair) → next_pair g.table g.place.unfinished ≡ Some p → p.form.value ≡ 0x16 → g.named ≡ None → (bytes : List ℕ) → length bytes ≤ leb_moment bytes (left g) → HasPart g → HasPart (keeping g bytes)
+  form_kept p next is unnamed bytes few has = by g.place.unfinished next between has
     where
-      value : (ps : List Pair) (o : Option PartialValue) → o ≡ None → ValuePart g ps o → ValuePart (keeping g bytes) ps o
-      value [] o none_there h = absurd h
-      value (q ∷ qs) None none_there h = h
-      value (q ∷ qs) (Some b) none_there h = absurd cc
+      kept : (q : Pair) → q ≡ p → FewKeptIf (shape (form_in q.form.value g.named) (context g).address_size (context g).format) bytes (lim_behind g.named (left g))
+      kept q first =
+          subst (λ (o : Option Unsigned). FewKeptIf (shape (form_in q.form.value o) (context g).address_size (context g).format) bytes (lim_behind o (left g))) (sym unnamed)
+          (unnamed_kept (context g).address_size (context g).format q.form.value bytes (left g) (ap (λ (x : Pair). x.form.value) first ∙ is) few)
 
-      by : (o : Option UnfinishedEntry) → partial_in o ≡ None → FieldPart g o → FieldPart (keeping g bytes) o
-      by None none_there h = h
-      by (Some r) none_there h = value (next_pairs g.table r) r.partial none_there h
+      value : (ps qs : List Pair) (o : Option PartialValue) → ps ≡ p ∷ qs → o ≡ None → ValuePart g ps o → ValuePart (keeping g bytes) ps o
+      value [] qs o same none_there h = absurd h
+      value (q ∷ ps) qs None same none_there h = let first : q ≡ p = cc in (h.0, h.1, h.2, kept q first)
+      value (q ∷ ps) qs (Some b) same none_there h = absurd cc
 
-  pub has_named : (p : Pair) → next_pair g.table g.place.unfinished ≡ Some p → p.form.value ≡ 0x16 → (u : Unsigned) → NamedFits (Some u) (left g) → HasPart g → HasPart (naming g u)
-  has_named p next is u fits has = by g.place.unfinished next between has
+      by : (o : Option UnfinishedEntry) → next_pair g.table o ≡ Some p → partial_in o ≡ None → FieldPart g o → FieldPart (keeping g bytes) o
+      by None e none_there h = absurd cc
+      by (Some r) e none_there h = let is_next = next_of g.table r p e in value (next_pairs g.table r) is_next.0 r.partial is_next.1 none_there h
+
+  -- and no others
+  pub form_few : (p : Pair) → next_pair g.table g.place.unfinished ≡ Some p → p.form.value ≡ 0x16 → g.named ≡ None → HasPart g → length g.pending ≤ leb_moment g.pending (left g)
+  form_few p next is unnamed has = by g.place.unfinished next between has
+    where
+      value : (ps qs : List Pair) (o : Option PartialValue) → ps ≡ p ∷ qs → o ≡ None → ValuePart g ps o → length g.pending ≤ leb_moment g.pending (left g)
+      value [] qs o same none_there h = absurd h
+      value (q ∷ ps) qs None same none_there h =
+          let first : q ≡ p = cc in
+          unnamed_few (context g).address_size (context g).format q.form.value g.pending (left g) (ap (λ (x : Pair). x.form.value) first ∙ is)
+          (subst (λ (o : Option Unsigned). FewKeptIf (shape (form_in q.form.value o) (context g).address_size (context g).format) g.pending (lim_behind o (left g))) unnamed h.3)
+      value (q ∷ ps) qs (Some b) same none_there h = absurd cc
+
+      by : (o : Option UnfinishedEntry) → next_pair g.table o ≡ Some p → partial_in o ≡ None → FieldPart g o → length g.pending ≤ leb_moment g.pending (left g)
+      by None e none_there h = absurd cc
+      by (Some r) e none_there h = let is_next = next_of g.table r p e in value (next_pairs g.table r) is_next.0 r.partial is_next.1 none_there h
+
+  pub has_named : (p : Pair) → next_pair g.table g.place.unfinished ≡ Some p → p.form.value ≡ 0x16 → (u : Unsigned) → NamedFits (Some u) (left g) → drop u.width g.pending ≡ [] → HasPart g → HasPart (naming g u)
+  has_named p next is u fits none_behind has = by g.place.unfinished next between has
     where
       value : (ps qs : List Pair) (o : Option PartialValue) → ps ≡ p ∷ qs → o ≡ None → ValuePart g ps o → ValuePart (naming g u) ps o
       value [] qs o same none_there h = absurd h
-      value (q ∷ ps) qs None same none_there h = let first : q ≡ p = cc in (h.0, fits, λ _ _. ap (λ (x : Pair). x.form.value) first ∙ is)
+      value (q ∷ ps) qs None same none_there h =
+          let first : q ≡ p = cc in
+          let few : FewKeptIf (shape u.value (context g).address_size (context g).format) (drop u.width g.pending) (left g - u.width) =
+          subst (λ (bs : List ℕ). FewKeptIf (shape u.value (context g).address_size (context g).format) bs (left g - u.width)) (sym none_behind) (none_kept (shape u.value (context g).address_size (context g).format) (left g - u.width)) in
+          (h.0, fits, λ _ _. ap (λ (x : Pair). x.form.value) first ∙ is, few)
       value (q ∷ ps) qs (Some b) same none_there h = absurd cc
 
       by : (o : Option UnfinishedEntry) → next_pair g.table o ≡ Some p → partial_in o ≡ None → FieldPart g o → FieldPart (naming g u) o
       by None e none_there h = absurd cc
       by (Some r) e none_there h = let is_next = next_of g.table r p e in value (next_pairs g.table r) is_next.0 r.partial is_next.1 none_there h
+
+-- nothing is behind the number of a form
+form_ends : (bytes : List ℕ) (u : Unsigned) (lim : ℕ) → length bytes ≤ leb_moment bytes lim → Taken (judged uleb bad_inner) bytes lim u u.width → drop u.width bytes ≡ []
+form_ends bytes u lim few taken =
+    let read : read_uleb bytes lim ≡ Found u (length (uleb.spell u)) = ap (λ (bs : List ℕ). read_uleb bs lim) taken.split ∙ uleb_decides.takes u taken.rest lim taken.fits.0 (omega (arith, taken.is_size, taken.within)) in
+    let moment : leb_moment bytes lim ≡ length (uleb.spell u) = uleb_has.whole bytes lim u (length (uleb.spell u)) read in
+    nil_from_length (drop u.width bytes) (omega (arith, length-drop u.width bytes, few, moment, taken.is_size))
+
+-- a number of a form that is cut off wants more
+pub form_more : (k : Ctx) (bytes : List ℕ) (lim : ℕ) → checked read_uleb bad_inner bytes lim ≡ Broken 0 Truncated → (b : ℕ) → length (bytes ++ b ∷ []) ≤ leb_moment (bytes ++ b ∷ []) lim
+form_more k bytes lim e b = elim (fewer_or_enough (length bytes) (leb_moment bytes lim)) [
+  | inl short ↦ one_more k None bytes lim b short
+  | inr enough ↦ absurd ((checked_moment read_uleb bad_inner (λ u. refuses_where (u.value == 0x16 || u.value == 0x21) BadIndirect (λ q. cc)) leb_moment uleb_has).stands bytes lim enough (subst IsCut (sym e) refl))
+]
 
 -- ---- a loop over the bytes of a value
 
@@ -193,8 +238,8 @@ module _ (g0 : PartialUnit) (b : List ℕ) (p : Pair) (g : PartialUnit) (rest : 
       value_step steps.Wanting g (subst (λ (bs : List ℕ). StepSays g bs steps.Wanting g) all (refl, refl, value_short g p (keeps_stands g i.keeps) i.next (part g) e, i.has))
 
   -- one more byte is kept
-  pub value_goes_on : (x : ℕ) (others : List ℕ) → rest ≡ x ∷ others → read_attribute (context g) p.form.value p.constant (part g) (left g) ≡ Broken 0 Truncated → InValue g0 b p (keeping g (g.pending ++ x ∷ [])) others
-  value_goes_on x others is e =
+  pub value_goes_on : (x : ℕ) (others : List ℕ) → rest ≡ x ∷ others → read_attribute (context g) p.form.value p.constant (part g) (left g) ≡ Broken 0 Truncated → HasPart (keeping g (g.pending ++ x ∷ [])) → InValue g0 b p (keeping g (g.pending ++ x ∷ [])) others
+  value_goes_on x others is e has =
       let kept : part (keeping g (g.pending ++ x ∷ [])) ≡ part g ++ x ∷ [] = keeping_part g i.between x in
       record {
         first = i.first;
@@ -203,7 +248,7 @@ module _ (g0 : PartialUnit) (b : List ℕ) (p : Pair) (g : PartialUnit) (rest : 
         next = i.next;
         between = i.between;
         keeps = record { head = i.keeps.head; stands = i.keeps.stands; within = i.keeps.within; unended = i.keeps.unended; first = i.keeps.first };
-        has = has_kept g i.between (g.pending ++ x ∷ []) i.has;
+        has = has;
         waits = subst (FrontsWait g) (sym kept) (wait_more g (part g) x (value_short g p (keeps_stands g i.keeps) i.next (part g) e));
       }
 
@@ -218,6 +263,6 @@ module _ (g0 : PartialUnit) (b : List ℕ) (p : Pair) (g : PartialUnit) (rest : 
         next = i.next;
         between = i.between;
         keeps = record { head = i.keeps.head; stands = i.keeps.stands; within = i.keeps.within; unended = i.keeps.unended; first = i.keeps.first };
-        has = has_named g i.between p i.next is u (taken.fits, omega (arith, taken.within, l)) i.has;
+        has = has_named g i.between p i.next is u (taken.fits, omega (arith, taken.within, l)) (form_ends g.pending u (left g) (form_few g i.between p i.next is unnamed i.has) (subst (λ (m : ℕ). Taken (judged uleb bad_inner) g.pending m u u.width) l taken)) i.has;
         waits = subst (FrontsWait g) (sym same) i.waits;
       }

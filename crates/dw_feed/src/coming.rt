@@ -14,7 +14,6 @@ ghost use Rattle.dw_header.specs.Laws.{HasHeaderBytes};
 ghost use Rattle.dw_unit.specs.Draft.{given, passes_limit, value_bytes};
 ghost use Rattle.dw_feed.specs.BodyView.{drafted};
 ghost use Rattle.dw_feed.specs.ValueSteps.{ValueSays, naming};
-ghost use Rattle.dw_feed.specs.Openings.{IsOpening};
 ghost use Rattle.dw_feed.specs.PlainFeed.{root_if_whole, unit_with};
 ghost use Rattle.dw_feed.specs.BodyFeed.{Reading, EndsBody, started, part};
 ghost use Rattle.dw_feed.specs.FeedInvariant.{Keeps, Kept, context, left as left_of, moved_to};
@@ -37,14 +36,14 @@ use std::rc::Rc;
 /// parts that came.
 #[derive(Debug, Drop)]
 pub(crate) struct Coming {
-    draft: Draft,
+    pub(crate) draft: Draft,
     unit_length: u64,
     /// The form that an indirect value names, before the value itself begins (section 7.5.3).
-    named: Option<Uleb>,
+    pub(crate) named: Option<Uleb>,
     /// How many bytes of a block are still to come.
-    to_come: u64,
+    pub(crate) to_come: u64,
     /// Bytes of a number or of a length field that isn't whole.
-    pending: ArrayVec<u8, 16>,
+    pub(crate) pending: ArrayVec<u8, 16>,
 }
 
 impl Model for Coming {
@@ -207,7 +206,7 @@ impl Coming {
         ensures { StepSays self.old (part self.old ++ b.now) result self.new }
     {
         if self.draft.partial_value().is_some() {
-            self.content(pair, b)
+            self.content(b)
         } else if self.named.is_none() && self.pending.is_empty() {
             self.new_value(pair, b)
         } else {
@@ -316,7 +315,7 @@ impl Coming {
                 }
             }
             if let Some((width, count)) = self.opening(pair) {
-                return self.open(pair, width, count, rest);
+                return self.open(width, count, rest);
             }
             match rest.split_first() {
                 Some((byte, others)) => {
@@ -389,49 +388,6 @@ impl Coming {
         self.to_come = 0;
         self.pending.clear();
         Ok(())
-    }
-
-    /// The text or block that begins here, where what comes before its content is whole and there is room for
-    /// it: a block's width and count of bytes.
-    fn opening(&self, pair: Pair) -> Option<(Option<u8>, u64)>
-        requires next { next_pair self.now.table self.now.place.unfinished ≡ Some (pair_of pair) }
-        requires stands { Standing self.now }
-        requires has { HasPart self.now }
-        requires between { partial_in self.now.place.unfinished ≡ None }
-        requires named { pair.form.value ≡ 0x16 → IsSome self.now.named }
-        requires cut { read_attribute (context self.now) pair.form.value (pair_of pair).constant (part self.now) (left_of self.now) ≡ Broken 0 Truncated }
-        ensures some { IfSome result (λ x. IsOpening self.now (pair_of pair) x.0 x.1) }
-        ensures none { result ≡ None → length self.now.pending < 16 }
-    {
-        None
-    }
-
-    /// A text or block begins, of which so many bytes are to come.
-    fn open(&mut self, pair: Pair, width: Option<u8>, count: u64, b: &[u8]) -> Step
-        requires next { next_pair self.old.table self.old.place.unfinished ≡ Some (pair_of pair) }
-        requires stands { Keeps self.old }
-        requires has { HasPart self.old }
-        requires waits { FrontsWait self.old (part self.old) }
-        requires between { partial_in self.old.place.unfinished ≡ None }
-        requires named { pair.form.value ≡ 0x16 → IsSome self.old.named }
-        requires opens { IsOpening self.old (pair_of pair) width count }
-        ensures { StepSays self.old (part self.old ++ b.now) result self.new }
-    {
-        self.to_come = count + 0;
-        Step::NoMemory
-    }
-
-    /// More of a text's or block's content.
-    fn content(&mut self, pair: Pair, b: &[u8]) -> Step
-        requires next { next_pair self.old.table self.old.place.unfinished ≡ Some (pair_of pair) }
-        requires stands { Keeps self.old }
-        requires has { HasPart self.old }
-        requires waits { FrontsWait self.old (part self.old) }
-        requires begun { IsSome (partial_in self.old.place.unfinished) }
-        ensures { StepSays self.old (part self.old ++ b.now) result self.new }
-    {
-        self.to_come = (b.len() + pair.form.width as usize) as u64 - b.len() as u64;
-        Step::NoMemory
     }
 
     /// The fault where the input ends here.

@@ -6,6 +6,7 @@ mod body;
 mod bytes;
 mod code;
 mod coming;
+mod content;
 mod head;
 pub mod laws;
 mod progress;

@@ -1,4 +1,4 @@
-use Rattle.std.proofs.Common.{◌≡◌, List, ℕ, Some, subst, sym}
+use Rattle.std.proofs.Common.{List, ℕ, subst}
 use Rattle.dw_unit.specs.Unit.{WholeUnit}
 use Rattle.dw_feed.specs.declared.progress.Progress.{Progress}
 use Rattle.dw_feed.specs.BodyFeed.{PartialUnit, BodyFeed, Reading, started, FeedsBody}

@@ -1,7 +1,6 @@
-use Rattle.std.proofs.Common.{◌≡◌, ◌-◌, ℕ, List, length, Option, Some, None, IfSome, refl, sym, ap, subst, ◌∙◌}
+use Rattle.std.proofs.Common.{◌≡◌, ◌-◌, ℕ, List, length, Option, Some, None, IfSome, sym, ap, subst, ◌∙◌}
 use Rattle.dw_unit.specs.Unit.{WholeUnit}
 use Rattle.dw_tree.specs.Tree.{Tree}
-use Rattle.dw_feed.specs.declared.step.Taken.{Taken}
 use Rattle.dw_feed.specs.declared.step.Taken.TheVariants as takes
 use Rattle.dw_feed.specs.declared.progress.Progress.TheVariants as answers
 use Rattle.dw_feed.specs.BodyFeed.{PartialUnit, BodyFeed, Reading, Finished, FeedsBody, SaysDone}

@@ -1,5 +1,4 @@
-use Rattle.std.proofs.Common.{◌≡◌, refl, sym, subst, inr}
-use Rattle.std.specs.List.{AllByRecursion}
+use Rattle.std.proofs.Common.{refl, sym, subst, inr}
 use Rattle.dw_feed.specs.BodyFeed.{PartialUnit, Reading, started}
 use Rattle.dw_feed.specs.FeedInvariant.{start_keeps}
 use Rattle.dw_feed.specs.BodyFeedView.{IsBodyFeed}

@@ -1,10 +1,8 @@
-use Rattle.std.proofs.Common.{◌≡◌, ◌+◌, ◌-◌, ◌≤◌, ℕ, sym, ap, subst, ◌∙◌, arith}
+use Rattle.std.proofs.Common.{◌≡◌, ap, ◌∙◌, arith}
 use Rattle.dw_leb.specs.Number.{length_size}
 use Rattle.dw_unit.specs.Draft.{drafted_size}
 use Rattle.dw_feed.specs.BodyFeed.{PartialUnit}
 use Rattle.dw_feed.specs.BodyView.{drafted}
-use Rattle.dw_feed.specs.FieldSteps.{Standing}
-use Rattle.dw_feed.specs.FeedInvariant.{left as left_of}
 use Rattle.dw_feed.proofs.DraftRoom.{sized, length_behind}
 use Rattle.dw_feed.proofs.coming.Coming.left.Goals as goal
 

@@ -20,7 +20,7 @@ use Rattle.dw_feed.specs.BodyFeed.{PartialUnit, part}
 use Rattle.dw_feed.specs.BodyView.{coming}
 use Rattle.dw_feed.specs.FeedInvariant.{context, left as left_of}
 use Rattle.dw_feed.specs.FieldSteps.{keeps_stands, told, told_not}
-use Rattle.dw_feed.specs.ValueSteps.{InValue, keeping, part_free, form_refused, value_step, value_refused, value_wants, value_goes_on, value_named}
+use Rattle.dw_feed.specs.ValueSteps.{InValue, keeping, part_free, form_refused, value_step, value_refused, value_wants, value_goes_on, value_named, form_kept, form_more}
 use Rattle.dw_feed.proofs.coming.Coming.named_form.Goals as goal
 
 -- what the call refused of the bytes that are kept is refused of the value
@@ -93,10 +93,13 @@ loop-form-preserved c =
     let k : PartialUnit = keeping g (g.pending ++ x ∷ []) in
     let in_it = c.self-in-loop-form.inside in
     let v : PartialUnit = coming in_it.draft in_it.unit_length (option_map uleb_of in_it.named) in_it.to_come in_it.pending.items in
+    let cut_form : checked read_uleb bad_inner g.pending (left_of g) ≡ Broken 0 Truncated = ap₂ (λ (bs : List ℕ) (n : ℕ). checked read_uleb bad_inner bs n) (sym kept) (sym i.lim_is) ∙ (c.in-Err.ensures.exact ∙ ap (λ (r : Reason). broken Unsigned 0 r) cut) in
+    let more = form_more (context g) g.pending (left_of g) cut_form x in
     let e : k ≡ keeping v c.push.new.self.items = ap₂ keeping (sym c.self-in-loop-form.view_is) (ap (λ (y : PartialUnit). y.pending ++ x ∷ []) (sym c.self-in-loop-form.view_is) ∙ sym c.push.ensures.items) in
     record {
       at = subst (λ (y : PartialUnit). InValue c.args.self.now c.args.b.now p y c.in-Some.others.now) e
-          (value_goes_on c.args.self.now c.args.b.now p g c.loop-form.rest.now i.at x c.in-Some.others.now c.in-Some.ensures.cases.0 read);
+          (value_goes_on c.args.self.now c.args.b.now p g c.loop-form.rest.now i.at x c.in-Some.others.now c.in-Some.ensures.cases.0 read
+          (form_kept g i.at.between p i.at.next i.indirect i.unnamed (g.pending ++ x ∷ []) more i.at.has));
       indirect = i.indirect;
       unnamed = subst (λ (y : PartialUnit). y.named ≡ None) e i.unnamed;
       lim_is = i.lim_is ∙ ap left_of e;

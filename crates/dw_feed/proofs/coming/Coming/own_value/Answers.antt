@@ -71,7 +71,7 @@ loop-reason-preserved c =
     let e : k ≡ keeping v c.push.new.self.items = ap₂ keeping (sym c.self.view_is) (ap (λ (y : PartialUnit). y.pending ++ x ∷ []) (sym c.self.view_is) ∙ sym c.push.ensures.items) in
     record {
       at = subst (λ (y : PartialUnit). InValue c.args.self.now c.args.b.now p y c.in-Some-split_first.others.now) e
-          (value_goes_on c.args.self.now c.args.b.now p h c.loop-reason.rest.now at x c.in-Some-split_first.others.now c.in-Some-split_first.ensures.cases.0 read);
+          (value_goes_on c.args.self.now c.args.b.now p h c.loop-reason.rest.now at x c.in-Some-split_first.others.now c.in-Some-split_first.ensures.cases.0 read (c.opening.ensures.more c.in_default.is x));
       named = λ is. subst (λ (y : PartialUnit). IsSome y.named) (sym c.in-Broken.ensures.1 ∙ sym c.self.view_is) (i.named is);
       lim_is = i.lim_is ∙ ap left_of (sym c.in-Broken.ensures.1) ∙ ap left_of e;
     }

@@ -1,6 +1,5 @@
-use Rattle.std.proofs.Common.{◌≡◌, ◌<◌, false, length, None, sym, ap, subst, ◌∙◌, arith}
+use Rattle.std.proofs.Common.{length, ap, ◌∙◌, arith}
 use Rattle.dw_leb.specs.View.{uleb_of}
-use Rattle.dw_tree.specs.Tree.{nesting}
 use Rattle.dw_unit.specs.Draft.{passes_limit}
 use Rattle.dw_feed.specs.BodyFeed.{PartialUnit}
 use Rattle.dw_feed.specs.BodyView.{drafted}

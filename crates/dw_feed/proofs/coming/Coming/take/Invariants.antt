@@ -1,5 +1,4 @@
-use Rattle.std.proofs.Common.{◌≡◌, ◌++◌, ℕ, length}
-use Rattle.dw_leb.specs.Decide.{AreBytes}
+use Rattle.std.proofs.Common.{◌++◌, length}
 use Rattle.dw_feed.specs.BodyFeed.{part}
 use Rattle.dw_feed.specs.FeedSteps.{At}
 use Rattle.dw_feed.specs.FieldSteps.{HasPart, Waits}
