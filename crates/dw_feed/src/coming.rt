@@ -368,7 +368,7 @@ impl Coming {
     {
         let context = self.draft.header().context();
         match value_at(context, pair, bytes, lim) {
-            Ok((value, size)) => match self.settle(&value) {
+            Ok((value, size)) => match self.settle(&value, &bytes[..size]) {
                 Ok(()) => Attempt::Whole(size),
                 Err(_) => Attempt::NoMemory,
             },
@@ -377,13 +377,14 @@ impl Coming {
     }
 
     /// A value that is whole goes to the draft, and nothing of it is kept.
-    fn settle(&mut self, value: &AttrValue<'_>) -> Result<(), AllocError>
+    fn settle(&mut self, value: &AttrValue<'_>, spelling: &[u8]) -> Result<(), AllocError>
         requires between { partial_in self.old.place.unfinished ≡ None }
         requires fits { NextFits (context self.old) self.old.table self.old.place.unfinished (attribute_of value.now) }
+        requires spelled { spelling.now ≡ value_bytes (drafted self.old) (attribute_of value.now) }
         requires short { passes_limit (drafted self.old) (length (value_bytes (drafted self.old) (attribute_of value.now))) ≡ false }
         ensures { OnOk result (self.new ≡ moved_to (given (attribute_of value.now) (drafted self.old)).place self.old.padding self.old) }
     {
-        self.draft.value(value)?;
+        self.draft.spelled_value(value, spelling)?;
         self.named = None;
         self.to_come = 0;
         self.pending.clear();
@@ -421,9 +422,12 @@ impl Coming {
         requires { Standing self.now }
         ensures { result ≡ is_some (root_if_whole self.now) }
     {
+        if self.draft.depth() > 0 {
+            return false;
+        }
         match self.draft.next_pair() {
             Some(_) => false,
-            None => self.draft.depth() == 0 && !self.draft.is_empty() && self.left() == 0,
+            None => !self.draft.is_empty() && self.left() == 0,
         }
     }
 

@@ -11,7 +11,7 @@ use Rattle.dw_header.specs.Header.{context_of}
 use Rattle.dw_feed.specs.BodyFeed.{PartialUnit}
 use Rattle.dw_feed.specs.FeedInvariant.{context, left}
 use Rattle.dw_feed.specs.ValueSteps.{behind_value, value_read}
-use Rattle.dw_feed.proofs.ValueRoom.{value_fits}
+use Rattle.dw_feed.proofs.ValueRoom.{value_fits, value_spelled}
 use Rattle.dw_feed.proofs.coming.Coming.give.Goals as goal
 
 pub settle-requires-clause-fits : goal.settle-requires-clause-fits
@@ -29,6 +29,14 @@ settle-requires-clause-short c =
     let k : c.context-context.result ≡ context g = c.context-context.ensures.context ∙ ap context_of c.header.ensures ∙ ap context c.self.view_is in
     let taken = subst (λ (x : Ctx × ℕ). Taken (attribute x.0 p.form.value p.constant) c.args.bytes.now x.1 (attribute_of c.in-Ok.value) c.in-Ok.size) (ap₂ (λ (x : Ctx) (n : ℕ). (x, n)) k c.requires.lim) c.in-Ok.ensures.found in
     (value_fits g p c.requires.stands c.requires.next c.args.bytes.now (attribute_of c.in-Ok.value) c.in-Ok.size taken).1
+
+pub settle-requires-clause-spelled : goal.settle-requires-clause-spelled
+settle-requires-clause-spelled c =
+    let g : PartialUnit = c.args.self.now in
+    let p : Pair = pair_of c.args.pair in
+    let k : c.context-context.result ≡ context g = c.context-context.ensures.context ∙ ap context_of c.header.ensures ∙ ap context c.self.view_is in
+    let taken = subst (λ (x : Ctx × ℕ). Taken (attribute x.0 p.form.value p.constant) c.args.bytes.now x.1 (attribute_of c.in-Ok.value) c.in-Ok.size) (ap₂ (λ (x : Ctx) (n : ℕ). (x, n)) k c.requires.lim) c.in-Ok.ensures.found in
+    value_spelled g p c.requires.stands c.requires.next c.args.bytes.now (attribute_of c.in-Ok.value) c.in-Ok.size taken
 
 pub returns-in-Ok-settle : goal.returns-in-Ok-settle
 returns-in-Ok-settle c =
