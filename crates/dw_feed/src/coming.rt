@@ -193,13 +193,13 @@ impl Coming {
     {
         match self.draft.next_pair() {
             None => self.code(b),
-            Some(pair) => self.value(pair, b),
+            Some(pair) => self.value(&pair, b),
         }
     }
 
     /// The value at the place, under its pair.
-    fn value(&mut self, pair: Pair, b: &[u8]) -> Step
-        requires next { next_pair self.old.table self.old.place.unfinished ≡ Some (pair_of pair) }
+    fn value(&mut self, pair: &Pair, b: &[u8]) -> Step
+        requires next { next_pair self.old.table self.old.place.unfinished ≡ Some (pair_of pair.now) }
         requires stands { Keeps self.old }
         requires has { HasPart self.old }
         requires waits { FrontsWait self.old (part self.old) }
@@ -215,8 +215,8 @@ impl Coming {
     }
 
     /// The value at the place, of which nothing is there yet: straight from the piece, where it is whole there.
-    fn new_value(&mut self, pair: Pair, b: &[u8]) -> Step
-        requires next { next_pair self.old.table self.old.place.unfinished ≡ Some (pair_of pair) }
+    fn new_value(&mut self, pair: &Pair, b: &[u8]) -> Step
+        requires next { next_pair self.old.table self.old.place.unfinished ≡ Some (pair_of pair.now) }
         requires stands { Keeps self.old }
         requires has { HasPart self.old }
         requires between { partial_in self.old.place.unfinished ≡ None }
@@ -232,8 +232,8 @@ impl Coming {
     }
 
     /// The value at the place, of whose number or length field some bytes may be kept.
-    fn value_in_parts(&mut self, pair: Pair, b: &[u8]) -> Step
-        requires next { next_pair self.old.table self.old.place.unfinished ≡ Some (pair_of pair) }
+    fn value_in_parts(&mut self, pair: &Pair, b: &[u8]) -> Step
+        requires next { next_pair self.old.table self.old.place.unfinished ≡ Some (pair_of pair.now) }
         requires stands { Keeps self.old }
         requires has { HasPart self.old }
         requires waits { FrontsWait self.old (part self.old) }
@@ -248,13 +248,13 @@ impl Coming {
     }
 
     /// The form that an indirect value names, and the value behind it (section 7.5.3).
-    fn named_form(&mut self, pair: Pair, b: &[u8]) -> Step
-        requires next { next_pair self.old.table self.old.place.unfinished ≡ Some (pair_of pair) }
+    fn named_form(&mut self, pair: &Pair, b: &[u8]) -> Step
+        requires next { next_pair self.old.table self.old.place.unfinished ≡ Some (pair_of pair.now) }
         requires stands { Keeps self.old }
         requires has { HasPart self.old }
         requires waits { FrontsWait self.old (part self.old) }
         requires between { partial_in self.old.place.unfinished ≡ None }
-        requires indirect { pair.form.value ≡ 0x16 }
+        requires indirect { pair.now.form.value ≡ 0x16 }
         requires unnamed { self.old.named ≡ None }
         ensures { StepSays self.old (part self.old ++ b.now) result self.new }
     {
@@ -293,13 +293,13 @@ impl Coming {
     }
 
     /// The value itself: a number, or the beginning of a text or block.
-    fn own_value(&mut self, pair: Pair, b: &[u8]) -> Step
-        requires next { next_pair self.old.table self.old.place.unfinished ≡ Some (pair_of pair) }
+    fn own_value(&mut self, pair: &Pair, b: &[u8]) -> Step
+        requires next { next_pair self.old.table self.old.place.unfinished ≡ Some (pair_of pair.now) }
         requires stands { Keeps self.old }
         requires has { HasPart self.old }
         requires waits { FrontsWait self.old (part self.old) }
         requires between { partial_in self.old.place.unfinished ≡ None }
-        requires named { pair.form.value ≡ 0x16 → IsSome self.old.named }
+        requires named { pair.now.form.value ≡ 0x16 → IsSome self.old.named }
         ensures { StepSays self.old (part self.old ++ b.now) result self.new }
     {
         let lim = self.left();
@@ -328,12 +328,12 @@ impl Coming {
     }
 
     /// What is there of the value, where it is the whole value, goes to the draft.
-    fn give_front(&mut self, pair: Pair, lim: u64) -> Attempt
-        requires next { next_pair self.old.table self.old.place.unfinished ≡ Some (pair_of pair) }
+    fn give_front(&mut self, pair: &Pair, lim: u64) -> Attempt
+        requires next { next_pair self.old.table self.old.place.unfinished ≡ Some (pair_of pair.now) }
         requires stands { Standing self.old }
         requires between { partial_in self.old.place.unfinished ≡ None }
         requires lim { lim ≡ left_of self.old }
-        ensures { ValueSays self.old (pair_of pair) (part self.old) result self.new }
+        ensures { ValueSays self.old (pair_of pair.now) (part self.old) result self.new }
     {
         let front = self.front();
         self.give(pair, front.as_slice(), lim)
@@ -359,12 +359,12 @@ impl Coming {
     }
 
     /// The value at the front of these bytes, of which `lim` are left to the unit's end, goes to the draft.
-    fn give(&mut self, pair: Pair, bytes: &[u8], lim: u64) -> Attempt
-        requires next { next_pair self.old.table self.old.place.unfinished ≡ Some (pair_of pair) }
+    fn give(&mut self, pair: &Pair, bytes: &[u8], lim: u64) -> Attempt
+        requires next { next_pair self.old.table self.old.place.unfinished ≡ Some (pair_of pair.now) }
         requires stands { Standing self.old }
         requires between { partial_in self.old.place.unfinished ≡ None }
         requires lim { lim ≡ left_of self.old }
-        ensures { ValueSays self.old (pair_of pair) bytes.now result self.new }
+        ensures { ValueSays self.old (pair_of pair.now) bytes.now result self.new }
     {
         let context = self.draft.header().context();
         match value_at(context, pair, bytes, lim) {
