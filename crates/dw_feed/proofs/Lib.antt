@@ -1,6 +1,9 @@
 pub mod Cut
 pub mod Taking
 pub mod HeadSteps
+pub mod HeadReads
+pub mod BodyReads
+pub mod UnitReads
 mod Samples
 mod BodyFeedRows
 mod HeadFeedRows

@@ -1,5 +1,5 @@
 -- A feed of a header, as its callers see it, and what each of its calls answers.
-use Rattle.std.specs.Prelude.{◌≡◌, ◌≢◌, ℕ, ◌≤◌, List, [], ◌∷◌, ◌++◌, length, take, Option, Some, None}
+use Rattle.std.specs.Prelude.{◌≡◌, ◌≢◌, ℕ, ◌+◌, ◌≤◌, ◌<◌, List, [], ◌∷◌, ◌++◌, length, take, Option, Some, None, ◌⊎◌}
 use Rattle.dw_leb.specs.declared.errors.Reason.TheVariants.{Truncated}
 use Rattle.dw_leb.specs.declared.errors.Fault.{Fault as TheFault}
 use Rattle.dw_leb.specs.declared.order.Order.{Order}
@@ -10,6 +10,7 @@ use Rattle.dw_header.specs.Laws.{HasHeaderBytes}
 use Rattle.dw_feed.specs.declared.progress.Progress.{Progress}
 use Rattle.dw_feed.specs.declared.progress.Progress.TheVariants.{More, Done, Fault, NoMemory, Spent}
 use Rattle.dw_feed.specs.HeaderCut.{IsCut}
+use Rattle.dw_feed.specs.Feed.{escape}
 
 -- What was answered so far: nothing yet, and these bytes were taken; a fault; or the header.
 pub data HeadState : Type 0 where
@@ -65,3 +66,19 @@ Ends versions order (Reading taken) (Some f) = HeaderFaultUnder versions order t
 Ends versions order (Refused f) (Some g) = g ≡ f
 Ends versions order Finished None = Unit {0}
 Ends versions order state answer = ⊥
+
+-- How many bytes are needed at the least: with fewer the stream is cut off. After an answer no more are.
+abbrev pub Wants : Versions → Order → HeadState → ℕ → Type 0
+Wants versions order (Reading taken) n = (0 < n) × ((piece : List ℕ) → length piece < n → IsCut versions order (taken ++ piece))
+Wants versions order (Refused f) n = n ≡ 0
+Wants versions order Finished n = n ≡ 0
+
+-- ---- how they are counted
+
+-- a length field that begins so has so many bytes: four, or twelve behind ff ff ff ff
+abbrev pub IsFieldSize : List ℕ → ℕ → Type 0
+IsFieldSize taken n = (n ≡ 4) ⊎ ((n ≡ 12) × (4 ≤ length taken) × (take 4 taken ≡ escape))
+
+-- it lacks so many bytes, or the header lacks one at least
+abbrev pub Lacks : List ℕ → ℕ → Type 0
+Lacks taken n = ((0 < n) × IsFieldSize taken (length taken + n)) ⊎ (n ≡ 1)

@@ -5,9 +5,10 @@ ghost use Rattle.dw_header.specs.declared.versions.Versions.TheVariants.{Five};
 ghost use Rattle.dw_header.specs.HeaderPlace.{HeaderFaultUnder};
 ghost use Rattle.dw_header.specs.Laws.{HasHeaderBytes};
 ghost use Rattle.dw_feed.specs.HeaderCut.{IsCut};
-ghost use Rattle.dw_feed.specs.HeadFeed.{FeedsHead, IfDone, Answers, Ends, Reading};
+ghost use Rattle.dw_feed.specs.HeadFeed.{FeedsHead, IfDone, Answers, Ends, Reading, Wants, Lacks, IsFieldSize};
 ghost use Rattle.dw_feed.specs.HeadFeedView.{state_of, ended, JudgedAs, ShowsHead};
 
+use crate::bytes::is_escape;
 use crate::progress::Progress;
 use arrayvec::ArrayVec;
 use dw_header::{Header, Versions, read_header_as};
@@ -93,6 +94,20 @@ impl HeadFeed {
         }
     }
 
+    /// How many bytes the feed needs at the least before it can answer: with fewer, every piece is answered
+    /// `More`. At first these are the four bytes of a length field, and eight more where it begins with ff ff
+    /// ff ff (section 7.2.2); behind it, one. So whoever pushes no more than these takes no byte that the
+    /// header doesn't have. 0 once an answer was not `More`.
+    pub fn wants(&self) -> usize
+        ensures least { Wants self.now.versions self.now.order self.now.state result }
+        ensures most { result ≤ 12 }
+    {
+        match self.answered {
+            None => lacking(self.taken.as_slice()),
+            Some(_) => 0,
+        }
+    }
+
     /// The end of the input: the fault of a header of which bytes are missing (`Truncated`), or the fault
     /// that was answered before. None where the header was.
     pub fn end(self) -> Option<Fault>
@@ -103,6 +118,29 @@ impl HeadFeed {
             Some(Answered::Fault(fault)) => Some(fault),
             Some(Answered::Header) => None,
         }
+    }
+}
+
+/// How many bytes a length field lacks, or one where it is whole.
+fn lacking(taken: &[u8]) -> usize
+    ensures { Lacks taken.now result }
+{
+    let size = field_size(taken);
+    if taken.len() < size {
+        size - taken.len()
+    } else {
+        1
+    }
+}
+
+/// How many bytes a length field has that begins so.
+fn field_size(taken: &[u8]) -> usize
+    ensures { IsFieldSize taken.now result }
+{
+    if taken.len() >= 4 && is_escape(&taken[..4]) {
+        12
+    } else {
+        4
     }
 }
 
