@@ -14,6 +14,7 @@ use Rattle.dw_header.specs.Header.{Header, versions_for, fields, fields_of}
 use Rattle.dw_header.specs.HeaderPlace.{header_size}
 use Rattle.dw_header.specs.Laws.{HasHeaderBytes}
 use Rattle.dw_unit.specs.Unit.{WholeUnit, body_bytes, bytes_of, left_behind}
+use Rattle.dw_feed.specs.declared.progress.Progress.{Progress}
 use Rattle.dw_feed.specs.declared.progress.Progress.TheVariants as answers
 use Rattle.dw_feed.specs.FeedInvariant.{body_so_far}
 use Rattle.dw_feed.specs.BodyFeed.{PartialUnit, BodyFeed, Reading, Refused, Finished, started, part, before, stream, BreaksAt, IsCutOff, SameUnit, SaysMore, SaysDone, SaysFault, FeedsBody, EndsBody}
@@ -21,6 +22,9 @@ use Rattle.dw_feed.specs.FedUnit.{started_stream, fault_of_all, same_breaks}
 use Rattle.dw_feed.proofs.Cut.{length_bytes, same_length, whole_never_cut}
 
 -- ---- what the feed answers
+
+pub pushed : (old new : BodyFeed) (g : PartialUnit) (piece : List ℕ) (n : ℕ) (a b : Progress WholeUnit) → old ≡ Reading g → a ≡ b → FeedsBody old piece n a new → FeedsBody (Reading g) piece n b new
+pushed old new g piece n a b is same says = subst (λ (x : Progress WholeUnit). FeedsBody (Reading g) piece n x new) same (subst (λ (x : BodyFeed). FeedsBody x piece n a new) is says)
 
 pub more_feeds : (g : PartialUnit) (piece : List ℕ) (n : ℕ) (new : BodyFeed) → FeedsBody (Reading g) piece n answers.More new → (now : PartialUnit) × (new ≡ Reading now) × SaysMore g piece n now
 more_feeds g piece n (Reading now) says = (now, refl, says)

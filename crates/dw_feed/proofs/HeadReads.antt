@@ -2,7 +2,7 @@
 use Rattle.std.proofs.Common.{◌≡◌, ◌⊎◌, ℕ, suc, ◌+◌, ◌-◌, ◌≤◌, ◌<◌, Bool, true, false, List, [], ◌∷◌, ◌++◌, length, take, drop, Option, Some, refl, sym, ap, subst, ◌∙◌, append_assoc, append-nil, arith, inl, inr, length-append}
 use Rattle.std.specs.Prelude.{◌==◌}
 use Rattle.std.proofs.lemmas.Bool.{eqb-true}
-use Rattle.std.proofs.lemmas.List.{take-append-drop, take_all, take_at, length-take, same_from_push}
+use Rattle.std.proofs.lemmas.List.{take-append-drop, take-append-le, take_all, take_at, length-take, same_from_push}
 use Rattle.std.specs.Io.KnownBytes.{Consumes, IsAtEnd}
 use Rattle.dw_leb.specs.declared.errors.Fault.{Fault as TheFault}
 use Rattle.dw_leb.specs.declared.errors.Reason.TheVariants.{Truncated}
@@ -156,9 +156,14 @@ module _ (versions : Versions) (order : Order) (feed : HeadFeed) (taken : List �
   pub reading_wants : (n : ℕ) → Wants feed.versions feed.order feed.state n → Wants versions order (Reading taken) n
   reading_wants n wants = subst (λ (s : HeadState). Wants versions order s n) state_is (subst (λ (o : Order). Wants versions o feed.state n) order_is (subst (λ (v : Versions). Wants v feed.order feed.state n) versions_is wants))
 
-  pub reading_answers : (piece : List ℕ) (n : ℕ) (a : Progress (Header × ℕ)) (new : HeadFeed) → FeedsHead feed piece n a new → Answers versions order (Reading taken) piece n a new.state
+  reading_answers : (piece : List ℕ) (n : ℕ) (a : Progress (Header × ℕ)) (new : HeadFeed) → FeedsHead feed piece n a new → Answers versions order (Reading taken) piece n a new.state
   reading_answers piece n a new says =
       subst (λ (s : HeadState). Answers versions order s piece n a new.state) state_is (subst (λ (o : Order). Answers versions o feed.state piece n a new.state) order_is (subst (λ (v : Versions). Answers v feed.order feed.state piece n a new.state) versions_is says.answers))
+
+  -- the front of a buffer
+  pub reading_pushed : (buf others : List ℕ) (got n : ℕ) (a b : Progress (Header × ℕ)) (new : HeadFeed) → got ≤ length buf → a ≡ b → FeedsHead feed (take got (buf ++ others)) n a new → Answers versions order (Reading taken) (take got buf) n b new.state
+  reading_pushed buf others got n a b new le is says = subst (λ (x : Progress (Header × ℕ)). Answers versions order (Reading taken) (take got buf) n x new.state) is
+      (subst (λ (p : List ℕ). Answers versions order (Reading taken) p n a new.state) (take-append-le got buf others le) (reading_answers (take got (buf ++ others)) n a new says))
 
   pub reading_ended : (f : TheFault) → Ends feed.versions feed.order feed.state (Some f) → HeaderFaultUnder versions order taken f
   reading_ended f ends = (subst (λ (s : HeadState). Ends versions order s (Some f)) state_is (subst (λ (o : Order). Ends versions o feed.state (Some f)) order_is (subst (λ (v : Versions). Ends v feed.order feed.state (Some f)) versions_is ends))).0

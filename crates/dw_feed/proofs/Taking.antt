@@ -35,6 +35,10 @@ pub consumes_nothing : (old mid new : Option (List ℕ)) (taken buf : List ℕ) 
 consumes_nothing old mid new taken buf got zero first next =
     subst (λ (bs : List ℕ). Consumes old new bs) (ap (λ (n : ℕ). taken ++ take n buf) zero ∙ append-nil taken) (consumes_more old mid new taken (take got buf) first next)
 
+-- a read into the front of a part gives no more than that front holds
+pub got_within : (buf part : List ℕ) (got want : ℕ) → got ≤ length buf → length buf ≡ length (take want part) → (length (take got buf) ≡ got) × (got ≤ want)
+got_within buf part got want le is = (omega (arith, length-take got buf, le), omega (arith, le, is, length-take want part))
+
 -- ---- what holds of a front holds of all
 
 pub field_longer : (bytes rest : List ℕ) (n : ℕ) → InField bytes n → InField (bytes ++ rest) n

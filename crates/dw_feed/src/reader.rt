@@ -109,7 +109,7 @@ fn head_from<R: Read>(
         };
         if got == 0 {
             return match feed.end() {
-                Some(fault) => Err(ReadError::Fault(fault)),
+                Some(cut_off) => Err(ReadError::Fault(cut_off)),
                 None => unreachable!(),
             };
         }

@@ -45,6 +45,33 @@ fn a_header_in_pieces(rt: HostRuntime) -> Result<(), Fail> {
     Ok(())
 }
 
+const RESERVED: [u8; 4] = [0xf0, 0xff, 0xff, 0xff];
+
+/// How many bytes a feed wants behind these.
+fn wanted_behind(bytes: &[u8]) -> usize {
+    let mut feed = HeadFeed::new(Order::Little);
+    let _ = feed.feed(bytes);
+    feed.wants()
+}
+
+#[test]
+fn wants_the_length_field_and_then_a_byte_at_least(rt: HostRuntime) {
+    for (bytes, count) in [
+        (&LONGEST[..0], 4),
+        (&LONGEST[..3], 1),
+        (&LONGEST[..4], 8),
+        (&LONGEST[..11], 1),
+        (&LONGEST[..12], 1),
+        (&LONGEST[..39], 1),
+        (&LONGEST[..40], 0),
+        (&FIFTEEN[..2], 2),
+        (&FIFTEEN[..4], 1),
+        (RESERVED.as_slice(), 0),
+    ] {
+        assert!(rt; wanted_behind(bytes) == count);
+    }
+}
+
 /// A feed that was pushed these bytes, each as a piece of its own; the last answer; and whether all before
 /// it asked for more and took their byte.
 fn pushed(versions: Versions, bytes: &[u8]) -> (HeadFeed, Answer, bool) {
