@@ -22,7 +22,7 @@ returns-in-Done-clause-found g c =
     let i = c.loop-unit.invariant in
     let now : PartialUnit = i.at.0 in
     let piece : List ℕ = take c.loop-unit.got c.loop-unit.chunk in
-    let says = done_says now piece c.feed-answer.result.0 c.in-Done.unit c.feed-answer.new.self (pushed c.loop-unit.feed c.feed-answer.new.self now piece c.feed-answer.result.0 c.feed-answer.result.1 (answers.Done c.in-Done.unit) i.at.1 c.in-Done.is c.feed-answer.ensures) in
+    let says = done_says now piece c.feed-answer.result.0 c.in-Done.unit c.feed-answer.new.self (pushed c.loop-unit.feed c.feed-answer.new.self now piece c.feed-answer.result.0 c.feed-answer.result.1 (answers.Done c.in-Done.unit) i.at.1 c.in-Done.is c.feed-answer.ensures.feeds) in
     record {
       taken = i.taken.0;
       consumed = i.taken.1;
@@ -37,7 +37,7 @@ returns-in-Fault-clause-broken g c =
     let i = c.loop-unit.invariant in
     let now : PartialUnit = i.at.0 in
     let piece : List ℕ = take c.loop-unit.got c.loop-unit.chunk in
-    let says = fault_feeds now piece c.feed-answer.result.0 c.in-Fault.fault c.feed-answer.new.self (pushed c.loop-unit.feed c.feed-answer.new.self now piece c.feed-answer.result.0 c.feed-answer.result.1 (answers.Fault c.in-Fault.fault) i.at.1 c.in-Fault.is c.feed-answer.ensures) in (
+    let says = fault_feeds now piece c.feed-answer.result.0 c.in-Fault.fault c.feed-answer.new.self (pushed c.loop-unit.feed c.feed-answer.new.self now piece c.feed-answer.result.0 c.feed-answer.result.1 (answers.Fault c.in-Fault.fault) i.at.1 c.in-Fault.is c.feed-answer.ensures.feeds) in (
       i.taken.0,
       i.taken.1,
       omega (arith, i.taken.3),
@@ -54,7 +54,7 @@ returns-then-got-eq0-clause-broken g c =
     let i = c.loop-unit.invariant in
     let now : PartialUnit = i.at.0 in
     let piece : List ℕ = take c.loop-unit.got c.loop-unit.chunk in
-    let next = more_feeds now piece c.feed-answer.result.0 c.feed-answer.new.self (pushed c.loop-unit.feed c.feed-answer.new.self now piece c.feed-answer.result.0 c.feed-answer.result.1 answers.More i.at.1 c.in-More.is c.feed-answer.ensures) in
+    let next = more_feeds now piece c.feed-answer.result.0 c.feed-answer.new.self (pushed c.loop-unit.feed c.feed-answer.new.self now piece c.feed-answer.result.0 c.feed-answer.result.1 answers.More i.at.1 c.in-More.is c.feed-answer.ensures.feeds) in
     let more = more_all c.args.header c.args.unit_length c.args.table.value c.requires.spelled now i.at.2 piece i.taken.0 i.taken.2 next.0 c.feed-answer.result.0 next.2 in
     let some : 0 < length c.read.new.buf = omega (arith, c.read.auto.buf, length-take c.min-want.result c.loop-unit.chunk, i.chunk.0, c.min-want.ensures, more.2, i.taken.3) in
     let took = consumes_nothing _ _ _ i.taken.0 c.read.new.buf c.in-Ok.got c.if-got-eq0.true i.taken.1 c.in-Ok.ensures.bytes.0 in
@@ -70,7 +70,7 @@ loop-unit-preserved g c =
     let i = c.loop-unit.invariant in
     let now : PartialUnit = i.at.0 in
     let piece : List ℕ = take c.loop-unit.got c.loop-unit.chunk in
-    let next = more_feeds now piece c.feed-answer.result.0 c.feed-answer.new.self (pushed c.loop-unit.feed c.feed-answer.new.self now piece c.feed-answer.result.0 c.feed-answer.result.1 answers.More i.at.1 c.in-More.is c.feed-answer.ensures) in
+    let next = more_feeds now piece c.feed-answer.result.0 c.feed-answer.new.self (pushed c.loop-unit.feed c.feed-answer.new.self now piece c.feed-answer.result.0 c.feed-answer.result.1 answers.More i.at.1 c.in-More.is c.feed-answer.ensures.feeds) in
     let more = more_all c.args.header c.args.unit_length c.args.table.value c.requires.spelled now i.at.2 piece i.taken.0 i.taken.2 next.0 c.feed-answer.result.0 next.2 in
     let got : List ℕ = take c.in-Ok.got c.read.new.buf in
     let others : List ℕ = drop c.min-want.result c.loop-unit.chunk in

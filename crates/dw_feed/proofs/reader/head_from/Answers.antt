@@ -39,7 +39,7 @@ loop-got-smaller g c =
     let t = i.taken in
     let n : ℕ = c.feed-answer.result.0 in
     let got : List ℕ = take c.in-Ok.got c.read.new.buf in
-    let says = reading_pushed c.args.versions c.args.order c.loop-got.feed t.0 t.1 i.order_is i.versions_is c.read.new.buf (drop c.wants-want.result c.loop-got.part) c.in-Ok.got n c.feed-answer.result.1 More c.feed-answer.new.self c.in-Ok.ensures.bound.0 c.in-More.is c.feed-answer.ensures in
+    let says = reading_pushed c.args.versions c.args.order c.loop-got.feed t.0 t.1 i.order_is i.versions_is c.read.new.buf (drop c.wants-want.result c.loop-got.part) c.in-Ok.got n c.feed-answer.result.1 More c.feed-answer.new.self c.in-Ok.ensures.bound.0 c.in-More.is c.feed-answer.ensures.feeds in
     let more = more_reads c.args.versions c.args.order t.0 got n c.feed-answer.new.self.state says in
     let now : length (taken_of c.feed-answer.new.self.state) ≡ length (t.0 ++ got) = ap (λ (s : HeadState). length (taken_of s)) more.0 in
     let before : length (taken_of c.loop-got.feed.state) ≡ length t.0 = ap (λ (s : HeadState). length (taken_of s)) t.1 in
@@ -53,14 +53,14 @@ loop-got-preserved g c =
     let want : ℕ = c.wants-want.result in
     let got : List ℕ = take c.in-Ok.got c.read.new.buf in
     let others : List ℕ = drop want c.loop-got.part in
-    let says = reading_pushed c.args.versions c.args.order c.loop-got.feed t.0 t.1 i.order_is i.versions_is c.read.new.buf others c.in-Ok.got n c.feed-answer.result.1 More c.feed-answer.new.self c.in-Ok.ensures.bound.0 c.in-More.is c.feed-answer.ensures in
+    let says = reading_pushed c.args.versions c.args.order c.loop-got.feed t.0 t.1 i.order_is i.versions_is c.read.new.buf others c.in-Ok.got n c.feed-answer.result.1 More c.feed-answer.new.self c.in-Ok.ensures.bound.0 c.in-More.is c.feed-answer.ensures.feeds in
     let more = more_reads c.args.versions c.args.order t.0 got n c.feed-answer.new.self.state says in
     let wants = reading_wants c.args.versions c.args.order c.loop-got.feed t.0 t.1 i.order_is i.versions_is want c.wants-want.ensures.least in
     let within = got_within c.read.new.buf c.loop-got.part c.in-Ok.got want c.in-Ok.ensures.bound.0 c.read.auto.buf in
     record {
       taken = (t.0 ++ got, more.0, consumes_more _ _ _ t.0 got t.2 c.in-Ok.ensures.bytes.0, wanted_first c.args.versions c.args.order t.0 got want t.3 wants (omega (arith, within)), more.1);
-      order_is = c.feed-answer.ensures.order_is ∙ i.order_is;
-      versions_is = c.feed-answer.ensures.versions_is ∙ i.versions_is;
+      order_is = c.feed-answer.ensures.feeds.order_is ∙ i.order_is;
+      versions_is = c.feed-answer.ensures.feeds.versions_is ∙ i.versions_is;
       room = omega (arith, length-append c.read.new.buf others, length-drop want c.loop-got.part, c.read.auto.buf, length-take want c.loop-got.part, i.room, c.wants-want.ensures.most);
       clear = c.in-Ok.ensures.fault;
     }
@@ -72,7 +72,7 @@ returns-in-Done-clause-found g c =
     let n : ℕ = c.feed-answer.result.0 in
     let want : ℕ = c.wants-want.result in
     let got : List ℕ = take c.in-Ok.got c.read.new.buf in
-    let says = reading_pushed c.args.versions c.args.order c.loop-got.feed t.0 t.1 i.order_is i.versions_is c.read.new.buf (drop want c.loop-got.part) c.in-Ok.got n c.feed-answer.result.1 (Done c.in-Done.head) c.feed-answer.new.self c.in-Ok.ensures.bound.0 c.in-Done.is c.feed-answer.ensures in
+    let says = reading_pushed c.args.versions c.args.order c.loop-got.feed t.0 t.1 i.order_is i.versions_is c.read.new.buf (drop want c.loop-got.part) c.in-Ok.got n c.feed-answer.result.1 (Done c.in-Done.head) c.feed-answer.new.self c.in-Ok.ensures.bound.0 c.in-Done.is c.feed-answer.ensures.feeds in
     let wants = reading_wants c.args.versions c.args.order c.loop-got.feed t.0 t.1 i.order_is i.versions_is want c.wants-want.ensures.least in
     let within = got_within c.read.new.buf c.loop-got.part c.in-Ok.got want c.in-Ok.ensures.bound.0 c.read.auto.buf in
     (t.0 ++ got, done_reads c.args.versions c.args.order t.0 got n want c.in-Done.head c.feed-answer.new.self.state wants (omega (arith, within)) says, consumes_more _ _ _ t.0 got t.2 c.in-Ok.ensures.bytes.0)
@@ -85,7 +85,7 @@ returns-in-Fault-clause-broken g c =
     let want : ℕ = c.wants-want.result in
     let f : TheFault = c.in-Fault.fault in
     let got : List ℕ = take c.in-Ok.got c.read.new.buf in
-    let says = reading_pushed c.args.versions c.args.order c.loop-got.feed t.0 t.1 i.order_is i.versions_is c.read.new.buf (drop want c.loop-got.part) c.in-Ok.got n c.feed-answer.result.1 (Fault f) c.feed-answer.new.self c.in-Ok.ensures.bound.0 c.in-Fault.is c.feed-answer.ensures in
+    let says = reading_pushed c.args.versions c.args.order c.loop-got.feed t.0 t.1 i.order_is i.versions_is c.read.new.buf (drop want c.loop-got.part) c.in-Ok.got n c.feed-answer.result.1 (Fault f) c.feed-answer.new.self c.in-Ok.ensures.bound.0 c.in-Fault.is c.feed-answer.ensures.feeds in
     let wants = reading_wants c.args.versions c.args.order c.loop-got.feed t.0 t.1 i.order_is i.versions_is want c.wants-want.ensures.least in
     let within = got_within c.read.new.buf c.loop-got.part c.in-Ok.got want c.in-Ok.ensures.bound.0 c.read.auto.buf in
     takes_till_fault c.args.versions c.args.order _ _ (t.0 ++ got) (consumes_more _ _ _ t.0 got t.2 c.in-Ok.ensures.bytes.0) (wanted_first c.args.versions c.args.order t.0 got want t.3 wants (omega (arith, within))) f (fault_reads c.args.versions c.args.order t.0 got _ n f c.feed-answer.new.self.state says)
