@@ -17,14 +17,18 @@ use std::alloc::Global;
 use std::io::Read;
 use std::rc::Rc;
 
-/// The most bytes of a header that a feed wants at once.
-const PART: usize = 40;
+/// The most bytes that a feed of a header wants at once: those of a length field.
+const PART: usize = 12;
 
 /// The most bytes that are read at once behind a header.
 const CHUNK: usize = 4096;
 
 /// The unit of version 5 at the front of what the reader has left, in whatever pieces its bytes come. At `Ok`
 /// exactly the unit's bytes were taken.
+///
+/// The bytes go into the feeds as they come (`HeadFeed`, `BodyFeed`): none is kept beside the unit's tree. A
+/// header is taken in parts that it wants for sure, and what follows it in pieces of at most 4,096 bytes. A
+/// fault is returned with the piece that shows it, and no later byte is asked for.
 ///
 /// A fault is the first one of all that the reader had left, as `read_unit` of `dw_unit` returns
 /// it. So `Truncated` comes only where the reader has no more: a short read is no end, and a read
