@@ -109,7 +109,7 @@ field_never_truncated order bytes offset reason is (inl (here, own, inr (a, fits
     second_never_truncated order bytes after.rest after.own a (a == 0xffffffff) refl is after.split size (length_limit - length (fixed_bytes order 4 a)) (omega arith) reason after.breaks
 
 -- a length of the 32-bit format doesn't begin with ff ff ff ff
-no_escape : (order : Order) (bytes : List ℕ) (n : ℕ) → Taken (initial_length order 0) bytes length_limit (Dwarf32, n) 4 → take 4 bytes ≡ escape → ⊥
+pub no_escape : (order : Order) (bytes : List ℕ) (n : ℕ) → Taken (initial_length order 0) bytes length_limit (Dwarf32, n) 4 → take 4 bytes ≡ escape → ⊥
 no_escape order bytes n h e =
     let more : List ℕ = (optional (n == 0xffffffff) (fixed order 8)).spell None in
     let fits : 0xffffffff < 256 ^ 4 = omega arith in

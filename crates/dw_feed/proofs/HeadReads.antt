@@ -23,7 +23,7 @@ use Rattle.dw_feed.specs.declared.progress.Progress.TheVariants.{More, Done, Fau
 use Rattle.dw_feed.specs.UnitNeverTruncated.{fields_never_truncated}
 use Rattle.dw_feed.specs.Feed.{escape, InUnit, Takes}
 use Rattle.dw_feed.specs.HeaderCut.{IsCut}
-use Rattle.dw_feed.specs.HeadFeed.{HeadFeed, HeadState, Reading, Refused, Finished, IsHeader, IsFirst, Answers, FeedsHead, Ends, Wants, Lacks}
+use Rattle.dw_feed.specs.HeadFeed.{HeadFeed, HeadState, Reading, Refused, Finished, IsHeader, IsFirst, Answers, FeedsHead, Ends, Wants}
 use Rattle.dw_feed.specs.FeedReads.{TakesNoHeader}
 use Rattle.dw_feed.proofs.Cut.{escape_is}
 use Rattle.dw_feed.proofs.Taking.{left_of, left_at_end, takes_of, field_longer, taken_longer}
@@ -31,11 +31,11 @@ use Rattle.dw_feed.proofs.Taking.{left_of, left_at_end, takes_of, field_longer, 
 -- ---- how many bytes are wanted
 
 -- fewer than four bytes are cut off ..
-short_is_cut : (versions : Versions) (order : Order) (bytes : List ℕ) → length bytes < 4 → IsCut versions order bytes
+pub short_is_cut : (versions : Versions) (order : Order) (bytes : List ℕ) → length bytes < 4 → IsCut versions order bytes
 short_is_cut versions order bytes short = (0, inl (inl (refl, 0, inl (inl (refl, inr (omega arith, short, refl))))))
 
 -- .. and fewer than twelve that begin with ff ff ff ff
-wide_is_cut : (versions : Versions) (order : Order) (rest : List ℕ) → length rest < 8 → IsCut versions order (escape ++ rest)
+pub wide_is_cut : (versions : Versions) (order : Order) (rest : List ℕ) → length rest < 8 → IsCut versions order (escape ++ rest)
 wide_is_cut versions order rest short =
     let four : length (fixed_bytes order 4 0xffffffff) ≡ 4 = length-fixed order 4 0xffffffff in (
       0,
@@ -57,29 +57,14 @@ wide_is_cut versions order rest short =
       )),
     )
 
-no_bytes : (bytes : List ℕ) → length bytes < 1 → bytes ≡ []
+pub no_bytes : (bytes : List ℕ) → length bytes < 1 → bytes ≡ []
 no_bytes [] short = refl
 no_bytes (b ∷ bytes) short = absurd (omega (arith, short))
-
-pub lacks_wants : (versions : Versions) (order : Order) (taken : List ℕ) (n : ℕ) → IsCut versions order taken → Lacks taken n → Wants versions order (Reading taken) n
-lacks_wants versions order taken n cut (inr one) = (
-  omega (arith, one),
-  λ piece short. subst (IsCut versions order) (sym (append-nil taken) ∙ ap (λ (bs : List ℕ). taken ++ bs) (sym (no_bytes piece (omega (arith, short, one))))) cut,
-)
-lacks_wants versions order taken n cut (inl (some, inl four)) = (some, λ piece short. short_is_cut versions order (taken ++ piece) (omega (arith, short, four, length-append taken piece)))
-lacks_wants versions order taken n cut (inl (some, inr wide)) = (
-  some,
-  λ piece short.
-      let split : escape ++ (drop 4 taken ++ piece) ≡ taken ++ piece =
-      sym (append_assoc escape (drop 4 taken) piece) ∙ ap (λ (bs : List ℕ). bs ++ piece) (ap (λ (bs : List ℕ). bs ++ drop 4 taken) (sym wide.2) ∙ take-append-drop 4 taken) in
-      let sum : length escape + length (drop 4 taken ++ piece) ≡ length (taken ++ piece) = sym (length-append escape (drop 4 taken ++ piece)) ∙ ap length split in
-      subst (IsCut versions order) split (wide_is_cut versions order (drop 4 taken ++ piece) (omega (arith, sum, length-append taken piece, short, wide.0))),
-)
 
 -- ---- what is taken lies within the unit
 
 -- where a length field is cut off, it isn't all there
-cut_in_field : (order : Order) (bytes : List ℕ) (offset : ℕ) → (initial_length order 0).Break bytes length_limit offset Truncated → (length bytes < 4) ⊎ ((length bytes < 12) × (take 4 bytes ≡ escape))
+pub cut_in_field : (order : Order) (bytes : List ℕ) (offset : ℕ) → (initial_length order 0).Break bytes length_limit offset Truncated → (length bytes < 4) ⊎ ((length bytes < 12) × (take 4 bytes ≡ escape))
 cut_in_field order bytes offset (inr far) = absurd (too_far_judges 0 far.value far.refused)
 cut_in_field order bytes offset (inl (here, own, inl (inl short))) = elim short.1 [
   | inl past ↦ absurd (let e : Truncated ≡ Rattle.dw_leb.specs.declared.errors.Reason.TheVariants.PastUnit = past.1 in cc)

@@ -2,6 +2,7 @@ pub mod Cut
 pub mod Taking
 pub mod HeadSteps
 pub mod HeadReads
+pub mod HeadGrows
 pub mod BodyReads
 pub mod UnitReads
 mod Samples

@@ -1,9 +1,10 @@
 -- A feed of a header, as its callers see it, and what each of its calls answers.
-use Rattle.std.specs.Prelude.{◌≡◌, ◌≢◌, ℕ, ◌+◌, ◌≤◌, ◌<◌, List, [], ◌∷◌, ◌++◌, length, take, Option, Some, None, ◌⊎◌}
+use Rattle.std.specs.Prelude.{◌≡◌, ◌≢◌, ℕ, ◌+◌, ◌-◌, ◌≤◌, ◌<◌, List, [], ◌∷◌, ◌++◌, length, take, Option, Some, None, ◌⊎◌}
 use Rattle.dw_leb.specs.declared.errors.Reason.TheVariants.{Truncated}
 use Rattle.dw_leb.specs.declared.errors.Fault.{Fault as TheFault}
 use Rattle.dw_leb.specs.declared.order.Order.{Order}
 use Rattle.dw_header.specs.declared.versions.Versions.{Versions}
+use Rattle.dw_header.specs.declared.versions.Versions.TheVariants.{Five}
 use Rattle.dw_header.specs.Header.{Header, Accepts}
 use Rattle.dw_header.specs.HeaderPlace.{HeaderFaultUnder, header_bytes}
 use Rattle.dw_header.specs.Laws.{HasHeaderBytes}
@@ -75,10 +76,18 @@ Wants versions order Finished n = n ≡ 0
 
 -- ---- how they are counted
 
--- a length field that begins so has so many bytes: four, or twelve behind ff ff ff ff
-abbrev pub IsFieldSize : List ℕ → ℕ → Type 0
-IsFieldSize taken n = (n ≡ 4) ⊎ ((n ≡ 12) × (4 ≤ length taken) × (take 4 taken ≡ escape))
+-- a length field that begins so, and the offsets behind it, have so many bytes: four, or twelve and eight behind ff ff ff ff
+abbrev pub AreSizes : List ℕ → ℕ → ℕ → Type 0
+AreSizes taken size offset = ((size ≡ 4) × (offset ≡ 4) × ((length taken < 4) ⊎ (take 4 taken ≢ escape))) ⊎ ((size ≡ 12) × (offset ≡ 8) × (4 ≤ length taken) × (take 4 taken ≡ escape))
 
--- it lacks so many bytes, or the header lacks one at least
-abbrev pub Lacks : List ℕ → ℕ → Type 0
-Lacks taken n = ((0 < n) × IsFieldSize taken (length taken + n)) ⊎ (n ≡ 1)
+-- Of the field of a header that comes next, behind so many bytes of its fields, so many are lacking at the least: of the version; of
+-- the offset of the table, and of the one or two numbers that a kind of version 5 adds; or one.
+abbrev pub FieldLacks : Versions → ℕ → ℕ → ℕ → Type 0
+FieldLacks versions offset count n =
+    (count + n ≡ 2)
+    ⊎ (n ≡ 1)
+    ⊎ ((versions ≡ Five) × (4 ≤ count) × ((count + n ≡ 4 + offset) ⊎ ((4 + offset ≤ count) × (count + n ≡ 12 + offset)) ⊎ ((12 + offset ≤ count) × (count + n ≡ 12 + offset + offset))))
+
+-- of the length field, or of a field behind it
+abbrev pub Lacks : Versions → List ℕ → ℕ → Type 0
+Lacks versions taken n = (size : ℕ) × (offset : ℕ) × AreSizes taken size offset × ((length taken + n ≡ size) ⊎ ((size ≤ length taken) × FieldLacks versions offset (length taken - size) n))

@@ -1,11 +1,11 @@
 //! A header that is pushed in pieces.
-ghost use Rattle.std.specs.Prelude.{◌≡◌, ◌≤◌, ◌++◌, ◌∷◌, [], length};
+ghost use Rattle.std.specs.Prelude.{◌≡◌, ◌<◌, ◌≤◌, ◌++◌, ◌∷◌, [], length};
 ghost use Rattle.dw_leb.specs.declared.errors.Reason.TheVariants.{Truncated};
 ghost use Rattle.dw_header.specs.declared.versions.Versions.TheVariants.{Five};
 ghost use Rattle.dw_header.specs.HeaderPlace.{HeaderFaultUnder};
 ghost use Rattle.dw_header.specs.Laws.{HasHeaderBytes};
 ghost use Rattle.dw_feed.specs.HeaderCut.{IsCut};
-ghost use Rattle.dw_feed.specs.HeadFeed.{FeedsHead, IfDone, Answers, Ends, Reading, Wants, Lacks, IsFieldSize};
+ghost use Rattle.dw_feed.specs.HeadFeed.{FeedsHead, IfDone, Answers, Ends, Reading, Wants, Lacks, FieldLacks, AreSizes};
 ghost use Rattle.dw_feed.specs.HeadFeedView.{state_of, ended, JudgedAs, ShowsHead};
 
 use crate::bytes::is_escape;
@@ -96,14 +96,14 @@ impl HeadFeed {
 
     /// How many bytes the feed needs at the least before it can answer: with fewer, every piece is answered
     /// `More`. At first these are the four bytes of a length field, and eight more where it begins with ff ff
-    /// ff ff (section 7.2.2); behind it, one. So whoever pushes no more than these takes no byte that the
-    /// header doesn't have. 0 once an answer was not `More`.
+    /// ff ff (section 7.2.2); then the rest of the field that comes next, or one byte of it. So whoever pushes no
+    /// more than these takes no byte that the header doesn't have. 0 once an answer was not `More`.
     pub fn wants(&self) -> usize
         ensures least { Wants self.now.versions self.now.order self.now.state result }
         ensures most { result ≤ 12 }
     {
         match self.answered {
-            None => lacking(self.taken.as_slice()),
+            None => lacking(self.versions, self.taken.as_slice()),
             Some(_) => 0,
         }
     }
@@ -121,26 +121,51 @@ impl HeadFeed {
     }
 }
 
-/// How many bytes a length field lacks, or one where it is whole.
-fn lacking(taken: &[u8]) -> usize
-    ensures { Lacks taken.now result }
+/// How many bytes the field lacks that comes next, at the least.
+fn lacking(versions: Versions, taken: &[u8]) -> usize
+    ensures lacks { Lacks versions taken.now result }
+    ensures some { 0 < result }
+    ensures most { result ≤ 12 }
 {
-    let size = field_size(taken);
+    let (size, offset_size) = sizes(taken);
     if taken.len() < size {
         size - taken.len()
     } else {
-        1
+        lacking_field(versions, offset_size, taken.len() - size)
     }
 }
 
-/// How many bytes a length field has that begins so.
-fn field_size(taken: &[u8]) -> usize
-    ensures { IsFieldSize taken.now result }
+/// How many bytes a length field has that begins so, and an offset behind it (section 7.4).
+fn sizes(taken: &[u8]) -> (usize, usize)
+    ensures { AreSizes taken.now result.0 result.1 }
 {
-    if taken.len() >= 4 && is_escape(&taken[..4]) {
-        12
+    if taken.len() < 4 {
+        (4, 4)
+    } else if is_escape(&taken[..4]) {
+        (12, 8)
     } else {
-        4
+        (4, 4)
+    }
+}
+
+/// The same behind the length field and so many bytes of the header's other fields. Where version 4 is read
+/// too, it is one behind the version.
+fn lacking_field(versions: Versions, offset_size: usize, count: usize) -> usize
+    requires { offset_size ≤ 8 }
+    ensures lacks { FieldLacks versions offset_size count result }
+    ensures some { 0 < result }
+    ensures most { result ≤ 12 }
+{
+    let offset_end = 4 + offset_size;
+    match versions {
+        _ if count < 2 => 2 - count,
+        Versions::FourAndFive => 1,
+        Versions::Five if count < 4 => 1,
+        Versions::Five if count < offset_end => offset_end - count,
+        Versions::Five if count < offset_end + 8 => offset_end + 8 - count,
+        Versions::Five if count < offset_end + 8 + offset_size => offset_end + 8 + offset_size
+            - count,
+        Versions::Five => 1,
     }
 }
 
