@@ -156,15 +156,17 @@ fn lacking_field(versions: Versions, offset_size: usize, count: usize) -> usize
     ensures some { 0 < result }
     ensures most { result ≤ 12 }
 {
+    // Where the offset of the table ends, and each of the two numbers that a kind of version 5 may add.
     let offset_end = 4 + offset_size;
+    let first_end = offset_end + 8;
+    let second_end = first_end + offset_size;
     match versions {
         _ if count < 2 => 2 - count,
         Versions::FourAndFive => 1,
         Versions::Five if count < 4 => 1,
         Versions::Five if count < offset_end => offset_end - count,
-        Versions::Five if count < offset_end + 8 => offset_end + 8 - count,
-        Versions::Five if count < offset_end + 8 + offset_size => offset_end + 8 + offset_size
-            - count,
+        Versions::Five if count < first_end => first_end - count,
+        Versions::Five if count < second_end => second_end - count,
         Versions::Five => 1,
     }
 }
