@@ -1,0 +1,11 @@
+pub mod Item
+pub mod ItemPlace
+pub mod Section
+pub mod ReadSection
+pub mod DecideItem
+pub mod DecideSection
+pub mod Laws
+pub mod SectionLaws
+pub mod Reference
+pub mod Lookup
+pub mod ItemView
