@@ -1,6 +1,6 @@
 -- Items where they stand, without a reader: from a unit at the front to an item, from bytes of no known kind to one, and which bytes
 -- show the kind.
-use Rattle.std.proofs.Common.{Bool, true, false, ◌≡◌, ◌≢◌, ℕ, ◌+◌, ◌-◌, ◌^◌, ◌<◌, ◌≤◌, List, ◌++◌, length, take, Option, Some, None, refl, sym, ap, subst, ◌∙◌, append_assoc, arith, inl, inr}
+use Rattle.std.proofs.Common.{Bool, true, false, ◌≡◌, ℕ, ◌+◌, ◌-◌, ◌^◌, ◌<◌, ◌≤◌, List, ◌++◌, length, take, Some, None, refl, sym, ap, subst, ◌∙◌, append_assoc, arith, inl, inr}
 use Rattle.std.specs.Prelude.{nat_le, ◌==◌, ◌&&◌}
 use Rattle.std.proofs.lemmas.Bool.{leb-true, le-leb, lt-ltb}
 use Rattle.std.proofs.lemmas.List.{length-append, length-take-le, append-nil}
@@ -10,8 +10,8 @@ use Rattle.dw_leb.specs.declared.errors.Reason.TheVariants.{Truncated}
 use Rattle.dw_leb.specs.declared.order.Order.{Order}
 use Rattle.dw_leb.specs.declared.order.Format.{Format}
 use Rattle.dw_leb.specs.declared.order.Format.TheVariants.{Dwarf32, Dwarf64}
-use Rattle.dw_leb.specs.Part.{Part, Taken, ◌then◌, optional}
-use Rattle.dw_leb.specs.Number.{Short, fixed, length_field, initial_length, length_limit, length_size, fixed_bytes}
+use Rattle.dw_leb.specs.Part.{Taken, optional}
+use Rattle.dw_leb.specs.Number.{Short, fixed, length_field, initial_length, length_size, fixed_bytes}
 use Rattle.dw_leb.specs.ReadNumber.{read_length}
 use Rattle.dw_leb.specs.PartLaws.{one_front}
 use Rattle.dw_leb.specs.Digits.{length-fixed}
@@ -20,10 +20,10 @@ use Rattle.dw_header.specs.declared.kind.Kind.{Kind}
 use Rattle.dw_header.specs.declared.kind.Kind.TheVariants.{Compile, Partial, TypeUnit, Skeleton, Four}
 use Rattle.dw_header.specs.declared.versions.Versions.{Versions}
 use Rattle.dw_header.specs.declared.versions.Versions.TheVariants.{Five, FourAndFive}
-use Rattle.dw_header.specs.Header.{Accepts, fields, fields_of, context_of, kind_number}
+use Rattle.dw_header.specs.Header.{Accepts, fields, context_of}
 use Rattle.dw_tree.specs.Tree.{tree, nulls, nesting}
-use Rattle.dw_unit.specs.Unit.{WholeUnit, UnitFrontUnder, body_bytes, bytes_of}
-use Rattle.dw_section.specs.Item.{Item, Known, Other, item_bytes, Marks, least_length, marks_with, marks, is_type, is_known, ShowsKind, Begins, OtherFits, KnownFits, ItemFits}
+use Rattle.dw_unit.specs.Unit.{WholeUnit, UnitFrontUnder, body_bytes}
+use Rattle.dw_section.specs.Item.{Item, Known, Other, item_bytes, least_length, marks_with, marks, is_type, is_known, ShowsKind, Begins, ItemFits}
 
 -- ---- a length at a start
 

@@ -6,6 +6,9 @@ pub mod DecideItem
 pub mod DecideSection
 pub mod Laws
 pub mod SectionLaws
+pub mod Streamed
 pub mod Reference
 pub mod Lookup
 pub mod ItemView
+pub mod Push
+pub mod SectionView

@@ -1,6 +1,6 @@
 -- Items by their numbers, where they start, and the item that holds an offset.
 use Rattle.std.proofs.Common.{Bool, true, false, ◌≡◌, ℕ, zero, suc, ◌+◌, ◌-◌, ◌<◌, ◌≤◌, List, [], ◌∷◌, ◌++◌, length, Option, Some, None, refl, sym, ap, subst, ◌∙◌, arith}
-use Rattle.std.specs.Prelude.{Ok, Err, nat_lt, if◌then◌else◌}
+use Rattle.std.specs.Prelude.{Ok, Err, nat_lt, slice_get, if◌then◌else◌}
 use Rattle.std.proofs.lemmas.Bool.{ltb-false, lt-ltb, le-ltb}
 use Rattle.std.proofs.lemmas.List.{length-append}
 use Rattle.dw_tree.specs.Lent.{EntryAt, entries_of, find_at}
@@ -11,28 +11,22 @@ use Rattle.dw_section.specs.Item.{Item, Known, Other, item_bytes}
 use Rattle.dw_section.specs.Section.{items_bytes}
 use Rattle.dw_section.specs.Reference.{Target, unless_found, ItemAt, items_from, items_at, in_item, in_section, TypeAt, type_in, earlier, first_type}
 
--- the item of a number
-abbrev pub item_at : List Item → ℕ → Option Item
-item_at [] i = None
-item_at (x ∷ xs) zero = Some x
-item_at (x ∷ xs) (suc i) = item_at xs i
-
+-- the unit of a number
 abbrev pub known_of : Option Item → Option WholeUnit
 known_of None = None
 known_of (Some (Known u)) = Some u
 known_of (Some (Other bytes)) = None
 
 abbrev pub unit_at : List Item → ℕ → Option WholeUnit
-unit_at items i = known_of (item_at items i)
+unit_at items i = known_of (slice_get items i)
 
--- where it starts, the first one's start being given
-abbrev pub start_from : ℕ → List Item → ℕ → Option ℕ
-start_from start [] i = None
-start_from start (x ∷ xs) zero = Some start
-start_from start (x ∷ xs) (suc i) = start_from (start + length (item_bytes x)) xs i
+-- where the items start, the first one's start being given
+abbrev pub starts_from : ℕ → List Item → List ℕ
+starts_from start [] = []
+starts_from start (x ∷ xs) = start ∷ starts_from (start + length (item_bytes x)) xs
 
 abbrev pub start_of : List Item → ℕ → Option ℕ
-start_of items i = start_from 0 items i
+start_of items i = slice_get (starts_from 0 items) i
 
 abbrev pub entry_of : Option WholeUnit → ℕ → Option EntryAt
 entry_of None offset = None
@@ -52,13 +46,13 @@ find items offset = ok_of (in_section (items_at items) offset)
 
 -- ---- the item that holds an offset, however it is looked for
 
-start_grows : (xs : List Item) (start i q : ℕ) → start_from start xs i ≡ Some q → start ≤ q
+start_grows : (xs : List Item) (start i q : ℕ) → slice_get (starts_from start xs) i ≡ Some q → start ≤ q
 start_grows [] start i q e = absurd cc
 start_grows (x ∷ xs) start zero q e = let same : start ≡ q = cc in omega (arith, same)
 start_grows (x ∷ xs) start (suc i) q e = omega (arith, start_grows xs (start + length (item_bytes x)) i q e)
 
 -- what an offset inside of an item names
-pub held_there : (xs : List Item) (number start i : ℕ) (x : Item) (q v : ℕ) → item_at xs i ≡ Some x → start_from start xs i ≡ Some q → q ≤ v → v < q + length (item_bytes x)
+pub held_there : (xs : List Item) (number start i : ℕ) (x : Item) (q v : ℕ) → slice_get xs i ≡ Some x → slice_get (starts_from start xs) i ≡ Some q → q ≤ v → v < q + length (item_bytes x)
     → in_section (items_from number start xs) v ≡ in_item (number + i) (v - q) x
 held_there [] number start i x q v e f le lt = absurd cc
 held_there (y ∷ ys) number start zero x q v e f le lt =
@@ -86,8 +80,8 @@ pub record Stands (xs : List Item) (number start v : ℕ) (id : EntryId) : Type 
   pub unit : WholeUnit
   pub entry : EntryAt
   pub item_is : id.item ≡ number + index
-  pub known : item_at xs index ≡ Some (Known unit)
-  pub starts : start_from start xs index ≡ Some at
+  pub known : slice_get xs index ≡ Some (Known unit)
+  pub starts : slice_get (starts_from start xs) index ≡ Some at
   pub sum : at + id.offset ≡ v
   pub found : find_at id.offset (entries_of (tree_of unit)) ≡ Some entry
 

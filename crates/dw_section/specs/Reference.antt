@@ -9,6 +9,8 @@ use Rattle.dw_unit.specs.Unit.{WholeUnit, tree_of, bytes_of}
 use Rattle.dw_section.specs.declared.id.EntryId.{EntryId}
 use Rattle.dw_section.specs.declared.id.RefFault.{RefFault}
 use Rattle.dw_section.specs.declared.id.RefFault.TheVariants.{NotReference, OutsideUnit, OutsideSection, NotAnEntry, InOther, NoSignature, BadTypeOffset, Supplementary}
+use Rattle.dw_section.specs.declared.resolve.RefKind.{RefKind}
+use Rattle.dw_section.specs.declared.resolve.RefKind.TheVariants.{InUnit, InSection, BySignature, Elsewhere}
 use Rattle.dw_section.specs.Item.{Item, Known, Other, item_bytes}
 
 abbrev pub Target : Type 0
@@ -84,18 +86,16 @@ abbrev pub first_type : List ItemAt → ℕ → Option TypeAt
 first_type [] v = None
 first_type (p ∷ ps) v = earlier (type_in v p.number p.item) (first_type ps v)
 
+-- the entry of a type unit's type
+abbrev pub in_type : WholeUnit → EntryId → Target
+in_type u id = entry_in BadTypeOffset u id
+
 abbrev pub type_entry : Option TypeAt → Target
 type_entry None = Err NoSignature
-type_entry (Some t) = entry_in BadTypeOffset t.unit (record { item = t.number; offset = t.offset })
+type_entry (Some t) = in_type t.unit (record { item = t.number; offset = t.offset })
 
 abbrev pub by_signature : List ItemAt → ℕ → Target
 by_signature ps v = type_entry (first_type ps v)
-
-pub data RefKind : Type 0 where
-  InUnit : RefKind
-  InSection : RefKind
-  BySignature : RefKind
-  Elsewhere : RefKind
 
 -- the forms of references: ref1, ref2, ref4, ref8, ref_udata; ref_addr; ref_sig8; ref_sup4, ref_sup8, GNU_ref_alt
 abbrev pub ref_forms : List (ℕ × RefKind)

@@ -43,14 +43,14 @@ SectionFails versions order abbreviations bytes s offset reason = FailsBehind ve
 
 -- ---- the program's sections
 
--- a section that is kept: it names no abbreviation section
-pub record Kept : Type 0 where
+-- what a program keeps of a section: no abbreviation section, only the table of each unit
+pub record WholeSection : Type 0 where
   pub order : Order
   pub versions : Versions
   pub items : List Item
 
-abbrev pub KeptFits : Kept → Type 0
-KeptFits s = ItemsFit s.versions s.order 0 s.items
+abbrev pub SectionFits : WholeSection → Type 0
+SectionFits s = ItemsFit s.versions s.order 0 s.items
 
-abbrev pub section_bytes : Kept → List ℕ
+abbrev pub section_bytes : WholeSection → List ℕ
 section_bytes s = items_bytes s.items
