@@ -12,3 +12,6 @@ pub mod Lookup
 pub mod ItemView
 pub mod Push
 pub mod SectionView
+pub mod FedItems
+pub mod Found
+pub mod ReferenceLaws

@@ -41,6 +41,12 @@ pub record FailsBehind (versions : Versions) (order : Order) (abbreviations : Li
 abbrev pub SectionFails : Versions → Order → List ℕ → List ℕ → SectionId → ℕ → Reason → Type 0
 SectionFails versions order abbreviations bytes s offset reason = FailsBehind versions order abbreviations 0 bytes s offset reason
 
+-- These bytes are read as these items: they are a section of them and of no others, and have no fault.
+pub record SectionReadAs (versions : Versions) (order : Order) (abbreviations : List ℕ) (items : List Item) (bytes : List ℕ) : Type 0 where
+  pub there : SectionIs versions order abbreviations items bytes
+  pub only : (others : List Item) → SectionIs versions order abbreviations others bytes → others ≡ items
+  pub no_fault : (s : SectionId) (offset : ℕ) (reason : Reason) → SectionFails versions order abbreviations bytes s offset reason → ⊥
+
 -- ---- the program's sections
 
 -- what a program keeps of a section: no abbreviation section, only the table of each unit

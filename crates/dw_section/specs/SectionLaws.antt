@@ -1,16 +1,16 @@
 -- The laws of sections: their proofs, from the plain reader alone.
-use Rattle.std.proofs.Common.{◌≡◌, ◌⊎◌, ℕ, ◌+◌, List, ◌++◌, length, sym, ap, ◌∙◌, append_assoc, arith, inl, inr}
+use Rattle.std.proofs.Common.{◌≡◌, ◌⊎◌, ℕ, ◌+◌, List, ◌++◌, length, refl, sym, ap, ◌∙◌, append_assoc, arith, inl, inr}
 use Rattle.std.proofs.lemmas.List.{length-append}
 use Rattle.dw_leb.specs.declared.errors.Reason.{Reason}
 use Rattle.dw_leb.specs.declared.errors.SectionId.{SectionId}
 use Rattle.dw_leb.specs.declared.order.Order.{Order}
 use Rattle.dw_header.specs.declared.versions.Versions.{Versions}
 use Rattle.dw_section.specs.Item.{Item}
-use Rattle.dw_section.specs.Section.{items_bytes, SectionIs, SectionFails}
+use Rattle.dw_section.specs.Section.{items_bytes, SectionIs, SectionFails, section_bytes}
 use Rattle.dw_section.specs.ReadSection.{SectionAnswer, Items, Fails, read_section}
 use Rattle.dw_section.specs.DecideItem.{item_stays}
 use Rattle.dw_section.specs.DecideSection.{SectionSays, section_take, section_fault, section_says}
-use Rattle.dw_section.specs.Laws.{OneSection, OneFault, NotBoth, SomeAnswer, FaultsStay}
+use Rattle.dw_section.specs.Laws.{OneSection, OneFault, NotBoth, SomeAnswer, FaultsStay, WrittenIsRead, ReadIsWritten}
 
 items_value : (xs ys : List Item) → Items xs ≡ Items ys → xs ≡ ys
 items_value xs ys e = cc
@@ -48,3 +48,15 @@ faults_stay versions order abbreviations bytes tail s n r ne h = record {
   some = omega (arith, h.some, length-append h.rest tail);
   fails = item_stays versions order abbreviations (0 + length (items_bytes h.before)) h.rest tail s n r ne h.fails;
 }
+
+pub written_is_read : WrittenIsRead
+written_is_read abbreviations s fits tables =
+    let there : SectionIs s.versions s.order abbreviations s.items (section_bytes s) = record { fit = fits; tables = tables; spelled = refl } in
+    record {
+      there = there;
+      only = λ others h. one_section s.versions s.order abbreviations (section_bytes s) others s.items h there;
+      no_fault = λ z n r h. not_both s.versions s.order abbreviations (section_bytes s) s.items z n r there h;
+    }
+
+pub read_is_written : ReadIsWritten
+read_is_written versions order abbreviations items bytes h = (h.fit, h.spelled)

@@ -1,9 +1,13 @@
 //! The entry at an offset of a section.
-ghost use Rattle.std.specs.Prelude.{◌≡◌, ◌≤◌, ◌<◌, ℕ, nat_le, length, slice_index_or, true, false};
+ghost use Rattle.std.specs.Prelude.{◌≡◌, ◌≤◌, ◌<◌, ℕ, nat_le, length, slice_index_or, true, false, Some, IfSome};
+ghost use Rattle.dw_tree.specs.Lent.{EntryAt};
+ghost use Rattle.dw_section.specs.declared.id.EntryId.{EntryId};
 ghost use Rattle.std.specs.List.Sorted.{IsNonDecreasingBy, IsPartitionPoint};
 ghost use Rattle.dw_section.specs.ItemView.{item_of};
 ghost use Rattle.dw_section.specs.Reference.{items_at, entry_in, in_item, in_section};
+ghost use Rattle.dw_section.specs.Section.{SectionFits};
 ghost use Rattle.dw_section.specs.Lookup.{find};
+ghost use Rattle.dw_section.specs.Found.{BeginsAt};
 
 use crate::id::{EntryId, RefFault};
 use crate::item::Item;
@@ -15,7 +19,9 @@ impl Section {
     /// one. None exactly where no entry begins there. The item is found by halving, and so is the entry in it.
     /// No memory is taken.
     pub fn find(&self, section_offset: u64) -> Option<EntryId>
-        ensures { result ≡ find self.now.items section_offset }
+        ensures find { result ≡ find self.now.items section_offset }
+        ensures found { IfSome result (λ id. (e : EntryAt) × BeginsAt self.now.items id e section_offset) }
+        ensures each { (id : EntryId) (e : EntryAt) → BeginsAt self.now.items id e section_offset → result ≡ Some id }
     {
         match self.in_section(section_offset) {
             Ok(id) => Some(id),
@@ -25,7 +31,8 @@ impl Section {
 
     /// The entry that begins exactly at this offset of the section, or why there is none.
     pub(crate) fn in_section(&self, offset: u64) -> Result<EntryId, RefFault>
-        ensures { result ≡ in_section (items_at self.now.items) offset }
+        ensures named { result ≡ in_section (items_at self.now.items) offset }
+        ensures fits { SectionFits self.now }
     {
         if offset >= self.end {
             return Err(RefFault::OutsideSection);

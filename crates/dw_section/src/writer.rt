@@ -3,7 +3,7 @@ ghost use Rattle.std.specs.Prelude.{◌≡◌, ℕ, List, map, None};
 ghost use Rattle.dw_leb.specs.Watch.{inner_of, fault_of, writer_fault, Wrote};
 ghost use Rattle.dw_section.specs.Item.{item_bytes};
 ghost use Rattle.dw_section.specs.ItemView.{item_of};
-ghost use Rattle.dw_section.specs.Section.{HoldsTables, SectionIs, SectionFits, items_bytes, section_bytes};
+ghost use Rattle.dw_section.specs.Section.{HoldsTables, SectionReadAs, SectionFits, items_bytes, section_bytes};
 
 use crate::item::Item;
 use crate::section::Section;
@@ -24,7 +24,7 @@ pub fn write_section<W: Write>(section: &Section, writer: &mut Watched<W>) -> Re
     ensures fault { fault_of writer.new ≡ writer_fault result }
     ensures fits { SectionFits section.now }
     ensures read_back { (abbreviations : List ℕ) → HoldsTables abbreviations section.now.items
-        → SectionIs section.now.versions section.now.order abbreviations section.now.items (section_bytes section.now) }
+        → SectionReadAs section.now.versions section.now.order abbreviations section.now.items (section_bytes section.now) }
 {
     write_items(section.items.as_slice(), writer)
 }

@@ -12,8 +12,8 @@ use Rattle.dw_section.specs.Lookup.{starts_from, past_all}
 use Rattle.dw_section.proofs.Halving.{starts_length, starts_rise, first_start, held_by_last, some_item}
 use Rattle.dw_section.proofs.section.Section.in_section.Goals as goal
 
-pub returns-then-offset-self : goal.returns-then-offset-self
-returns-then-offset-self c =
+pub returns-then-offset-self-clause-named : goal.returns-then-offset-self-clause-named
+returns-then-offset-self-clause-named c =
     let past = past_all (map item_of c.self.inside.items.items) 0 0 c.args.offset (omega (arith, c.if-offset-self.true, c.self.invariant.end_is)) in
     sym past ∙ ap (λ (s : WholeSection). in_section (items_at s.items) c.args.offset) c.self.view_is
 
@@ -44,8 +44,8 @@ unreachable-requires c =
     let past = ltb-false c.last_start-number.result (length c.deref.result.now) (sym c.in-None.ensures.lookup.0) in
     omega (arith, past, c.last_start-number.ensures.inside, ap length starts, starts_length (map item_of items) 0, length-map items item_of, ap (λ (l : List TheItem). length l) c.deref.ensures.value)
 
-pub returns : goal.returns
-returns c =
+pub returns-clause-named : goal.returns-clause-named
+returns-clause-named c =
     let items = c.self.inside.items.items in
     let xs = map item_of items in
     let number = c.last_start-number.result in
