@@ -84,7 +84,7 @@ module _ (items : List Item) (item form v : ℕ) (id : EntryId) where
       let number : t.number ≡ there.0 = there.1 ∙ omega arith in
       names_in BySignature is t.unit sought (ap (unit_at items) number ∙ there.2) (found_in BadTypeOffset t.unit sought id e) (λ _ same. (t, first, sym same))
 
-  kind_names : (u : WholeUnit) → unit_at items item ≡ Some u → (o : Option RefKind) → at_number form ref_forms ≡ o → named_by items item u v o ≡ Ok id → NamesEntry items item form v id
+  pub kind_names : (u : WholeUnit) → unit_at items item ≡ Some u → (o : Option RefKind) → at_number form ref_forms ≡ o → named_by items item u v o ≡ Ok id → NamesEntry items item form v id
   kind_names u there None is e = absurd cc
   kind_names u there (Some InUnit) is e = in_unit_names is u there (nat_le (length (bytes_of u)) v) e
   kind_names u there (Some InSection) is e = let begins = found_begins items v id e in in_section_names is begins.0 begins.1

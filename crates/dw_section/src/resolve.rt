@@ -1,10 +1,11 @@
 //! The entry that a reference names (sections 2.2 and 7.5.5).
-ghost use Rattle.std.specs.Prelude.{◌≡◌, IsSome, Some};
+ghost use Rattle.std.specs.Prelude.{◌≡◌, IsSome, Some, IfOk};
 ghost use Rattle.dw_form.specs.Form.{at_number};
 ghost use Rattle.dw_form.specs.Lent.{attribute_of};
+ghost use Rattle.dw_tree.specs.Lent.{EntryAt};
 ghost use Rattle.dw_unit.specs.Unit.{WholeUnit};
 ghost use Rattle.dw_section.specs.Reference.{ref_forms, in_unit, in_type, by_signature, items_at, named, named_by};
-ghost use Rattle.dw_section.specs.Lookup.{unit_at};
+ghost use Rattle.dw_section.specs.Lookup.{unit_at, entry};
 
 use crate::find::entry_in;
 use crate::id::{EntryId, RefFault};
@@ -52,7 +53,8 @@ impl Section {
     /// that signature; `Supplementary`.
     pub fn resolve(&self, from: EntryId, attr: &AttrRef<'_>) -> Result<EntryId, RefFault>
         requires { IsSome (unit_at self.now.items from.item) }
-        ensures { (u : WholeUnit) → unit_at self.now.items from.item ≡ Some u → result ≡ named self.now.items from.item u attr.now.form (attribute_of attr.now.attr).value }
+        ensures named { (u : WholeUnit) → unit_at self.now.items from.item ≡ Some u → result ≡ named self.now.items from.item u attr.now.form (attribute_of attr.now.attr).value }
+        ensures entry { IfOk result (λ id. (e : EntryAt) × (entry self.now.items id ≡ Some e) × (e.offset ≡ id.offset)) }
     {
         match attr.attr.as_number() {
             Some(value) => self.named_by(from.item, value, RefKind::of(attr.form)),

@@ -185,8 +185,8 @@ impl Section {
         if make_room(&mut self.items, &mut self.starts, &mut self.types).is_err() {
             return Err(item);
         }
-        let start = self.end;
-        self.end = start + item.size();
+        let end = self.end + item.size();
+        let start = std::mem::replace(&mut self.end, end);
         let number = self.items.as_slice().len();
         keep_type(&mut self.types, number, &item);
         add(&mut self.starts, start);
