@@ -2,7 +2,7 @@
 use Rattle.std.specs.Prelude.{ℕ, ◌≡◌, List, ◌∷◌, [], ◌++◌, Option, Some, None, Ok, Err}
 use Rattle.std.proofs.Common.{refl}
 use Rattle.dw_leb.specs.declared.order.Order.TheVariants.{Little}
-use Rattle.dw_form.specs.Form.{shape, attribute, shaped}
+use Rattle.dw_form.specs.Form.{shape, attribute, shaped, Num}
 use Rattle.dw_form.specs.ReadForm.{read_attribute}
 use Rattle.dw_abbrev.specs.ReadTable.{read_table, read_table_at}
 use Rattle.dw_header.specs.ReadHeader.{read_fields}
@@ -70,13 +70,66 @@ behind_another : names (read_section Five Little two_tables (version_four ++ (fi
 unfolding shape attribute shaped children read_attribute read_table read_table_at read_fields read_children read_tree read_unit_under nesting tree_bytes read_section read_item
 behind_another = refl
 
-past_another : names (read_section Five Little two_tables (version_four ++ fifteen)) (id 1 12) 0x49 ≡ None
-unfolding shape attribute shaped children read_attribute read_table read_table_at read_fields read_children read_tree read_unit_under nesting tree_bytes read_section read_item
-past_another = refl
-
 into_version_four : names (read_section FourAndFive Little two_tables (version_four ++ (fifteen ++ refers 11))) (id 2 12) 0x49 ≡ Some (Ok (id 0 11))
 unfolding shape attribute shaped children read_attribute read_table read_table_at read_fields read_children read_tree read_unit_under nesting tree_bytes read_section read_item
 into_version_four = refl
+
+-- ---- a number under a form, whatever entry has it
+
+abbrev number_if : List Item → ℕ → ℕ → ℕ → Option WholeUnit → Option Target
+number_if items item form v None = None
+number_if items item form v (Some u) = Some (named items item u form (Num v))
+
+abbrev names_number : SectionAnswer → ℕ → ℕ → ℕ → Option Target
+names_number (Items items) item form v = number_if items item form v (unit_at items item)
+names_number (Fails s offset reason) item form v = None
+
+behind_version_four : names_number (read_section Five Little first_table (version_four ++ fifteen)) 1 0x10 26 ≡ Some (Ok (id 1 12))
+unfolding shape attribute shaped children read_attribute read_table read_table_at read_fields read_children read_tree read_unit_under nesting tree_bytes read_section read_item
+behind_version_four = refl
+
+in_version_four : names_number (read_section Five Little first_table (version_four ++ fifteen)) 1 0x10 11 ≡ Some (Err refs.InOther)
+unfolding shape attribute shaped children read_attribute read_table read_table_at read_fields read_children read_tree read_unit_under nesting tree_bytes read_section read_item
+in_version_four = refl
+
+past_both : names_number (read_section Five Little first_table (version_four ++ fifteen)) 1 0x10 29 ≡ Some (Err refs.OutsideSection)
+unfolding shape attribute shaped children read_attribute read_table read_table_at read_fields read_children read_tree read_unit_under nesting tree_bytes read_section read_item
+past_both = refl
+
+in_version_four_that_is_read : names_number (read_section FourAndFive Little first_table (version_four ++ fifteen)) 1 0x10 11 ≡ Some (Ok (id 0 11))
+unfolding shape attribute shaped children read_attribute read_table read_table_at read_fields read_children read_tree read_unit_under nesting tree_bytes read_section read_item
+in_version_four_that_is_read = refl
+
+-- root at 12, child at 15, null at 17, size 18
+abbrev parents : List ℕ
+parents = 0x01 ∷ 0x11 ∷ 0x01 ∷ 0x03 ∷ 0x08 ∷ 0x00 ∷ 0x00 ∷ 0x02 ∷ 0x24 ∷ 0x00 ∷ 0x0b ∷ 0x0b ∷ 0x00 ∷ 0x00 ∷ 0x00 ∷ []
+
+abbrev root_with_a_child : List ℕ
+root_with_a_child = 0x0e ∷ 0x00 ∷ 0x00 ∷ 0x00 ∷ 0x05 ∷ 0x00 ∷ 0x01 ∷ 0x08 ∷ 0x00 ∷ 0x00 ∷ 0x00 ∷ 0x00 ∷ 0x01 ∷ 0x61 ∷ 0x00 ∷ 0x02 ∷ 0x04 ∷ 0x00 ∷ []
+
+-- a unit of version 3, which isn't read, before it: offsets in a unit don't count from the section
+abbrev version_three : List ℕ
+version_three = 0x0a ∷ 0x00 ∷ 0x00 ∷ 0x00 ∷ 0x03 ∷ 0x00 ∷ 0x00 ∷ 0x00 ∷ 0x00 ∷ 0x00 ∷ 0x08 ∷ 0x01 ∷ 0x61 ∷ 0x00 ∷ []
+
+the_child : names_number (read_section Five Little parents (version_three ++ root_with_a_child)) 1 0x13 15 ≡ Some (Ok (id 1 15))
+unfolding shape attribute shaped children read_attribute read_table read_table_at read_fields read_children read_tree read_unit_under nesting tree_bytes read_section read_item
+the_child = refl
+
+its_header : names_number (read_section Five Little parents (version_three ++ root_with_a_child)) 1 0x13 3 ≡ Some (Err refs.NotAnEntry)
+unfolding shape attribute shaped children read_attribute read_table read_table_at read_fields read_children read_tree read_unit_under nesting tree_bytes read_section read_item
+its_header = refl
+
+its_value : names_number (read_section Five Little parents (version_three ++ root_with_a_child)) 1 0x13 16 ≡ Some (Err refs.NotAnEntry)
+unfolding shape attribute shaped children read_attribute read_table read_table_at read_fields read_children read_tree read_unit_under nesting tree_bytes read_section read_item
+its_value = refl
+
+its_null : names_number (read_section Five Little parents (version_three ++ root_with_a_child)) 1 0x13 17 ≡ Some (Err refs.NotAnEntry)
+unfolding shape attribute shaped children read_attribute read_table read_table_at read_fields read_children read_tree read_unit_under nesting tree_bytes read_section read_item
+its_null = refl
+
+its_end : names_number (read_section Five Little parents (version_three ++ root_with_a_child)) 1 0x13 18 ≡ Some (Err refs.OutsideUnit)
+unfolding shape attribute shaped children read_attribute read_table read_table_at read_fields read_children read_tree read_unit_under nesting tree_bytes read_section read_item
+its_end = refl
 
 -- ---- an offset in the unit
 

@@ -160,10 +160,10 @@ item_says versions order abbreviations start bytes fit_s fit = begin_says versio
 
 -- ---- faults that stay
 
-begins_stay : (order : Order) (start : ℕ) (bytes more : List ℕ) (format : Format) (n : ℕ) (rest : List ℕ) → Begins order start bytes format n rest → Begins order start (bytes ++ more) format n (rest ++ more)
+pub begins_stay : (order : Order) (start : ℕ) (bytes more : List ℕ) (format : Format) (n : ℕ) (rest : List ℕ) → Begins order start bytes format n rest → Begins order start (bytes ++ more) format n (rest ++ more)
 begins_stay order start bytes more format n rest h = record { fits = h.fits; split = ap (λ (b : List ℕ). b ++ more) h.split ∙ append_assoc (len_bytes order format n) rest more }
 
-known_stays : (versions : Versions) (order : Order) (start : ℕ) (bytes more : List ℕ) → IsKnown versions order start bytes → IsKnown versions order start (bytes ++ more)
+pub known_stays : (versions : Versions) (order : Order) (start : ℕ) (bytes more : List ℕ) → IsKnown versions order start bytes → IsKnown versions order start (bytes ++ more)
 known_stays versions order start bytes more (format, n, rest, begins, shows) = (format, n, rest ++ more, begins_stay order start bytes more format n rest begins, shows_more versions order n rest more true shows)
 
 -- a fault other than Truncated in the section's own bytes stays whatever bytes follow

@@ -1,12 +1,16 @@
 -- A section read item by item, said over the bytes alone: no plain reader. A loop keeps `SoFar`. Each item's answer is that of a
 -- unit which stands alone, over the bytes from the item's first on.
-use Rattle.std.proofs.Common.{◌≡◌, ℕ, ◌+◌, ◌<◌, List, [], ◌∷◌, ◌++◌, length, refl, sym, ap, subst, ◌∙◌, append_assoc, arith}
+use Rattle.std.proofs.Common.{false, ◌≡◌, ℕ, ◌+◌, ◌<◌, List, [], ◌∷◌, ◌++◌, length, refl, sym, ap, subst, ◌∙◌, append_assoc, arith, inl, inr}
 use Rattle.std.proofs.lemmas.List.{length-append, append-nil}
 use Rattle.dw_leb.specs.declared.errors.Reason.{Reason}
+use Rattle.dw_leb.specs.declared.errors.Reason.TheVariants.{Truncated}
 use Rattle.dw_leb.specs.declared.errors.SectionId.{SectionId}
+use Rattle.dw_leb.specs.declared.errors.SectionId.TheVariants.{Info}
 use Rattle.dw_leb.specs.declared.order.Order.{Order}
+use Rattle.dw_leb.specs.declared.order.Format.{Format}
 use Rattle.dw_header.specs.declared.versions.Versions.{Versions}
-use Rattle.dw_section.specs.Item.{Item, item_bytes, ItemFits, HoldsTable, ItemFails}
+use Rattle.dw_leb.specs.Number.{initial_length, length_limit, length_size}
+use Rattle.dw_section.specs.Item.{Item, item_bytes, marks, ShowsKind, Begins, ItemFits, HoldsTable, ItemFails}
 use Rattle.dw_section.specs.Section.{items_bytes, ItemsFit, HoldsTables, SectionIs, SectionFails}
 
 -- of all the bytes these items are read, and those are left
@@ -53,3 +57,20 @@ first_fault versions order abbreviations all before left s offset reason h some 
   some = some;
   fails = subst (λ (q : ℕ). ItemFails versions order abbreviations q left s offset reason) (omega arith) fails;
 }
+
+-- ---- an item that breaks before it is known to be a unit; `left` begins with the item's first byte
+
+-- in its length
+pub length_fault : (versions : Versions) (order : Order) (abbreviations : List ℕ) (start : ℕ) (left : List ℕ) (own : ℕ) (reason : Reason) → (initial_length order start).Break left length_limit own reason
+    → ItemFails versions order abbreviations start left Info (start + own) reason
+length_fault versions order abbreviations start left own reason breaks = inl (own, refl, breaks)
+
+-- in what shows its kind
+pub kind_fault : (versions : Versions) (order : Order) (abbreviations : List ℕ) (start : ℕ) (left : List ℕ) (format : Format) (n : ℕ) (rest : List ℕ) (own : ℕ) (reason : Reason) → Begins order start left format n rest
+    → (marks versions order n).Break rest n own reason → ItemFails versions order abbreviations start left Info (start + length_size format + own) reason
+kind_fault versions order abbreviations start left format n rest own reason begins breaks = inr (inl (format, n, rest, own, begins, refl, breaks))
+
+-- in its bytes, where it is no unit that is read
+pub other_cut : (versions : Versions) (order : Order) (abbreviations : List ℕ) (start : ℕ) (left : List ℕ) (format : Format) (n : ℕ) (rest : List ℕ) → Begins order start left format n rest → ShowsKind versions order n rest false → length rest < n
+    → ItemFails versions order abbreviations start left Info (start + length_size format) Truncated
+other_cut versions order abbreviations start left format n rest begins shows less = inr (inr (inl (format, n, rest, begins, shows, less, refl, refl)))

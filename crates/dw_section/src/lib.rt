@@ -4,6 +4,7 @@
 mod find;
 mod id;
 mod item;
+mod kind;
 pub mod laws;
 mod lists;
 mod refusal;
