@@ -2,7 +2,7 @@
 ghost use Rattle.std.specs.Prelude.{◌≡◌, ◌∷◌, ◌++◌, [], map, length, option_copied, None, OnOk, OnErr, IfErr};
 ghost use Rattle.dw_section.specs.Item.{Known, ItemFits};
 ghost use Rattle.dw_section.specs.ItemView.{item_of};
-ghost use Rattle.dw_section.specs.Section.{section_bytes};
+ghost use Rattle.dw_section.specs.Section.{SectionFits, section_bytes};
 ghost use Rattle.dw_unit.specs.Unit.{WholeUnit, UnitFits};
 ghost use Rattle.dw_section.specs.Push.{with_item, same_order, accepts, push_refusal, or_memory};
 ghost use Rattle.dw_section.specs.Lookup.{unit_at, start_of, entry};
@@ -94,9 +94,10 @@ impl Section {
         self.items.as_slice()
     }
 
-    /// The count of its bytes.
+    /// The count of the bytes of its spelling, which each section has.
     pub fn size(&self) -> u64
-        ensures { result ≡ length (section_bytes self.now) }
+        ensures size { result ≡ length (section_bytes self.now) }
+        ensures fits { SectionFits self.now }
     {
         self.end
     }
