@@ -21,8 +21,8 @@ first_id None later = later
 first_id (Some id) later = Some id
 
 -- the entry of a type that has this signature
-abbrev pub TypeIds : ℕ → ℕ → EntryId → Option EntryId
-TypeIds v signature id = if signature == v then Some id else None
+abbrev pub id_under : ℕ → ℕ → EntryId → Option EntryId
+id_under v signature id = if signature == v then Some id else None
 
 pub record IsSection (s : WholeSection) (starts : List ℕ) (types : List (ℕ × EntryId)) (end : ℕ) : Type 0 where
   pub fits : SectionFits s

@@ -4,7 +4,7 @@ ghost use Rattle.std.specs.Map.{lookup};
 ghost use Rattle.indexmap.specs.IndexMap.{spare};
 ghost use Rattle.dw_section.specs.ItemView.{item_of};
 ghost use Rattle.dw_section.specs.Reference.{type_in};
-ghost use Rattle.dw_section.specs.SectionView.{TypeIds, id_of, first_id};
+ghost use Rattle.dw_section.specs.SectionView.{id_under, id_of, first_id};
 
 use crate::id::EntryId;
 use crate::item::Item;
@@ -65,7 +65,7 @@ pub(crate) fn keep_type(types: &mut IndexMap<u64, EntryId>, number: usize, item:
 /// The entry of a type under its signature, unless there is one under it.
 fn add_type(types: &mut IndexMap<u64, EntryId>, signature: u64, id: EntryId)
     requires { 0 < spare types.old }
-    ensures { (v : ℕ) → lookup (eqb v) types.new.entries ≡ first_id (lookup (eqb v) types.old.entries) (TypeIds v signature id) }
+    ensures { (v : ℕ) → lookup (eqb v) types.new.entries ≡ first_id (lookup (eqb v) types.old.entries) (id_under v signature id) }
 {
     if types.contains_key(&signature) {
         return;
