@@ -10,7 +10,8 @@ use dw_unit::Unit;
 pub enum Item {
     /// A unit.
     Known(Unit),
-    /// All bytes of an item of another version or unit type, its initial length included.
+    /// All bytes of an item of another version or unit type, or with no room for these, its initial length
+    /// included.
     Other(Vec<u8>),
 }
 
