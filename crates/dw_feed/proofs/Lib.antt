@@ -1,6 +1,7 @@
 pub mod Cut
 pub mod Taking
 pub mod HeadSteps
+mod Counting
 mod Samples
 mod BodyFeedRows
 mod HeadFeedRows

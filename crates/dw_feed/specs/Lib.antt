@@ -9,6 +9,7 @@ pub mod HeadFeedView
 pub mod PlaceBytes
 pub mod BodyFeed
 pub mod HeldCounts
+pub mod HeldSteps
 pub mod FieldPlace
 pub mod BreaksBehind
 pub mod PlaceBreaks

@@ -20,6 +20,7 @@ ghost use Rattle.dw_feed.specs.FeedInvariant.{Keeps, Kept, context, left as left
 ghost use Rattle.dw_feed.specs.FieldSteps.{Standing, HasPart, FrontsWait, StepSays, code_meaning, behind_code, BehindCode, CodeBreaks, Waits, TakenSays};
 
 use crate::code::{code_at, is_cut};
+use crate::counted::Counted;
 use crate::step::{Attempt, Step, Taken};
 use crate::value::{form_at, joined, value_at, without_front};
 use arrayvec::ArrayVec;
@@ -27,7 +28,7 @@ use dw_abbrev::{Pair, Table};
 use dw_form::AttrValue;
 use dw_leb::constants::form::DW_FORM_INDIRECT;
 use dw_leb::{Fault, Reason, SectionId, Uleb};
-use dw_unit::{Draft, Header, Unit};
+use dw_unit::{Header, Unit};
 use std::alloc::{AllocError, Global};
 use std::marker::Model;
 use std::rc::Rc;
@@ -36,7 +37,7 @@ use std::rc::Rc;
 /// parts that came.
 #[derive(Debug, Drop)]
 pub(crate) struct Coming {
-    pub(crate) draft: Draft,
+    pub(crate) draft: Counted,
     unit_length: u64,
     /// The form that an indirect value names, before the value itself begins (section 7.5.3).
     pub(crate) named: Option<Uleb>,
@@ -65,7 +66,7 @@ impl Coming {
         ensures { result ≡ started header length table.value }
     {
         Coming {
-            draft: Draft::new(alloc, header, table),
+            draft: Counted::new(alloc, header, table),
             unit_length: length,
             named: None,
             to_come: 0,
