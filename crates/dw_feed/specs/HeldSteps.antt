@@ -112,7 +112,7 @@ settle_holds t few s code vs known = by (declared t code.value) (few code.value)
 
 -- ---- the unfinished entry, where it is given a value
 
-few_declared : (t : Table) → FewPairs t → (code : ℕ) → length (declared_pairs (declared t code)) ≤ most_pairs
+pub few_declared : (t : Table) → FewPairs t → (code : ℕ) → length (declared_pairs (declared t code)) ≤ most_pairs
 few_declared t few code = by (declared t code) (few code)
   where
     by : (o : Option Declaration) → IfSome o (λ d. length d.pairs ≤ most_pairs) → length (declared_pairs o) ≤ most_pairs

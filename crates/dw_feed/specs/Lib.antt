@@ -29,6 +29,7 @@ pub mod PartialValues
 pub mod PartialSteps
 pub mod PlaceRows
 pub mod HeldBounds
+pub mod HeldView
 pub mod FieldSteps
 pub mod BodyView
 pub mod BodyFeedView
