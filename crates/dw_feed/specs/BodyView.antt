@@ -1,6 +1,6 @@
 -- A body feed's fields as the unit of the definitions of which only some bytes were taken.
 use Rattle.std.proofs.Common.{refl}
-use Rattle.std.specs.Prelude.{◌≡◌, ℕ, List, Option}
+use Rattle.std.specs.Prelude.{ℕ, List, Option}
 use Rattle.std.specs.Coded.{Coded, code_by, coded×, coded_list, coded_option, coded_ℕ}
 use Rattle.dw_leb.specs.Number.{Unsigned}
 use Rattle.dw_tree.specs.Codes.{unsigned_code}

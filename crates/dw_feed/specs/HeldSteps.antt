@@ -13,8 +13,8 @@ use Rattle.dw_header.specs.Header.{Header, context_of}
 use Rattle.dw_tree.specs.Tree.{Forest, leaf, branch, declared_pairs}
 use Rattle.dw_tree.specs.Row.{Token, leaf_row, branch_row, null_row, all_rows}
 use Rattle.dw_tree.specs.Place.{Frame, Spot, UnfinishedEntry, PartialValue, Place, leave_from, rows_before, rows_before-push}
-use Rattle.dw_tree.specs.Steps.{Growing, settled, settle_by, settle, value_at, partial_in, partial_attribute, given_partial, with_partial, ended_by, FirstFits, NextFits, next_pairs}
-use Rattle.dw_unit.specs.Draft.{Drafted, tree_in, drafted_size, size_limit, passes_limit, empty, begun, given, started, extended, ended, closed, padded, with_place, value_bytes, partial_of, PartialFits, PartialShort}
+use Rattle.dw_tree.specs.Steps.{Growing, settled, settle_by, settle, value_at, partial_in, partial_attribute, given_partial, with_partial, ended_by, FirstFits, NextFits}
+use Rattle.dw_unit.specs.Draft.{Drafted, tree_in, drafted_size, size_limit, passes_limit, empty, begun, given, ended, closed, padded, with_place, value_bytes, partial_of, PartialFits, PartialShort}
 use Rattle.dw_feed.specs.HeldCounts.{entries_in, values_in, unfinished_entries, unfinished_values}
 
 -- ---- counted
@@ -171,15 +171,14 @@ module _ (d : Drafted) (entries values : ℕ) (counted : IsCounted d entries val
       → IsCounted new (entries + 1) values
   begun_counted code free known some new is size =
       let m = settle_holds d.table counted.pairs_are_few d.place.spot code [] known in
-      subst (λ (x : Drafted). IsCounted x (entries + 1) values) (sym is) (
-        record {
-          entries_are = omega (arith, counted.entries_are, m.entries, ap unfinished_entries free);
-          values_are = omega (arith, counted.values_are, m.values, ap unfinished_values free);
-          short = omega (arith, counted.short, size, ap drafted_size is, some);
-          pairs_are_few = counted.pairs_are_few;
-          few = m.few counted.few;
-        }
-      )
+      let there : IsCounted (begun code d) (entries + 1) values = record {
+        entries_are = omega (arith, counted.entries_are, m.entries, ap unfinished_entries free);
+        values_are = omega (arith, counted.values_are, m.values, ap unfinished_values free);
+        short = omega (arith, counted.short, size, ap drafted_size is, some);
+        pairs_are_few = counted.pairs_are_few;
+        few = m.few counted.few;
+      } in
+      subst (λ (x : Drafted). IsCounted x (entries + 1) values) (sym is) there
 
   pub begun_room : (n : ℕ) → passes_limit d n ≡ false → entries + 1 < 2 ^ 64
   begun_room n h = omega (arith, counted.short, below d n h)
@@ -188,15 +187,14 @@ module _ (d : Drafted) (entries values : ℕ) (counted : IsCounted d entries val
   pub given_counted : (v : Attribute) → NextFits (context_of d.header) d.table d.place.unfinished v → (n : ℕ) (new : Drafted) → new ≡ given v d → drafted_size new ≡ drafted_size d + n → IsCounted new entries (values + 1)
   given_counted v fits n new is size =
       let m = given_holds (tree_in d) counted.pairs_are_few v d.place.unfinished fits in
-      subst (λ (x : Drafted). IsCounted x entries (values + 1)) (sym is) (
-        record {
-          entries_are = omega (arith, counted.entries_are, m.entries);
-          values_are = omega (arith, counted.values_are, m.values);
-          short = omega (arith, counted.short, size, ap drafted_size is);
-          pairs_are_few = counted.pairs_are_few;
-          few = m.few counted.few;
-        }
-      )
+      let there : IsCounted (given v d) entries (values + 1) = record {
+        entries_are = omega (arith, counted.entries_are, m.entries);
+        values_are = omega (arith, counted.values_are, m.values);
+        short = omega (arith, counted.short, size, ap drafted_size is);
+        pairs_are_few = counted.pairs_are_few;
+        few = m.few counted.few;
+      } in
+      subst (λ (x : Drafted). IsCounted x entries (values + 1)) (sym is) there
 
   pub given_room : (v : Attribute) → NextFits (context_of d.header) d.table d.place.unfinished v → (n : ℕ) → passes_limit d n ≡ false → values + 1 < 2 ^ 128
   given_room v fits n h =
@@ -236,24 +234,23 @@ module _ (d : Drafted) (entries values : ℕ) (counted : IsCounted d entries val
   pub closed_counted : (w : ℕ) → d.place.unfinished ≡ None → (new : Drafted) → new ≡ closed w d → drafted_size new ≡ drafted_size d + w → IsCounted new entries values
   closed_counted w free new is size =
       let same = left_rows w d.place.spot.above d.place.spot.left in
-      subst (λ (x : Drafted). IsCounted x entries values) (sym is) (
-        record {
-          entries_are = omega (arith, counted.entries_are, same.entries, ap unfinished_entries free);
-          values_are = omega (arith, counted.values_are, same.values, ap unfinished_values free);
-          short = omega (arith, counted.short, size, ap drafted_size is);
-          pairs_are_few = counted.pairs_are_few;
-          few = omega (arith, counted.few, same.entries, same.values);
-        }
-      )
+      let there : IsCounted (closed w d) entries values = record {
+        entries_are = omega (arith, counted.entries_are, same.entries, ap unfinished_entries free);
+        values_are = omega (arith, counted.values_are, same.values, ap unfinished_values free);
+        short = omega (arith, counted.short, size, ap drafted_size is);
+        pairs_are_few = counted.pairs_are_few;
+        few = omega (arith, counted.few, same.entries, same.values);
+      } in
+      subst (λ (x : Drafted). IsCounted x entries values) (sym is) there
 
   -- a null stands behind the root
   pub padded_counted : (w : ℕ) (new : Drafted) → new ≡ padded w d → drafted_size new ≡ drafted_size d + w → IsCounted new entries values
-  padded_counted w new is size = subst (λ (x : Drafted). IsCounted x entries values) (sym is) (
-    record {
-      entries_are = counted.entries_are;
-      values_are = counted.values_are;
-      short = omega (arith, counted.short, size, ap drafted_size is);
-      pairs_are_few = counted.pairs_are_few;
-      few = counted.few;
-    }
-  )
+  padded_counted w new is size =
+      let there : IsCounted (padded w d) entries values = record {
+        entries_are = counted.entries_are;
+        values_are = counted.values_are;
+        short = omega (arith, counted.short, size, ap drafted_size is);
+        pairs_are_few = counted.pairs_are_few;
+        few = counted.few;
+      } in
+      subst (λ (x : Drafted). IsCounted x entries values) (sym is) there

@@ -1,7 +1,7 @@
 -- What a feed says that it holds, as the counts of the definitions, and their bounds.
 use Rattle.std.specs.Prelude.{ℕ, ◌*◌, ◌≤◌, length}
 use Rattle.dw_feed.specs.declared.held.Held.{Held}
-use Rattle.dw_feed.specs.BodyFeed.{PartialUnit, BodyFeed, Reading, Refused, Finished, stream}
+use Rattle.dw_feed.specs.BodyFeed.{BodyFeed, Reading, Refused, Finished, stream}
 use Rattle.dw_feed.specs.HeldCounts.{HeldCounts}
 
 abbrev pub held_of : Held → HeldCounts

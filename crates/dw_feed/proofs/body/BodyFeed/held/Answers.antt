@@ -1,4 +1,4 @@
-use Rattle.std.proofs.Common.{◌≡◌, ℕ, Option, sym, ap, subst, ◌∙◌, arith, length}
+use Rattle.std.proofs.Common.{◌≡◌, Option, sym, ap, subst, ◌∙◌, arith, length}
 use Rattle.dw_feed.specs.BodyFeed.{PartialUnit, BodyFeed, Reading, stream}
 use Rattle.dw_feed.specs.BodyFeedView.{feed_of, IsBodyFeed}
 use Rattle.dw_feed.specs.HeldBounds.{held_within}
