@@ -1,6 +1,7 @@
 pub mod Table
 pub mod ReadTable
 pub mod DecideTable
+pub mod FewPairs
 pub mod Place
 pub mod PairView
 pub mod TableView

@@ -6,6 +6,7 @@ ghost use Rattle.dw_leb.specs.Watch.{inner_of, fault_of, writer_fault, Wrote};
 ghost use Rattle.dw_abbrev.specs.Spelling.{declarations_bytes};
 ghost use Rattle.dw_abbrev.specs.Table.{Table as Spelled, table as part, declared, declaration_parts, IsZero, TableAt};
 ghost use Rattle.dw_abbrev.specs.TableView.{decls_in, AreKeyed};
+ghost use Rattle.dw_abbrev.specs.FewPairs.{FewPairs};
 ghost use Rattle.dw_abbrev.specs.TableErrors.{IsScan, IsTableError, Declares, IsFault, refused_memory};
 ghost use Rattle.dw_abbrev.specs.Place.{Gives, IsErrorAt};
 ghost use Rattle.dw_abbrev.specs.ReadTable.{read_code, read_table};
@@ -110,6 +111,14 @@ impl Table {
             Some(decl) => Some(decl),
             None => self.decls.get(&code),
         }
+    }
+
+    /// No declaration has more than 1,024 pairs. It does nothing.
+    #[inline(always)]
+    pub fn pairs_are_few(&self)
+        ensures { FewPairs self.now }
+    {
+        let _declarations = &self.decls;
     }
 
     /// Writes the table: its one spelling, which each table has, with each number in its own width. So

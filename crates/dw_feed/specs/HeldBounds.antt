@@ -13,6 +13,7 @@ use Rattle.dw_form.specs.declared.shape.Ctx.{Ctx}
 use Rattle.dw_form.specs.Form.{Attribute, shape}
 use Rattle.dw_form.specs.Pieces.{form_in, via_bytes}
 use Rattle.dw_abbrev.specs.Table.{Pair, Declaration, Table, declared, is_null, zero_of}
+use Rattle.dw_abbrev.specs.FewPairs.{FewPairs}
 use Rattle.dw_header.specs.HeaderPlace.{header_bytes}
 use Rattle.dw_tree.specs.Tree.{Tree, leaf, branch, Forest, none, more, Body, node_of, nodes_of, values, declared_pairs, declares_children, unless_declared, unknown, bad_child, body, children, nesting, nulls, AreNulls}
 use Rattle.dw_tree.specs.Spelling.{forest_bytes}
@@ -30,11 +31,9 @@ use Rattle.dw_feed.specs.PlaceBreaks.{room_is}
 use Rattle.dw_feed.specs.FieldFound.{root_begins}
 use Rattle.dw_feed.specs.BodyFeed.{PartialUnit, first_form, count_if, pairs_left, value_part, part, before, stream}
 use Rattle.dw_feed.specs.HeldCounts.{entries_in, values_in, unfinished_entries, unfinished_values, held_by}
+use Rattle.dw_feed.specs.HeldSteps.{few_declared}
+use Rattle.dw_feed.specs.HeldView.{HeldWithin}
 use Rattle.dw_feed.specs.FeedInvariant.{Keeps, context, frames_of, chain_of, body_so_far}
-
--- each declaration has at most 1,024 pairs, as in each table that is read or built
-abbrev pub FewPairs : Table → Type 0
-FewPairs t = (code : ℕ) → length (declared_pairs (declared t code)) ≤ 1024
 
 module _ (k : Ctx) (t : Table) where
   abbrev pub RowsFit : List Token → Type 0
@@ -137,8 +136,8 @@ module _ (k : Ctx) (t : Table) where
 
   few_values : FewPairs t → (xs : List Token) → RowsFit xs → values_in xs ≤ 1024 * entries_in xs
   few_values few [] h = omega arith
-  few_values few (leaf_row code vs ∷ xs) h = omega (arith, few_values few xs h.1, few code.value, value_count (declared_pairs (declared t code.value)) vs h.0.0.values_fit)
-  few_values few (branch_row code vs ∷ xs) h = omega (arith, few_values few xs h.1, few code.value, value_count (declared_pairs (declared t code.value)) vs h.0.0.values_fit)
+  few_values few (leaf_row code vs ∷ xs) h = omega (arith, few_values few xs h.1, few_declared t few code.value, value_count (declared_pairs (declared t code.value)) vs h.0.0.values_fit)
+  few_values few (branch_row code vs ∷ xs) h = omega (arith, few_values few xs h.1, few_declared t few code.value, value_count (declared_pairs (declared t code.value)) vs h.0.0.values_fit)
   few_values few (null_row w ∷ xs) h = few_values few xs h.1
 
   -- an unfinished entry has a byte at least, and more than the contents of its values
@@ -182,7 +181,7 @@ module _ (g : PartialUnit) (keeps : Keeps g) where
       by : (fs : List Frame) (ts : Forest) (o : Option UnfinishedEntry) (ws : List ℕ) → PlaceFits (context g) g.table fs ts o ws → values_in (rows_before fs ts) ≤ 1024 * entries_in (rows_before fs ts)
           → values_in (rows_before fs ts) + unfinished_values o ≤ 1024 * (entries_in (rows_before fs ts) + unfinished_entries o)
       by fs ts None ws h m = omega (arith, m)
-      by fs ts (Some r) ws h m = omega (arith, m, h.spot_fits.short, few r.code.value)
+      by fs ts (Some r) ws h m = omega (arith, m, h.spot_fits.short, few_declared g.table few r.code.value)
 
   pub held_nested : (held_by g).nested ≤ 256
   held_nested = by (frames_of g) (chain_of g) g.place.unfinished g.padding keeps.stands
@@ -216,6 +215,15 @@ module _ (g : PartialUnit) (keeps : Keeps g) where
           → length (read_bytes o) ≤ length (unfinished_bytes (context g) g.table o) + length (part g)
       by fs ts None ws h m = omega arith
       by fs ts (Some r) ws h m = omega (arith, m, short_unfinished (context g) g.table fs ts r ws h, length-append (joined r.values) (partial_bytes r.partial))
+
+  pub held_within : FewPairs g.table → length g.pending ≤ 16 → HeldWithin (length (stream g)) (held_by g)
+  held_within few short = record {
+    pending = short;
+    nested = held_nested;
+    entries = omega (arith, held_entries, length-append (before g) (part g), length-append (header_bytes g.header g.unit_length) (body_so_far g));
+    values = held_values few;
+    pool = held_pool;
+  }
 
 pub few_nulls : (ws : List ℕ) → AreNulls ws → length ws ≤ length (nulls ws)
 few_nulls [] h = omega arith

@@ -9,6 +9,7 @@ pub mod HeadFeedView
 pub mod PlaceBytes
 pub mod BodyFeed
 pub mod HeldCounts
+pub mod HeldSteps
 pub mod FieldPlace
 pub mod BreaksBehind
 pub mod PlaceBreaks
@@ -28,6 +29,7 @@ pub mod PartialValues
 pub mod PartialSteps
 pub mod PlaceRows
 pub mod HeldBounds
+pub mod HeldView
 pub mod FieldSteps
 pub mod BodyView
 pub mod BodyFeedView

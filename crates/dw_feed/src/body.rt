@@ -4,9 +4,11 @@ ghost use Rattle.dw_header.specs.Laws.{HasHeaderBytes};
 ghost use Rattle.dw_feed.specs.BodyFeed.{Reading, started, FeedsBody, EndsBody};
 ghost use Rattle.dw_feed.specs.EmptyPiece.{Rests};
 ghost use Rattle.dw_feed.specs.HeldCounts.{held};
+ghost use Rattle.dw_feed.specs.HeldView.{held_of, HeldWithin, taken_by};
 
 use crate::code::is_cut;
 use crate::coming::Coming;
+use crate::held::Held;
 use crate::progress::Progress;
 use crate::step::Taken;
 use dw_abbrev::Table;
@@ -138,6 +140,25 @@ impl BodyFeed {
         match &self.coming {
             Some(coming) => coming.pending(),
             None => 0,
+        }
+    }
+
+    /// What it holds, in constant time and without memory: nothing once an answer was not `More`. The entries
+    /// and the bytes of texts and blocks are no more than the bytes that were taken, those of the header
+    /// included; at most 256 entries are nested, and an entry has at most 1,024 values.
+    pub fn held(&self) -> Held
+        ensures exact { held_of result ≡ held self.now }
+        ensures within { HeldWithin (taken_by self.now) (held_of result) }
+    {
+        match &self.coming {
+            Some(coming) => coming.held(),
+            None => Held {
+                pending: 0,
+                nested: 0,
+                entries: 0,
+                values: 0,
+                pool: 0,
+            },
         }
     }
 }

@@ -9,6 +9,7 @@ ghost use Rattle.dw_form.specs.Lent.{attribute_of};
 ghost use Rattle.dw_form.specs.Pieces.{via_bytes};
 ghost use Rattle.dw_form.specs.ReadForm.{read_attribute};
 ghost use Rattle.dw_abbrev.specs.PairView.{pair_of};
+ghost use Rattle.dw_abbrev.specs.FewPairs.{FewPairs};
 ghost use Rattle.dw_tree.specs.Steps.{next_pair, partial_in, NextFits};
 ghost use Rattle.dw_header.specs.Laws.{HasHeaderBytes};
 ghost use Rattle.dw_unit.specs.Draft.{given, passes_limit, value_bytes};
@@ -16,10 +17,14 @@ ghost use Rattle.dw_feed.specs.BodyView.{drafted};
 ghost use Rattle.dw_feed.specs.ValueSteps.{ValueSays, naming};
 ghost use Rattle.dw_feed.specs.PlainFeed.{root_if_whole, unit_with};
 ghost use Rattle.dw_feed.specs.BodyFeed.{Reading, EndsBody, started, part};
+ghost use Rattle.dw_feed.specs.HeldCounts.{held_by};
+ghost use Rattle.dw_feed.specs.HeldView.{held_of};
 ghost use Rattle.dw_feed.specs.FeedInvariant.{Keeps, Kept, context, left as left_of, moved_to};
 ghost use Rattle.dw_feed.specs.FieldSteps.{Standing, HasPart, FrontsWait, StepSays, code_meaning, behind_code, BehindCode, CodeBreaks, Waits, TakenSays};
 
 use crate::code::{code_at, is_cut};
+use crate::counted::Counted;
+use crate::held::Held;
 use crate::step::{Attempt, Step, Taken};
 use crate::value::{form_at, joined, value_at, without_front};
 use arrayvec::ArrayVec;
@@ -27,7 +32,7 @@ use dw_abbrev::{Pair, Table};
 use dw_form::AttrValue;
 use dw_leb::constants::form::DW_FORM_INDIRECT;
 use dw_leb::{Fault, Reason, SectionId, Uleb};
-use dw_unit::{Draft, Header, Unit};
+use dw_unit::{Header, Unit};
 use std::alloc::{AllocError, Global};
 use std::marker::Model;
 use std::rc::Rc;
@@ -36,7 +41,7 @@ use std::rc::Rc;
 /// parts that came.
 #[derive(Debug, Drop)]
 pub(crate) struct Coming {
-    pub(crate) draft: Draft,
+    pub(crate) draft: Counted,
     unit_length: u64,
     /// The form that an indirect value names, before the value itself begins (section 7.5.3).
     pub(crate) named: Option<Uleb>,
@@ -65,7 +70,7 @@ impl Coming {
         ensures { result ≡ started header length table.value }
     {
         Coming {
-            draft: Draft::new(alloc, header, table),
+            draft: Counted::new(alloc, header, table),
             unit_length: length,
             named: None,
             to_come: 0,
@@ -87,6 +92,24 @@ impl Coming {
         ensures { result ≡ length self.now.pending }
     {
         self.pending.len()
+    }
+
+    /// What is held of it.
+    pub(crate) fn held(&self) -> Held
+        requires { Keeps self.now }
+        ensures exact { held_of result ≡ held_by self.now }
+        ensures few { FewPairs self.now.table }
+        ensures short { result.pending ≤ 16 }
+    {
+        let (entries, values) = self.draft.counts();
+        let unfinished = self.draft.next_pair().is_some() as usize;
+        Held {
+            pending: self.pending.len(),
+            nested: self.draft.depth() + unfinished,
+            entries,
+            values,
+            pool: self.draft.content().len(),
+        }
     }
 
     /// The code or null at the place, where it is the next field: straight from the piece, where it is whole there.

@@ -1,0 +1,22 @@
+-- What a feed says that it holds, as the counts of the definitions, and their bounds.
+use Rattle.std.specs.Prelude.{ℕ, ◌*◌, ◌≤◌, length}
+use Rattle.dw_feed.specs.declared.held.Held.{Held}
+use Rattle.dw_feed.specs.BodyFeed.{BodyFeed, Reading, Refused, Finished, stream}
+use Rattle.dw_feed.specs.HeldCounts.{HeldCounts}
+
+abbrev pub held_of : Held → HeldCounts
+held_of h = record { pending = h.pending; nested = h.nested; entries = h.entries; values = h.values; pool = h.pool }
+
+-- of a unit of which so many bytes were taken, the header's included
+pub record HeldWithin (taken : ℕ) (h : HeldCounts) : Type 0 where
+  pub pending : h.pending ≤ 16
+  pub nested : h.nested ≤ 256
+  pub entries : h.entries ≤ taken
+  pub values : h.values ≤ 1024 * h.entries
+  pub pool : h.pool ≤ taken
+
+-- the bytes that a feed holds the contents of; none once an answer was not More
+abbrev pub taken_by : BodyFeed → ℕ
+taken_by (Reading g) = length (stream g)
+taken_by (Refused f) = 0
+taken_by Finished = 0
