@@ -100,7 +100,7 @@ impl HeadFeed {
     /// more than these takes no byte that the header doesn't have. 0 once an answer was not `More`.
     pub fn wants(&self) -> usize
         ensures least { Wants self.now.versions self.now.order self.now.state result }
-        ensures most { result ≤ 12 }
+        ensures most { result ≤ 8 }
     {
         match self.answered {
             None => lacking(self.versions, self.taken.as_slice()),
@@ -125,7 +125,7 @@ impl HeadFeed {
 fn lacking(versions: Versions, taken: &[u8]) -> usize
     ensures lacks { Lacks versions taken.now result }
     ensures some { 0 < result }
-    ensures most { result ≤ 12 }
+    ensures most { result ≤ 8 }
 {
     let (size, offset_size) = sizes(taken);
     if taken.len() < size {
@@ -154,7 +154,7 @@ fn lacking_field(versions: Versions, offset_size: usize, count: usize) -> usize
     requires { offset_size ≤ 8 }
     ensures lacks { FieldLacks versions offset_size count result }
     ensures some { 0 < result }
-    ensures most { result ≤ 12 }
+    ensures most { result ≤ 8 }
 {
     // Where the offset of the table ends, and each of the two numbers that a kind of version 5 may add.
     let offset_end = 4 + offset_size;

@@ -17,8 +17,8 @@ use std::alloc::Global;
 use std::io::Read;
 use std::rc::Rc;
 
-/// The most bytes that a feed of a header wants at once: those of a length field.
-const PART: usize = 12;
+/// The most bytes that a feed of a header wants at once.
+const PART: usize = 8;
 
 /// The most bytes that are read at once behind a header.
 const CHUNK: usize = 4096;

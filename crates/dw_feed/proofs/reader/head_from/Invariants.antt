@@ -12,7 +12,7 @@ invariant-loop-got g l = record {
   taken : (bytes : List ℕ) × (l.feed.state ≡ Reading bytes) × Consumes (g.R.Read.remaining (inner_of l.fn.reader)) (g.R.Read.remaining (inner_of l.reader)) bytes × IsFirst l.fn.versions l.fn.order bytes × IsCut l.fn.versions l.fn.order bytes;
   order_is : l.feed.order ≡ l.fn.order;
   versions_is : l.feed.versions ≡ l.fn.versions;
-  room : length l.part ≡ 12;
+  room : length l.part ≡ 8;
   clear : fault_of l.reader ≡ None;
 }
 
