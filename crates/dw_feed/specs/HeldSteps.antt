@@ -13,8 +13,8 @@ use Rattle.dw_header.specs.Header.{Header, context_of}
 use Rattle.dw_tree.specs.Tree.{Forest, leaf, branch, declared_pairs}
 use Rattle.dw_tree.specs.Row.{Token, leaf_row, branch_row, null_row, all_rows}
 use Rattle.dw_tree.specs.Place.{Frame, Spot, UnfinishedEntry, PartialValue, Place, leave_from, rows_before, rows_before-push}
-use Rattle.dw_tree.specs.Steps.{Growing, settled, settle_by, settle, value_at, partial_in, partial_attribute, given_partial, with_partial, ended_by, FirstFits, NextFits}
-use Rattle.dw_unit.specs.Draft.{Drafted, tree_in, drafted_size, size_limit, passes_limit, empty, begun, given, ended, closed, padded, with_place, value_bytes, partial_of, PartialFits, PartialShort}
+use Rattle.dw_tree.specs.Steps.{Growing, settled, settle_by, settle, value_at, partial_in, partial_attribute, ended_by, FirstFits, NextFits}
+use Rattle.dw_unit.specs.Draft.{Drafted, tree_in, drafted_size, size_limit, passes_limit, empty, begun, given, ended, closed, with_place, value_bytes, partial_of, PartialFits, PartialShort}
 use Rattle.dw_feed.specs.HeldCounts.{entries_in, values_in, unfinished_entries, unfinished_values}
 
 -- ---- counted
@@ -201,18 +201,6 @@ module _ (d : Drafted) (entries values : ℕ) (counted : IsCounted d entries val
       let m = given_holds (tree_in d) counted.pairs_are_few v d.place.unfinished fits in
       omega (arith, counted.entries_are, counted.values_are, counted.few, counted.short, m.room, below d n h)
 
-  -- a text or block of it begins, or gets more bytes
-  pub partial_counted : (o : Option PartialValue) (new : Drafted) → new ≡ with_place (with_partial o (tree_in d)).place d → drafted_size new ≡ drafted_size d → IsCounted new entries values
-  partial_counted o new is size = subst (λ (x : Drafted). IsCounted x entries values) (sym is) (by d.place.unfinished counted.entries_are counted.values_are (omega (arith, counted.short, size, ap drafted_size is)))
-    where
-      place_with : Option UnfinishedEntry → Place
-      place_with r = record { spot = d.place.spot; unfinished = r }
-
-      by : (r : Option UnfinishedEntry) → entries ≡ entries_at (place_with r) → values ≡ values_at (place_with r) → entries ≤ drafted_size (with_place (place_with (option_map (given_partial o) r)) d)
-          → IsCounted (with_place (place_with (option_map (given_partial o) r)) d) entries values
-      by None e v s = record { entries_are = e; values_are = v; short = s; pairs_are_few = counted.pairs_are_few; few = counted.few }
-      by (Some r) e v s = record { entries_are = e; values_are = v; short = s; pairs_are_few = counted.pairs_are_few; few = counted.few }
-
   -- it has all its bytes
   pub ended_counted : (o : Option PartialValue) → partial_in d.place.unfinished ≡ o → IsSome o → PartialFits d → (new : Drafted) → new ≡ ended d
       → IfSome (partial_of d) (λ v. drafted_size new ≡ drafted_size d + length (value_bytes d v)) → IsCounted new entries (values + 1)
@@ -240,17 +228,5 @@ module _ (d : Drafted) (entries values : ℕ) (counted : IsCounted d entries val
         short = omega (arith, counted.short, size, ap drafted_size is);
         pairs_are_few = counted.pairs_are_few;
         few = omega (arith, counted.few, same.entries, same.values);
-      } in
-      subst (λ (x : Drafted). IsCounted x entries values) (sym is) there
-
-  -- a null stands behind the root
-  pub padded_counted : (w : ℕ) (new : Drafted) → new ≡ padded w d → drafted_size new ≡ drafted_size d + w → IsCounted new entries values
-  padded_counted w new is size =
-      let there : IsCounted (padded w d) entries values = record {
-        entries_are = counted.entries_are;
-        values_are = counted.values_are;
-        short = omega (arith, counted.short, size, ap drafted_size is);
-        pairs_are_few = counted.pairs_are_few;
-        few = counted.few;
       } in
       subst (λ (x : Drafted). IsCounted x entries values) (sym is) there
