@@ -1,0 +1,82 @@
+#!/usr/bin/env python3
+"""Compares the reader that is pushed pieces with the one that recurses.
+
+Usage: scripts/pieces.py PROGRAM [ABBREV INFO]
+
+PROGRAM is the built `pieces` (crates/pieces/out/pieces). The unit of each folder of `examples` is pushed in pieces of
+several sizes, and each time written and compared with its bytes. Over ABBREV and INFO, the sections of one unit of some
+megabytes, the instructions of both readers are counted by Valgrind: that of the recursive one, and of the pushed one by
+the size of its pieces, as a multiple of the first. The status is 1 where a unit differs, a run fails, or a multiple is
+above its bound (in one piece 1.1, in pieces of 4,096 bytes 1.2, of one byte 12), else 0.
+"""
+
+import os
+import re
+import shutil
+import subprocess
+import sys
+import tempfile
+
+EXAMPLES = os.path.join(os.path.dirname(os.path.dirname(os.path.abspath(__file__))), "examples")
+
+# The size of the pieces, what it is called, and how many times the recursive reader's instructions it may take.
+SIZES = [(1 << 40, "one piece", 1.1), (4096, "4,096 bytes", 1.2), (1, "one byte", 12.0)]
+
+
+def instructions(program, abbrev, info, size):
+    with tempfile.TemporaryDirectory() as folder:
+        out = os.path.join(folder, "out")
+        run = subprocess.run(
+            ["valgrind", "--tool=callgrind", f"--callgrind-out-file={out}", program, abbrev, info, str(size)],
+            capture_output=True, text=True)
+        found = re.search(r"Collected : (\d+)", run.stderr)
+        if run.returncode or not found:
+            sys.exit(f"pieces.py: valgrind or the program failed for pieces of {size}")
+        return int(found.group(1))
+
+
+def same_in_pieces(program, folder):
+    sections = [os.path.join(folder, name) for name in ("debug_abbrev", "debug_info")]
+    run = subprocess.run([program, *sections], capture_output=True, text=True)
+    lines = run.stdout.split("\n")[:-1]
+    return run.returncode == 0 and len(lines) == 7 and all(line.endswith(": true") for line in lines)
+
+
+def compare_examples(program):
+    well = True
+    for name in sorted(os.listdir(EXAMPLES)):
+        folder = os.path.join(EXAMPLES, name)
+        if os.path.exists(os.path.join(folder, "debug_info")):
+            same = same_in_pieces(program, folder)
+            print(f"{name}: {'the same in all pieces' if same else 'DIFFERENT'}")
+            well = well and same
+    return well
+
+
+def count_instructions(program, abbrev, info):
+    if not shutil.which("valgrind"):
+        sys.exit("pieces.py: valgrind isn't there")
+    recursive = instructions(program, abbrev, info, 0)
+    print(f"{os.path.getsize(info):,} bytes; the recursive reader: {recursive / 1e6:.1f} million instructions")
+    well = True
+    for size, name, bound in SIZES:
+        times = instructions(program, abbrev, info, size) / recursive
+        print(f"{name}: {times:.2f} times as many (at most {bound})")
+        well = well and times <= bound
+    return well
+
+
+def main():
+    if len(sys.argv) not in (2, 4):
+        sys.exit(__doc__.strip().split("\n")[2])
+    program = os.path.abspath(sys.argv[1])
+    if not os.path.exists(program):
+        sys.exit(f"pieces.py: there is no {program}")
+    well = compare_examples(program)
+    if len(sys.argv) == 4:
+        well = count_instructions(program, sys.argv[2], sys.argv[3]) and well
+    sys.exit(0 if well else 1)
+
+
+if __name__ == "__main__":
+    main()
