@@ -1,6 +1,7 @@
 #!/usr/bin/env bash
-# Tries what a caller must not be able to write: misuse/an_entry_outlives_its_unit.txt has to be refused
-# as a borrow that still stands, and its sound counterpart has to pass.
+# Tries what a caller must not be able to write: misuse/an_entry_outlives_its_unit.txt and
+# misuse/an_entry_outlives_its_section.txt have to be refused as a borrow that still stands, and their sound
+# counterparts have to pass.
 #
 # Usage: scripts/misuse.sh
 #
@@ -14,8 +15,9 @@ scratch=$(mktemp -d)
 trap 'rm -rf "$scratch"' EXIT
 mkdir "$scratch/src"
 
-libraries=(dw_leb dw_form dw_abbrev dw_header dw_tree dw_unit)
-words=(--extern "std=$kit/rlibs/std.rlib" -L "dependency=$kit/rlibs" --extern "dw_unit=$PWD/crates/dw_unit/out/rlib/dw_unit.rlib")
+libraries=(dw_leb dw_form dw_abbrev dw_header dw_tree dw_unit dw_feed dw_section)
+words=(--extern "std=$kit/rlibs/std.rlib" -L "dependency=$kit/rlibs" --extern "dw_unit=$PWD/crates/dw_unit/out/rlib/dw_unit.rlib"
+    --extern "dw_section=$PWD/crates/dw_section/out/rlib/dw_section.rlib")
 for library in "${libraries[@]}"; do
     if [ ! -d "crates/$library/out/rlib/$library.rlib" ]; then
         echo "misuse: proving $library, which no run has built"
@@ -30,16 +32,18 @@ check() {
     (cd "$scratch" && "$kit/bin/rattle" check --crate-name misuse src/lib.rt "${words[@]}") > "$scratch/answer" 2>&1
 }
 
-echo "misuse: checking a caller that uses an entry while its unit is there"
-if ! check an_entry_within_its_unit; then
-    cat "$scratch/answer"
-    echo "misuse: the sound counterpart was refused" >&2
-    exit 1
-fi
-echo "misuse: checking a caller that uses an entry when its unit is gone"
-if check an_entry_outlives_its_unit || ! grep -q 'borrow-e0505.*`unit`' "$scratch/answer"; then
-    cat "$scratch/answer"
-    echo "misuse: an entry that outlives its unit was not refused as such" >&2
-    exit 1
-fi
-echo "misuse: an entry that outlives its unit is refused, its sound counterpart passes"
+for owner in unit section; do
+    echo "misuse: checking a caller that uses an entry while its $owner is there"
+    if ! check "an_entry_within_its_$owner"; then
+        cat "$scratch/answer"
+        echo "misuse: the sound counterpart was refused" >&2
+        exit 1
+    fi
+    echo "misuse: checking a caller that uses an entry when its $owner is gone"
+    if check "an_entry_outlives_its_$owner" || ! grep -q "borrow-e0505.*\`$owner\`" "$scratch/answer"; then
+        cat "$scratch/answer"
+        echo "misuse: an entry that outlives its $owner was not refused as such" >&2
+        exit 1
+    fi
+done
+echo "misuse: an entry that outlives its unit or its section is refused, the sound counterparts pass"

@@ -1,9 +1,8 @@
--- Bytes that are held of a unit have the same unit, or the same first fault, as all that the reader had left.
-use Rattle.std.proofs.Common.{◌≡◌, ◌≢◌, ℕ, ◌+◌, ◌-◌, ◌^◌, ◌<◌, ◌≤◌, Bool, true, false, List, [], ◌∷◌, ◌++◌, length, take, drop, Option, Some, None, refl, sym, ap, subst, ◌∙◌, append_assoc, append-nil, arith, inl, inr, ◌⊎◌}
+-- Bytes that hold a whole unit are never cut off; whole length fields.
+use Rattle.std.proofs.Common.{◌≡◌, ◌≢◌, ℕ, ◌+◌, ◌-◌, ◌^◌, ◌<◌, ◌≤◌, Bool, true, false, List, [], ◌∷◌, ◌++◌, length, take, drop, Some, None, refl, sym, ap, subst, ◌∙◌, append_assoc, append-nil, arith, inl, inr, ◌⊎◌}
 use Rattle.std.specs.Prelude.{◌==◌}
 use Rattle.std.proofs.lemmas.Bool.{eqb-true}
 use Rattle.std.proofs.lemmas.List.{length-append, take-append-drop}
-use Rattle.std.specs.Io.KnownBytes.{IsAtEnd}
 use Rattle.dw_leb.specs.declared.errors.Reason.{Reason}
 use Rattle.dw_leb.specs.declared.errors.Reason.TheVariants.{Truncated}
 use Rattle.dw_leb.specs.declared.errors.SectionId.{SectionId}
@@ -20,16 +19,17 @@ use Rattle.dw_leb.specs.DecideNumber.{initial_length_decides, initial-size, init
 use Rattle.dw_leb.specs.ReadNumber.{read_length, read_fixed}
 use Rattle.dw_header.specs.declared.versions.Versions.{Versions}
 use Rattle.dw_header.specs.Header.{fields, fields_of, context_of}
+use Rattle.dw_abbrev.specs.Table.{Table, TableAt}
+use Rattle.dw_header.specs.HeaderPlace.{HeaderBreaksUnder}
 use Rattle.dw_header.specs.HeaderFound.{head_size}
-use Rattle.dw_unit.specs.Unit.{WholeUnit, body_bytes, bytes_of, UnitAtUnder, FailsUnder, left_behind}
-use Rattle.dw_unit.specs.DecideUnit.{unit_fault, fault_stays}
-use Rattle.dw_unit.specs.ReadUnit.{Fault}
-use Rattle.dw_feed.specs.Feed.{escape, InField, IsField, FieldRefused, UnitHeld}
+use Rattle.dw_unit.specs.Unit.{BodyBreaksUnder, FailsUnder, left_behind}
+use Rattle.dw_unit.specs.DecideUnit.{fault_stays}
+use Rattle.dw_feed.specs.Feed.{escape, InField, IsField}
 use Rattle.dw_feed.specs.Laws.{HoldsUnit}
 use Rattle.dw_leb.specs.NumberMoments.{reserved_judges, too_far_judges}
 use Rattle.dw_feed.specs.UnitNeverTruncated.{fields_never_truncated, entries_never_truncated}
 
-abbrev length_bytes : Order → Format × ℕ → List ℕ
+abbrev pub length_bytes : Order → Format × ℕ → List ℕ
 length_bytes order x = (length_field order).spell x
 
 -- a field's front has one length
@@ -47,13 +47,13 @@ module _ (versions : Versions) (order : Order) (bytes : List ℕ) (h : HoldsUnit
       let sum : length bytes ≡ length (length_bytes order x) + length h.1.rest = ap length h.1.split ∙ length-append (length_bytes order x) h.1.rest in
       omega (arith, h.2, h.1.is_size)
 
-  -- bytes that hold the whole unit are never cut
-  pub whole_never_truncated : (abbreviations : List ℕ) (offset : ℕ) (reason : Reason) → FailsUnder versions order abbreviations bytes Info offset reason → reason ≢ Truncated
-  whole_never_truncated abbreviations offset reason (inl (inl one)) =
+  -- bytes that hold the whole unit are never cut, whatever tables are taken
+  pub whole_never_cut : (IsTable : ℕ → Table → Type 0) (offset : ℕ) (reason : Reason) → HeaderBreaksUnder versions order bytes offset reason ⊎ BodyBreaksUnder versions order IsTable bytes offset reason → reason ≢ Truncated
+  whole_never_cut IsTable offset reason (inl (inl one)) =
       absurd (no_break (initial_length order 0) (read_length order 0) (initial_length_decides order 0) h.0 h.1.rest length_limit offset reason h.1.fits (initial_within order 0 h.0.0 h.0.1) (rw h.1.split at one))
-  whole_never_truncated abbreviations offset reason (inl (inr (format, n, rest, own, fits, split, sum, breaks))) =
+  whole_never_cut IsTable offset reason (inl (inr (format, n, rest, own, fits, split, sum, breaks))) =
       fields_never_truncated versions order format rest n own reason (behind_length format n rest fits split) breaks
-  whole_never_truncated abbreviations offset reason (inr b) =
+  whole_never_cut IsTable offset reason (inr b) =
       let head = b.stands.2 in
       let f : List ℕ = (fields order b.header.format).spell (fields_of b.header) in
       let left : b.count ≤ length (f ++ b.stands.1) = behind_length b.header.format b.count (f ++ b.stands.1) head.length_fits head.split in
@@ -61,66 +61,20 @@ module _ (versions : Versions) (order : Order) (bytes : List ℕ) (h : HoldsUnit
       let enough : left_behind b.header b.count ≤ length b.stands.1 = omega (arith, left, sized, length-append f b.stands.1, initial-size order 0 b.header.format b.count) in
       entries_never_truncated (context_of b.header) b.table b.stands.1 (left_behind b.header b.count) b.own reason enough b.breaks
 
+  pub whole_never_truncated : (abbreviations : List ℕ) (offset : ℕ) (reason : Reason) → FailsUnder versions order abbreviations bytes Info offset reason → reason ≢ Truncated
+  whole_never_truncated abbreviations offset reason fails = whole_never_cut (TableAt abbreviations) offset reason fails
+
   pub whole_fault : (abbreviations tail : List ℕ) (s : SectionId) (offset : ℕ) (reason : Reason) → FailsUnder versions order abbreviations bytes s offset reason → FailsUnder versions order abbreviations (bytes ++ tail) s offset reason
   whole_fault abbreviations tail s offset reason fails =
       fault_stays versions order abbreviations bytes tail s offset reason (λ info. whole_never_truncated abbreviations offset reason (subst (λ (z : SectionId). FailsUnder versions order abbreviations bytes z offset reason) info fails)) fails
-
-same_reason : (s z : SectionId) (m n : ℕ) (r q : Reason) → Fault s m r ≡ Fault z n q → r ≡ q
-same_reason s z m n r q e = cc
-
--- a fault of what is held is that of all
-pub held_fault : (versions : Versions) (order : Order) (abbreviations bytes rest : List ℕ) (new : Option (List ℕ)) (s : SectionId) (offset : ℕ) (reason : Reason)
-    → FieldRefused order bytes new ⊎ UnitHeld order bytes new → (IsAtEnd new → rest ≡ []) → FailsUnder versions order abbreviations bytes s offset reason → FailsUnder versions order abbreviations (bytes ++ rest) s offset reason
-held_fault versions order abbreviations bytes rest new s offset reason held done fails = by held
-  where
-    at_end : IsAtEnd new → FailsUnder versions order abbreviations (bytes ++ rest) s offset reason
-    at_end e = subst (λ (b : List ℕ). FailsUnder versions order abbreviations b s offset reason) (sym (ap (λ (x : List ℕ). bytes ++ x) (done e) ∙ append-nil bytes)) fails
-
-    refused : (reason' : Reason) → (initial_length order 0).Break bytes length_limit 0 reason' → reason' ≢ Truncated → s ≡ Info → reason ≢ Truncated
-    refused reason' breaks ne info = λ e. ne (same_reason Info s 0 offset reason' reason (sym (unit_fault versions order abbreviations bytes Info 0 reason' (inl (inl breaks))) ∙ unit_fault versions order abbreviations bytes s offset reason fails) ∙ e)
-
-    by : FieldRefused order bytes new ⊎ UnitHeld order bytes new → FailsUnder versions order abbreviations (bytes ++ rest) s offset reason
-    by (inl h) = elim h.why [
-      | inl ne ↦ fault_stays versions order abbreviations bytes rest s offset reason (refused h.reason h.breaks ne) fails
-      | inr e ↦ at_end e
-    ]
-    by (inr h) = elim h.whole [
-      | inl w ↦ whole_fault versions order bytes ((h.format, h.count), h.field, omega (arith, w)) abbreviations rest s offset reason fails
-      | inr e ↦ at_end e
-    ]
 
 no_rest : (b s rest : List ℕ) → b ≡ s ++ rest → length b ≤ length s → b ≡ s
 no_rest b s [] e le = e ∙ append-nil s
 no_rest b s (x ∷ rest) e le = absurd (omega (arith, le, ap length e, length-append s (x ∷ rest)))
 
--- a unit that stands in what is held is all of it
-pub held_unit : (versions : Versions) (order : Order) (abbreviations bytes : List ℕ) (new : Option (List ℕ)) (u : WholeUnit) (size : ℕ)
-    → FieldRefused order bytes new ⊎ UnitHeld order bytes new → UnitAtUnder versions abbreviations order bytes u size → bytes ≡ bytes_of u
-held_unit versions order abbreviations bytes new u size held h = by held
-  where
-    own : List ℕ
-    own = body_bytes u
-
-    split : bytes ≡ length_bytes order (u.header.format, length own) ++ (own ++ h.front.rest)
-    split = subst (λ (o : Order). bytes ≡ length_bytes o (u.header.format, length own) ++ (own ++ h.front.rest)) h.front.order_is
-        (h.front.split ∙ append_assoc (length_bytes u.header.order (u.header.format, length own)) own h.front.rest)
-
-    fits : (initial_length order 0).Fits (u.header.format, length own)
-    fits = subst (λ (o : Order). (initial_length o 0).Fits (u.header.format, length own)) h.front.order_is h.front.fits.length_fits
-
-    by : FieldRefused order bytes new ⊎ UnitHeld order bytes new → bytes ≡ bytes_of u
-    by (inl g) = absurd (no_break (initial_length order 0) (read_length order 0) (initial_length_decides order 0) (u.header.format, length own) (own ++ h.front.rest) length_limit 0 g.reason fits (initial_within order 0 u.header.format (length own)) (rw split at g.breaks))
-    by (inr g) =
-        let same = same_length order (g.format, g.count) (u.header.format, length own) g.field.rest (own ++ h.front.rest) g.field.fits fits (sym g.field.split ∙ split) in
-        let count : g.count ≡ length own = ap (λ (x : Format × ℕ). x.1) same.0 in
-        let format : length_size g.format ≡ length_size u.header.format = ap (λ (x : Format × ℕ). length_size x.0) same.0 in
-        let head : length (length_bytes u.header.order (u.header.format, length own)) ≡ length_size u.header.format = initial-size u.header.order 0 u.header.format (length own) in
-        let total : length (bytes_of u) ≡ length (length_bytes u.header.order (u.header.format, length own)) + length own = length-append (length_bytes u.header.order (u.header.format, length own)) own in
-        no_rest bytes (bytes_of u) h.front.rest h.front.split (omega (arith, g.inside))
-
 -- ---- length fields
 
-escape_is : (order : Order) → fixed_bytes order 4 0xffffffff ≡ escape
+pub escape_is : (order : Order) → fixed_bytes order 4 0xffffffff ≡ escape
 escape_is Little = refl
 escape_is Big = refl
 
@@ -155,7 +109,7 @@ field_never_truncated order bytes offset reason is (inl (here, own, inr (a, fits
     second_never_truncated order bytes after.rest after.own a (a == 0xffffffff) refl is after.split size (length_limit - length (fixed_bytes order 4 a)) (omega arith) reason after.breaks
 
 -- a length of the 32-bit format doesn't begin with ff ff ff ff
-no_escape : (order : Order) (bytes : List ℕ) (n : ℕ) → Taken (initial_length order 0) bytes length_limit (Dwarf32, n) 4 → take 4 bytes ≡ escape → ⊥
+pub no_escape : (order : Order) (bytes : List ℕ) (n : ℕ) → Taken (initial_length order 0) bytes length_limit (Dwarf32, n) 4 → take 4 bytes ≡ escape → ⊥
 no_escape order bytes n h e =
     let more : List ℕ = (optional (n == 0xffffffff) (fixed order 8)).spell None in
     let fits : 0xffffffff < 256 ^ 4 = omega arith in

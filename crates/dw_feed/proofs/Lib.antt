@@ -1,6 +1,10 @@
 pub mod Cut
 pub mod Taking
 pub mod HeadSteps
+pub mod HeadReads
+pub mod HeadGrows
+pub mod BodyReads
+pub mod UnitReads
 mod Counting
 mod Samples
 mod BodyFeedRows

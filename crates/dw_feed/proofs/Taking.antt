@@ -1,5 +1,5 @@
 -- What is taken of a reader, step by step.
-use Rattle.std.proofs.Common.{◌≡◌, ℕ, ◌+◌, ◌<◌, ◌≤◌, List, [], ◌++◌, length, take, Option, Some, None, Err, refl, ap, subst, ◌∙◌, append_assoc, arith, inl, inr, ◌⊎◌}
+use Rattle.std.proofs.Common.{◌≡◌, ℕ, ◌+◌, ◌<◌, ◌≤◌, List, [], ◌++◌, length, take, Option, Some, None, Err, refl, ap, subst, ◌∙◌, append_assoc, append-nil, arith, inl, inr, ◌⊎◌}
 use Rattle.std.proofs.lemmas.List.{length-append, length-take, take-append-le, take_all}
 use Rattle.std.specs.Io.KnownBytes.{Consumes, IsAtEnd}
 use Rattle.dw_leb.specs.declared.errors.ReadError.{ReadError}
@@ -11,13 +11,7 @@ use Rattle.dw_leb.specs.Part.{Taken}
 use Rattle.dw_leb.specs.Number.{length_field, initial_length, length_limit, length_size}
 use Rattle.dw_leb.specs.Watch.{ConsumesUpTo, KeptSome}
 use Rattle.dw_leb.specs.Transfers.{consumes_more}
-use Rattle.dw_header.specs.declared.versions.Versions.{Versions}
-use Rattle.dw_unit.specs.Unit.{WholeUnit, bytes_of, UnitAtUnder}
-use Rattle.dw_abbrev.specs.TableErrors.{refused_memory}
-use Rattle.dw_header.specs.HeaderFound.{head_room}
-use Rattle.dw_unit.specs.UnitView.{IsUnitErrorUnder, NamesTableUnder}
-use Rattle.dw_feed.specs.Feed.{Had, escape, InField, InUnit, Takes, TakesInUnit, TakesUnitUnder, IsFeedErrorUnder, TakesNoUnitUnder, FieldRefused, UnitHeld, FailsUpTo, FailsInField, FailsInUnit}
-use Rattle.dw_feed.proofs.Cut.{held_fault, held_unit}
+use Rattle.dw_feed.specs.Feed.{Had, escape, InField, Takes, TakesInUnit, UnitHeld, FailsUpTo, FailsInField, FailsInUnit}
 
 -- what a reader has left, where it tells
 abbrev pub left_of : Option (List ℕ) → List ℕ
@@ -36,41 +30,26 @@ had_before (Some all) (Some rest) taken h = h
 abbrev pub takes_of : (old new : Option (List ℕ)) (taken : List ℕ) → Consumes old new taken → Takes old new (taken ++ left_of new)
 takes_of old new taken h = record { taken = taken; rest = left_of new; had = had_before old new taken h; split = refl; consumed = h }
 
+-- a read that gave nothing took nothing
+pub consumes_nothing : (old mid new : Option (List ℕ)) (taken buf : List ℕ) (got : ℕ) → got ≡ 0 → Consumes old mid taken → Consumes mid new (take got buf) → Consumes old new taken
+consumes_nothing old mid new taken buf got zero first next =
+    subst (λ (bs : List ℕ). Consumes old new bs) (ap (λ (n : ℕ). taken ++ take n buf) zero ∙ append-nil taken) (consumes_more old mid new taken (take got buf) first next)
+
+-- a read into the front of a part gives no more than that front holds
+pub got_within : (buf part : List ℕ) (got want : ℕ) → got ≤ length buf → length buf ≡ length (take want part) → (length (take got buf) ≡ got) × (got ≤ want)
+got_within buf part got want le is = (omega (arith, length-take got buf, le), omega (arith, le, is, length-take want part))
+
 -- ---- what holds of a front holds of all
 
-field_longer : (bytes rest : List ℕ) (n : ℕ) → InField bytes n → InField (bytes ++ rest) n
+pub field_longer : (bytes rest : List ℕ) (n : ℕ) → InField bytes n → InField (bytes ++ rest) n
 field_longer bytes rest n (inl four) = inl four
 field_longer bytes rest n (inr twelve) =
     let four : length (take 4 bytes) ≡ 4 = ap length twelve.1 in
     let le : 4 ≤ length bytes = omega (arith, length-take 4 bytes, four) in
     inr (twelve.0, take-append-le 4 bytes rest le ∙ twelve.1)
 
-taken_longer : (order : Order) (bytes rest : List ℕ) (x : Format × ℕ) (size : ℕ) → Taken (initial_length order 0) bytes length_limit x size → Taken (initial_length order 0) (bytes ++ rest) length_limit x size
+pub taken_longer : (order : Order) (bytes rest : List ℕ) (x : Format × ℕ) (size : ℕ) → Taken (initial_length order 0) bytes length_limit x size → Taken (initial_length order 0) (bytes ++ rest) length_limit x size
 taken_longer order bytes rest x size h = record { rest = h.rest ++ rest; fits = h.fits; split = ap (λ (b : List ℕ). b ++ rest) h.split ∙ append_assoc ((length_field order).spell x) h.rest rest; is_size = h.is_size; within = h.within }
-
-held_inside : (order : Order) (bytes rest : List ℕ) (new : Option (List ℕ)) → FieldRefused order bytes new ⊎ UnitHeld order bytes new → InUnit order (bytes ++ rest) (length bytes)
-held_inside order bytes rest new (inl h) = inl (field_longer bytes rest (length bytes) h.inside)
-held_inside order bytes rest new (inr h) = inr ((h.format, h.count), taken_longer order bytes rest (h.format, h.count) (length_size h.format) h.field, h.inside)
-
--- ---- a unit, and its fault
-
-module _ (versions : Versions) (abbreviations : List ℕ) (order : Order) (old new : Option (List ℕ)) (bytes : List ℕ) (took : Consumes old new bytes) (held : FieldRefused order bytes new ⊎ UnitHeld order bytes new) where
-  tells_first : (e : ReadError) → IsUnitErrorUnder versions abbreviations order bytes e → IsFeedErrorUnder versions abbreviations order (bytes ++ left_of new) e
-  tells_first (reads.Fault f) h = held_fault versions order abbreviations bytes (left_of new) new f.section f.offset f.reason held (left_at_end new) h
-  tells_first reads.NoMemory h = tt
-  tells_first (reads.Io kind) h = tt
-
-  pub takes_no_unit : (e : ReadError) → IsUnitErrorUnder versions abbreviations order bytes e → TakesNoUnitUnder versions abbreviations order old new e
-  takes_no_unit e h = (bytes ++ left_of new, takes_of old new bytes took, tells_first e h, held_inside order bytes (left_of new) new held)
-
-  pub takes_unit : (u : WholeUnit) (size : ℕ) → UnitAtUnder versions abbreviations order bytes u size → TakesUnitUnder versions abbreviations order old new u
-  takes_unit u size h =
-      let same : bytes ≡ bytes_of u = held_unit versions order abbreviations bytes new u size held h in (
-        bytes ++ left_of new,
-        had_before old new bytes took,
-        record { table_at = h.table_at; front = record { order_is = h.front.order_is; accepted = h.front.accepted; fits = h.front.fits; rest = left_of new; split = ap (λ (b : List ℕ). b ++ left_of new) same; is_size = refl } },
-        subst (λ (b : List ℕ). Consumes old new b) same took,
-      )
 
 -- ---- reads that fail
 
@@ -132,11 +111,6 @@ rest_error order old mid new bytes x (reads.Fault f) took size field h = h
 rest_error order old mid new bytes x reads.NoMemory took size field h = unit_fails order old mid new bytes x took size field h
 rest_error order old mid new bytes x (reads.Io kind) took size field h = unit_fails order old mid new bytes x took size field h
 
-pub unit_error : (versions : Versions) (abbreviations : List ℕ) (order : Order) (old new : Option (List ℕ)) (e : ReadError) → FailsInUnit order old new e → TakesNoUnitUnder versions abbreviations order old new e
-unit_error versions abbreviations order old new (reads.Fault f) h = absurd h
-unit_error versions abbreviations order old new reads.NoMemory h = (h.0, h.1, tt, h.2)
-unit_error versions abbreviations order old new (reads.Io kind) h = (h.0, h.1, tt, h.2)
-
 -- ---- want of memory
 
 -- what was taken before is kept too
@@ -145,14 +119,6 @@ kept_more old mid new bytes (reads.Fault f) took kept = tt
 kept_more old mid new bytes (reads.Io kind) took kept = tt
 kept_more old mid new bytes reads.NoMemory took kept = (bytes ++ kept.0, omega (arith, kept.1, length-append bytes kept.0), consumes_more old mid new bytes kept.0 took kept.2)
 
-length_some : (f : Format) → 0 < length_size f
+pub length_some : (f : Format) → 0 < length_size f
 length_some Dwarf32 = omega arith
 length_some Dwarf64 = omega arith
-
--- a header was taken where a unit's table or its entries need memory
-pub kept_unit : (versions : Versions) (abbreviations : List ℕ) (order : Order) (old new : Option (List ℕ)) (bytes : List ℕ) (e : ReadError) → Consumes old new bytes → (e ≡ refused_memory → NamesTableUnder versions abbreviations order bytes) → KeptSome {X = Unit {0}} old new (Err e)
-kept_unit versions abbreviations order old new bytes (reads.Fault f) took names = tt
-kept_unit versions abbreviations order old new bytes (reads.Io kind) took names = tt
-kept_unit versions abbreviations order old new bytes reads.NoMemory took names =
-    let h = names refl in
-    (bytes, omega (arith, head_room versions order bytes h.header h.count h.stands, length_some h.header.format), took)

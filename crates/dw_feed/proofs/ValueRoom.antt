@@ -1,6 +1,7 @@
 -- A value that is whole is one that a draft may be given.
-use Rattle.std.proofs.Common.{◌≡◌, ℕ, ◌≤◌, false, List, length, Some, ap, ◌∙◌, arith}
+use Rattle.std.proofs.Common.{◌≡◌, ℕ, ◌≤◌, false, List, length, take, Some, sym, ap, ◌∙◌, arith}
 use Rattle.std.specs.Prelude.{Result, Ok, Err, IfOk, IfErr}
+use Rattle.std.proofs.lemmas.List.{take_at}
 use Rattle.dw_leb.specs.declared.errors.Reason.{Reason}
 use Rattle.dw_leb.specs.Part.{Part, Taken}
 use Rattle.dw_leb.specs.Reader.{Reader}
@@ -32,3 +33,12 @@ value_fits g p stands next bytes v size taken =
     let fits : NextFits (context g) g.table g.place.unfinished v = fits_next (context g) v g.table g.place.unfinished p next taken.fits in
     let spelled = next_is (context g) v g.table g.place.unfinished p next fits in
     (fits, room_for g stands (length (value_bytes (drafted g) v)) (omega (arith, ap length spelled.1, taken.is_size, taken.within)))
+
+-- its bytes are those at the front
+pub value_spelled : (g : PartialUnit) (p : Pair) → Standing g → next_pair g.table g.place.unfinished ≡ Some p → (bytes : List ℕ) (v : Attribute) (size : ℕ) → Taken (attribute (context g) p.form.value p.constant) bytes (left g) v size
+    → take size bytes ≡ value_bytes (drafted g) v
+value_spelled g p stands next bytes v size taken =
+    let fits : NextFits (context g) g.table g.place.unfinished v = fits_next (context g) v g.table g.place.unfinished p next taken.fits in
+    let spelled = next_is (context g) v g.table g.place.unfinished p next fits in
+    let a : List ℕ = (attribute (context g) p.form.value p.constant).spell v in
+    ap (take size) taken.split ∙ take_at a taken.rest size taken.is_size ∙ sym spelled.1

@@ -55,7 +55,7 @@ done_says g piece n u (Reading h) says = absurd says
 done_says g piece n u (Refused f) says = absurd says
 done_says g piece n u Finished says = says
 
-same_breaks : (g h : PartialUnit) → SameUnit g h → (bytes : List ℕ) (f : Fault) → BreaksAt h bytes f → BreaksAt g bytes f
+pub same_breaks : (g h : PartialUnit) → SameUnit g h → (bytes : List ℕ) (f : Fault) → BreaksAt h bytes f → BreaksAt g bytes f
 same_breaks g h same bytes f b = (
   b.0,
   subst (λ (t : Table). UnitBreaksUnder (versions_for g.header.kind) g.header.order t bytes f.offset f.reason) same.2

@@ -1,15 +1,17 @@
 -- A feed of a header, as its callers see it, and what each of its calls answers.
-use Rattle.std.specs.Prelude.{◌≡◌, ◌≢◌, ℕ, ◌≤◌, List, [], ◌∷◌, ◌++◌, length, take, Option, Some, None}
+use Rattle.std.specs.Prelude.{◌≡◌, ◌≢◌, ℕ, ◌+◌, ◌-◌, ◌≤◌, ◌<◌, List, [], ◌∷◌, ◌++◌, length, take, Option, Some, None, ◌⊎◌}
 use Rattle.dw_leb.specs.declared.errors.Reason.TheVariants.{Truncated}
 use Rattle.dw_leb.specs.declared.errors.Fault.{Fault as TheFault}
 use Rattle.dw_leb.specs.declared.order.Order.{Order}
 use Rattle.dw_header.specs.declared.versions.Versions.{Versions}
+use Rattle.dw_header.specs.declared.versions.Versions.TheVariants.{Five}
 use Rattle.dw_header.specs.Header.{Header, Accepts}
 use Rattle.dw_header.specs.HeaderPlace.{HeaderFaultUnder, header_bytes}
 use Rattle.dw_header.specs.Laws.{HasHeaderBytes}
 use Rattle.dw_feed.specs.declared.progress.Progress.{Progress}
 use Rattle.dw_feed.specs.declared.progress.Progress.TheVariants.{More, Done, Fault, NoMemory, Spent}
 use Rattle.dw_feed.specs.HeaderCut.{IsCut}
+use Rattle.dw_feed.specs.Feed.{escape}
 
 -- What was answered so far: nothing yet, and these bytes were taken; a fault; or the header.
 pub data HeadState : Type 0 where
@@ -65,3 +67,27 @@ Ends versions order (Reading taken) (Some f) = HeaderFaultUnder versions order t
 Ends versions order (Refused f) (Some g) = g ≡ f
 Ends versions order Finished None = Unit {0}
 Ends versions order state answer = ⊥
+
+-- How many bytes are needed at the least: with fewer the stream is cut off. After an answer no more are.
+abbrev pub Wants : Versions → Order → HeadState → ℕ → Type 0
+Wants versions order (Reading taken) n = (0 < n) × ((piece : List ℕ) → length piece < n → IsCut versions order (taken ++ piece))
+Wants versions order (Refused f) n = n ≡ 0
+Wants versions order Finished n = n ≡ 0
+
+-- ---- how they are counted
+
+-- a length field that begins so, and the offsets behind it, have so many bytes: four, or twelve and eight behind ff ff ff ff
+abbrev pub AreSizes : List ℕ → ℕ → ℕ → Type 0
+AreSizes taken size offset = ((size ≡ 4) × (offset ≡ 4) × ((length taken < 4) ⊎ (take 4 taken ≢ escape))) ⊎ ((size ≡ 12) × (offset ≡ 8) × (4 ≤ length taken) × (take 4 taken ≡ escape))
+
+-- Of the field of a header that comes next, behind so many bytes of its fields, so many are lacking at the least: of the version; of
+-- the offset of the table, and of the one or two numbers that a kind of version 5 adds; or one.
+abbrev pub FieldLacks : Versions → ℕ → ℕ → ℕ → Type 0
+FieldLacks versions offset count n =
+    (count + n ≡ 2)
+    ⊎ (n ≡ 1)
+    ⊎ ((versions ≡ Five) × (4 ≤ count) × ((count + n ≡ 4 + offset) ⊎ ((4 + offset ≤ count) × (count + n ≡ 12 + offset)) ⊎ ((12 + offset ≤ count) × (count + n ≡ 12 + offset + offset))))
+
+-- of the length field, or of a field behind it
+abbrev pub Lacks : Versions → List ℕ → ℕ → Type 0
+Lacks versions taken n = (size : ℕ) × (offset : ℕ) × AreSizes taken size offset × ((length taken + n ≡ size) ⊎ ((size ≤ length taken) × FieldLacks versions offset (length taken - size) n))

@@ -21,14 +21,14 @@ use Rattle.dw_leb.specs.NumberMoments.{reserved_judges, too_far_judges}
 use Rattle.dw_header.specs.HeaderMoments.{type_judges, address_size_judges, version_judges}
 
 -- what is cut off has fewer bytes than this
-abbrev CutBelow : ℕ → Breaks → Type 0
+abbrev pub CutBelow : ℕ → Breaks → Type 0
 CutBelow n P = (bytes : List ℕ) (lim offset : ℕ) → P bytes lim offset Truncated → length bytes < n
 
 -- no spelling has more bytes than this
 abbrev SpelledWithin : {X : Type 0} → ℕ → Part X → Type 0
 SpelledWithin {X} n P = (x : X) → P.Fits x → length (P.spell x) ≤ n
 
-short_cut : (n : ℕ) → CutBelow n (Short n)
+pub short_cut : (n : ℕ) → CutBelow n (Short n)
 short_cut n bytes lim offset h = elim h.1 [
   | inl past ↦ absurd (not_past past.1)
   | inr cut ↦ cut.1
@@ -40,7 +40,7 @@ short_cut n bytes lim offset h = elim h.1 [
 fixed_within : (order : Order) (n : ℕ) → SpelledWithin n (fixed order n)
 fixed_within order n x fits = omega (arith, length-fixed order n x)
 
-judged_cut : {X : Type 0} (n : ℕ) (P : Part X) (meaning : X → _) → CutBelow n P.Break → Judges meaning → CutBelow n (judged P meaning).Break
+pub judged_cut : {X : Type 0} (n : ℕ) (P : Part X) (meaning : X → _) → CutBelow n P.Break → Judges meaning → CutBelow n (judged P meaning).Break
 judged_cut n P meaning it judges bytes lim offset h = elim h [
   | inl one ↦ it bytes lim offset one
   | inr two ↦ absurd (judges two.value two.refused)

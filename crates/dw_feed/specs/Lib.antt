@@ -34,6 +34,7 @@ pub mod FieldSteps
 pub mod BodyView
 pub mod BodyFeedView
 pub mod FedUnit
+pub mod FeedReads
 pub mod Openings
 pub mod ValueSteps
 pub mod EmptyPiece

@@ -55,7 +55,7 @@ fn field_bytes<R: Read>(alloc: Global, reader: &mut Watched<R>) -> Result<Vec<u8
 }
 
 /// Whether these are the four bytes that begin a length of the 64-bit format.
-fn is_escape(bytes: &[u8]) -> bool
+pub(crate) fn is_escape(bytes: &[u8]) -> bool
     ensures { IsEscape bytes.now result }
 {
     bytes == [0xff, 0xff, 0xff, 0xff].as_slice()

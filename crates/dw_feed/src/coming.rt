@@ -216,13 +216,13 @@ impl Coming {
     {
         match self.draft.next_pair() {
             None => self.code(b),
-            Some(pair) => self.value(pair, b),
+            Some(pair) => self.value(&pair, b),
         }
     }
 
     /// The value at the place, under its pair.
-    fn value(&mut self, pair: Pair, b: &[u8]) -> Step
-        requires next { next_pair self.old.table self.old.place.unfinished ≡ Some (pair_of pair) }
+    fn value(&mut self, pair: &Pair, b: &[u8]) -> Step
+        requires next { next_pair self.old.table self.old.place.unfinished ≡ Some (pair_of pair.now) }
         requires stands { Keeps self.old }
         requires has { HasPart self.old }
         requires waits { FrontsWait self.old (part self.old) }
@@ -238,8 +238,8 @@ impl Coming {
     }
 
     /// The value at the place, of which nothing is there yet: straight from the piece, where it is whole there.
-    fn new_value(&mut self, pair: Pair, b: &[u8]) -> Step
-        requires next { next_pair self.old.table self.old.place.unfinished ≡ Some (pair_of pair) }
+    fn new_value(&mut self, pair: &Pair, b: &[u8]) -> Step
+        requires next { next_pair self.old.table self.old.place.unfinished ≡ Some (pair_of pair.now) }
         requires stands { Keeps self.old }
         requires has { HasPart self.old }
         requires between { partial_in self.old.place.unfinished ≡ None }
@@ -255,8 +255,8 @@ impl Coming {
     }
 
     /// The value at the place, of whose number or length field some bytes may be kept.
-    fn value_in_parts(&mut self, pair: Pair, b: &[u8]) -> Step
-        requires next { next_pair self.old.table self.old.place.unfinished ≡ Some (pair_of pair) }
+    fn value_in_parts(&mut self, pair: &Pair, b: &[u8]) -> Step
+        requires next { next_pair self.old.table self.old.place.unfinished ≡ Some (pair_of pair.now) }
         requires stands { Keeps self.old }
         requires has { HasPart self.old }
         requires waits { FrontsWait self.old (part self.old) }
@@ -271,13 +271,13 @@ impl Coming {
     }
 
     /// The form that an indirect value names, and the value behind it (section 7.5.3).
-    fn named_form(&mut self, pair: Pair, b: &[u8]) -> Step
-        requires next { next_pair self.old.table self.old.place.unfinished ≡ Some (pair_of pair) }
+    fn named_form(&mut self, pair: &Pair, b: &[u8]) -> Step
+        requires next { next_pair self.old.table self.old.place.unfinished ≡ Some (pair_of pair.now) }
         requires stands { Keeps self.old }
         requires has { HasPart self.old }
         requires waits { FrontsWait self.old (part self.old) }
         requires between { partial_in self.old.place.unfinished ≡ None }
-        requires indirect { pair.form.value ≡ 0x16 }
+        requires indirect { pair.now.form.value ≡ 0x16 }
         requires unnamed { self.old.named ≡ None }
         ensures { StepSays self.old (part self.old ++ b.now) result self.new }
     {
@@ -316,13 +316,13 @@ impl Coming {
     }
 
     /// The value itself: a number, or the beginning of a text or block.
-    fn own_value(&mut self, pair: Pair, b: &[u8]) -> Step
-        requires next { next_pair self.old.table self.old.place.unfinished ≡ Some (pair_of pair) }
+    fn own_value(&mut self, pair: &Pair, b: &[u8]) -> Step
+        requires next { next_pair self.old.table self.old.place.unfinished ≡ Some (pair_of pair.now) }
         requires stands { Keeps self.old }
         requires has { HasPart self.old }
         requires waits { FrontsWait self.old (part self.old) }
         requires between { partial_in self.old.place.unfinished ≡ None }
-        requires named { pair.form.value ≡ 0x16 → IsSome self.old.named }
+        requires named { pair.now.form.value ≡ 0x16 → IsSome self.old.named }
         ensures { StepSays self.old (part self.old ++ b.now) result self.new }
     {
         let lim = self.left();
@@ -351,12 +351,12 @@ impl Coming {
     }
 
     /// What is there of the value, where it is the whole value, goes to the draft.
-    fn give_front(&mut self, pair: Pair, lim: u64) -> Attempt
-        requires next { next_pair self.old.table self.old.place.unfinished ≡ Some (pair_of pair) }
+    fn give_front(&mut self, pair: &Pair, lim: u64) -> Attempt
+        requires next { next_pair self.old.table self.old.place.unfinished ≡ Some (pair_of pair.now) }
         requires stands { Standing self.old }
         requires between { partial_in self.old.place.unfinished ≡ None }
         requires lim { lim ≡ left_of self.old }
-        ensures { ValueSays self.old (pair_of pair) (part self.old) result self.new }
+        ensures { ValueSays self.old (pair_of pair.now) (part self.old) result self.new }
     {
         let front = self.front();
         self.give(pair, front.as_slice(), lim)
@@ -382,16 +382,16 @@ impl Coming {
     }
 
     /// The value at the front of these bytes, of which `lim` are left to the unit's end, goes to the draft.
-    fn give(&mut self, pair: Pair, bytes: &[u8], lim: u64) -> Attempt
-        requires next { next_pair self.old.table self.old.place.unfinished ≡ Some (pair_of pair) }
+    fn give(&mut self, pair: &Pair, bytes: &[u8], lim: u64) -> Attempt
+        requires next { next_pair self.old.table self.old.place.unfinished ≡ Some (pair_of pair.now) }
         requires stands { Standing self.old }
         requires between { partial_in self.old.place.unfinished ≡ None }
         requires lim { lim ≡ left_of self.old }
-        ensures { ValueSays self.old (pair_of pair) bytes.now result self.new }
+        ensures { ValueSays self.old (pair_of pair.now) bytes.now result self.new }
     {
         let context = self.draft.header().context();
         match value_at(context, pair, bytes, lim) {
-            Ok((value, size)) => match self.settle(&value) {
+            Ok((value, size)) => match self.settle(&value, &bytes[..size]) {
                 Ok(()) => Attempt::Whole(size),
                 Err(_) => Attempt::NoMemory,
             },
@@ -400,13 +400,14 @@ impl Coming {
     }
 
     /// A value that is whole goes to the draft, and nothing of it is kept.
-    fn settle(&mut self, value: &AttrValue<'_>) -> Result<(), AllocError>
+    fn settle(&mut self, value: &AttrValue<'_>, spelling: &[u8]) -> Result<(), AllocError>
         requires between { partial_in self.old.place.unfinished ≡ None }
         requires fits { NextFits (context self.old) self.old.table self.old.place.unfinished (attribute_of value.now) }
+        requires spelled { spelling.now ≡ value_bytes (drafted self.old) (attribute_of value.now) }
         requires short { passes_limit (drafted self.old) (length (value_bytes (drafted self.old) (attribute_of value.now))) ≡ false }
         ensures { OnOk result (self.new ≡ moved_to (given (attribute_of value.now) (drafted self.old)).place self.old.padding self.old) }
     {
-        self.draft.value(value)?;
+        self.draft.spelled_value(value, spelling)?;
         self.named = None;
         self.to_come = 0;
         self.pending.clear();
@@ -444,9 +445,12 @@ impl Coming {
         requires { Standing self.now }
         ensures { result ≡ is_some (root_if_whole self.now) }
     {
+        if self.draft.depth() > 0 {
+            return false;
+        }
         match self.draft.next_pair() {
             Some(_) => false,
-            None => self.draft.depth() == 0 && !self.draft.is_empty() && self.left() == 0,
+            None => !self.draft.is_empty() && self.left() == 0,
         }
     }
 

@@ -26,13 +26,13 @@ use dw_leb::{Order, Reason, Uleb, read_fixed};
 impl Coming {
     /// The text or block that begins here, where what comes before its content is whole: a block's width
     /// and count of bytes. The input cuts the value off.
-    pub(crate) fn opening(&self, pair: Pair) -> Option<(Option<u8>, u64)>
-        requires next { next_pair self.now.table self.now.place.unfinished ≡ Some (pair_of pair) }
+    pub(crate) fn opening(&self, pair: &Pair) -> Option<(Option<u8>, u64)>
+        requires next { next_pair self.now.table self.now.place.unfinished ≡ Some (pair_of pair.now) }
         requires stands { Standing self.now }
         requires has { HasPart self.now }
         requires between { partial_in self.now.place.unfinished ≡ None }
-        requires named { pair.form.value ≡ 0x16 → IsSome self.now.named }
-        requires cut { read_attribute (context self.now) pair.form.value (pair_of pair).constant (part self.now) (left_of self.now) ≡ Broken 0 Truncated }
+        requires named { pair.now.form.value ≡ 0x16 → IsSome self.now.named }
+        requires cut { read_attribute (context self.now) pair.now.form.value (pair_of pair.now).constant (part self.now) (left_of self.now) ≡ Broken 0 Truncated }
         ensures some { IfSome result (λ x. OpensHere self.now x.0 x.1) }
         ensures none { result ≡ None → length self.now.pending < 16 }
         ensures more { result ≡ None → (b : ℕ) → HasPart (with_byte self.now b) }
@@ -156,8 +156,8 @@ impl Coming {
 }
 
 /// The form in effect: of an indirect value the one that it names (section 7.5.3).
-fn form_of(pair: Pair, named: Option<Uleb>) -> u64
-    ensures { result ≡ form_in pair.form.value (option_map uleb_of named) }
+fn form_of(pair: &Pair, named: Option<Uleb>) -> u64
+    ensures { result ≡ form_in pair.now.form.value (option_map uleb_of named) }
 {
     match named {
         Some(form) => form.value,

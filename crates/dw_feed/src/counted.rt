@@ -89,14 +89,19 @@ impl Counted {
         Ok(())
     }
 
-    /// The unfinished entry is given its next value.
-    pub(crate) fn value(&mut self, value: &AttrValue<'_>) -> Result<(), AllocError>
+    /// The unfinished entry is given its next value, with the bytes that spell it.
+    pub(crate) fn spelled_value(
+        &mut self,
+        value: &AttrValue<'_>,
+        spelling: &[u8],
+    ) -> Result<(), AllocError>
         requires between { partial_in self.old.place.unfinished ≡ None }
         requires fits { NextFits (context_of self.old.header) self.old.table self.old.place.unfinished (attribute_of value.now) }
+        requires spelled { spelling.now ≡ value_bytes self.old (attribute_of value.now) }
         requires short { passes_limit self.old (length (value_bytes self.old (attribute_of value.now))) ≡ false }
         ensures ok { OnOk result (self.new ≡ given (attribute_of value.now) self.old) }
     {
-        self.draft.value(value)?;
+        self.draft.spelled_value(value, spelling)?;
         self.values += 1;
         Ok(())
     }

@@ -1,13 +1,14 @@
 //! A header that is pushed in pieces.
-ghost use Rattle.std.specs.Prelude.{◌≡◌, ◌≤◌, ◌++◌, ◌∷◌, [], length};
+ghost use Rattle.std.specs.Prelude.{◌≡◌, ◌<◌, ◌≤◌, ◌++◌, ◌∷◌, [], length};
 ghost use Rattle.dw_leb.specs.declared.errors.Reason.TheVariants.{Truncated};
 ghost use Rattle.dw_header.specs.declared.versions.Versions.TheVariants.{Five};
 ghost use Rattle.dw_header.specs.HeaderPlace.{HeaderFaultUnder};
 ghost use Rattle.dw_header.specs.Laws.{HasHeaderBytes};
 ghost use Rattle.dw_feed.specs.HeaderCut.{IsCut};
-ghost use Rattle.dw_feed.specs.HeadFeed.{FeedsHead, IfDone, Answers, Ends, Reading};
+ghost use Rattle.dw_feed.specs.HeadFeed.{FeedsHead, IfDone, Answers, Ends, Reading, Wants, Lacks, FieldLacks, AreSizes};
 ghost use Rattle.dw_feed.specs.HeadFeedView.{state_of, ended, JudgedAs, ShowsHead};
 
+use crate::bytes::is_escape;
 use crate::progress::Progress;
 use arrayvec::ArrayVec;
 use dw_header::{Header, Versions, read_header_as};
@@ -93,6 +94,20 @@ impl HeadFeed {
         }
     }
 
+    /// How many bytes the feed needs at the least before it can answer: with fewer, every piece is answered
+    /// `More`. At first these are the four bytes of a length field, and eight more where it begins with ff ff
+    /// ff ff (section 7.2.2); then the rest of the field that comes next, or one byte of it. So whoever pushes no
+    /// more than these takes no byte that the header doesn't have. 0 once an answer was not `More`.
+    pub fn wants(&self) -> usize
+        ensures least { Wants self.now.versions self.now.order self.now.state result }
+        ensures most { result ≤ 8 }
+    {
+        match self.answered {
+            None => lacking(self.versions, self.taken.as_slice()),
+            Some(_) => 0,
+        }
+    }
+
     /// The end of the input: the fault of a header of which bytes are missing (`Truncated`), or the fault
     /// that was answered before. None where the header was.
     pub fn end(self) -> Option<Fault>
@@ -103,6 +118,56 @@ impl HeadFeed {
             Some(Answered::Fault(fault)) => Some(fault),
             Some(Answered::Header) => None,
         }
+    }
+}
+
+/// How many bytes the field lacks that comes next, at the least.
+fn lacking(versions: Versions, taken: &[u8]) -> usize
+    ensures lacks { Lacks versions taken.now result }
+    ensures some { 0 < result }
+    ensures most { result ≤ 8 }
+{
+    let (size, offset_size) = sizes(taken);
+    if taken.len() < size {
+        size - taken.len()
+    } else {
+        lacking_field(versions, offset_size, taken.len() - size)
+    }
+}
+
+/// How many bytes a length field has that begins so, and an offset behind it (section 7.4).
+fn sizes(taken: &[u8]) -> (usize, usize)
+    ensures { AreSizes taken.now result.0 result.1 }
+{
+    if taken.len() < 4 {
+        (4, 4)
+    } else if is_escape(&taken[..4]) {
+        (12, 8)
+    } else {
+        (4, 4)
+    }
+}
+
+/// The same behind the length field and so many bytes of the header's other fields. Where version 4 is read
+/// too, it is one behind the version.
+fn lacking_field(versions: Versions, offset_size: usize, count: usize) -> usize
+    requires { offset_size ≤ 8 }
+    ensures lacks { FieldLacks versions offset_size count result }
+    ensures some { 0 < result }
+    ensures most { result ≤ 8 }
+{
+    // Where the offset of the table ends, and each of the two numbers that a kind of version 5 may add.
+    let offset_end = 4 + offset_size;
+    let first_end = offset_end + 8;
+    let second_end = first_end + offset_size;
+    match versions {
+        _ if count < 2 => 2 - count,
+        Versions::FourAndFive => 1,
+        Versions::Five if count < 4 => 1,
+        Versions::Five if count < offset_end => offset_end - count,
+        Versions::Five if count < first_end => first_end - count,
+        Versions::Five if count < second_end => second_end - count,
+        Versions::Five => 1,
     }
 }
 

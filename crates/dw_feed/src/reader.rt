@@ -1,17 +1,34 @@
 //! Reading a unit from a reader.
 ghost use Rattle.std.specs.Prelude.{◌≡◌, None, IfOk, IfErr};
 ghost use Rattle.dw_leb.specs.Watch.{inner_of, fault_of, reader_fault, KeptSome};
+ghost use Rattle.dw_header.specs.Laws.{HasHeaderBytes};
+ghost use Rattle.dw_unit.specs.Unit.{left_behind};
+ghost use Rattle.dw_feed.specs.BodyFeed.{started};
 ghost use Rattle.dw_feed.specs.Feed.{TakesUnit, TakesUnitUnder, TakesNoUnit, TakesNoUnitUnder};
+ghost use Rattle.dw_feed.specs.FeedReads.{TakesHeader, TakesNoHeader, TakesBody, TakesNoBody};
 
-use crate::bytes::unit_bytes;
-use dw_abbrev::Tables;
+use crate::body::BodyFeed;
+use crate::head::HeadFeed;
+use crate::progress::Progress;
+use dw_abbrev::{Table, Tables};
 use dw_leb::{Order, ReadError, Watched};
-use dw_unit::{Unit, Versions, read_unit_as};
+use dw_unit::{Header, Unit, Versions};
 use std::alloc::Global;
 use std::io::Read;
+use std::rc::Rc;
+
+/// The most bytes that a feed of a header wants at once.
+const PART: usize = 8;
+
+/// The most bytes that are read at once behind a header.
+const CHUNK: usize = 4096;
 
 /// The unit of version 5 at the front of what the reader has left, in whatever pieces its bytes come. At `Ok`
 /// exactly the unit's bytes were taken.
+///
+/// The bytes go into the feeds as they come (`HeadFeed`, `BodyFeed`): none is kept beside the unit's tree. A
+/// header is taken in parts that it wants for sure, and what follows it in pieces of at most 4,096 bytes. A
+/// fault is returned with the piece that shows it, and no later byte is asked for.
 ///
 /// A fault is the first one of all that the reader had left, as `read_unit` of `dw_unit` returns
 /// it. So `Truncated` comes only where the reader has no more: a short read is no end, and a read
@@ -65,7 +82,102 @@ pub fn read_unit_from_as<R: Read>(
     ensures tables { tables.new ≡ tables.old }
     ensures fault { fault_of reader.new ≡ reader_fault result }
 {
-    let bytes = unit_bytes(alloc, order, reader)?;
-    let (unit, _) = read_unit_as(alloc, order, versions, tables, bytes.as_slice())?;
-    Ok(unit)
+    let (header, unit_length) = head_from(order, versions, reader)?;
+    let table = tables.get(header.abbrev_offset())?;
+    body_from(alloc, header, unit_length, table, reader)
+}
+
+/// The header at the front of what the reader has left, and its unit_length. No byte is taken that the
+/// header doesn't want.
+fn head_from<R: Read>(
+    order: Order,
+    versions: Versions,
+    reader: &mut Watched<R>,
+) -> Result<(Header, u64), ReadError>
+    requires { fault_of reader.old ≡ None }
+    ensures found { IfOk result (TakesHeader versions order
+        (R.remaining (inner_of reader.old))
+        (R.remaining (inner_of reader.new))) }
+    ensures broken { IfErr result (TakesNoHeader versions order
+        (R.remaining (inner_of reader.old))
+        (R.remaining (inner_of reader.new))) }
+    ensures fault { fault_of reader.new ≡ reader_fault result }
+{
+    let mut feed = HeadFeed::new_as(order, versions);
+    let mut part = [0u8; PART];
+    loop {
+        let want = feed.wants();
+        let got = match reader.read(&mut part[..want]) {
+            Ok(got) => got,
+            Err(e) => return Err(ReadError::Io(e.kind())),
+        };
+        if got == 0 {
+            return match feed.end() {
+                Some(cut_off) => Err(ReadError::Fault(cut_off)),
+                None => unreachable!(),
+            };
+        }
+        let (_, answer) = feed.feed(&part[..got]);
+        match answer {
+            Progress::More => {}
+            Progress::Done(head) => return Ok(head),
+            Progress::Fault(fault) => return Err(ReadError::Fault(fault)),
+            Progress::NoMemory | Progress::Spent => unreachable!(),
+        }
+    }
+}
+
+/// How many bytes the unit has behind its header (section 7.5.1).
+fn behind_header(header: Header, unit_length: u64) -> u64
+    requires { HasHeaderBytes header unit_length }
+    ensures { result ≡ left_behind header unit_length }
+{
+    header.format().length_size() as u64 + unit_length - header.size()
+}
+
+/// The unit of a header whose other bytes are at the front of what the reader has left.
+fn body_from<R: Read>(
+    alloc: Global,
+    header: Header,
+    unit_length: u64,
+    table: Rc<Table>,
+    reader: &mut Watched<R>,
+) -> Result<Unit, ReadError>
+    requires spelled { HasHeaderBytes header unit_length }
+    requires clear { fault_of reader.old ≡ None }
+    ensures found { IfOk result (TakesBody (started header unit_length table.value)
+        (R.remaining (inner_of reader.old))
+        (R.remaining (inner_of reader.new))) }
+    ensures broken { IfErr result (TakesNoBody (started header unit_length table.value)
+        (R.remaining (inner_of reader.old))
+        (R.remaining (inner_of reader.new))) }
+    ensures fault { fault_of reader.new ≡ reader_fault result }
+{
+    let mut left = behind_header(header, unit_length);
+    let mut feed = BodyFeed::new(alloc, header, unit_length, table);
+    let mut chunk = [0u8; CHUNK];
+    // A unit that has no room for a root is refused before a byte is read.
+    let mut got = 0;
+    loop {
+        let (_, answer) = feed.feed(&chunk[..got]);
+        match answer {
+            Progress::More => {}
+            Progress::Done(unit) => return Ok(unit),
+            Progress::Fault(fault) => return Err(ReadError::Fault(fault)),
+            Progress::NoMemory => return Err(ReadError::NoMemory),
+            Progress::Spent => unreachable!(),
+        }
+        let want = left.min(CHUNK as u64) as usize;
+        got = match reader.read(&mut chunk[..want]) {
+            Ok(got) => got,
+            Err(e) => return Err(ReadError::Io(e.kind())),
+        };
+        if got == 0 {
+            return match feed.end() {
+                Some(fault) => Err(ReadError::Fault(fault)),
+                None => unreachable!(),
+            };
+        }
+        left -= got as u64;
+    }
 }

@@ -18,15 +18,15 @@ use dw_leb::constants::form::{DW_FORM_IMPLICIT_CONST, DW_FORM_INDIRECT};
 use dw_leb::{Reason, Uleb};
 
 /// The value of this pair at the front of `b`, of which `lim` bytes are left to the unit's end.
-pub(crate) fn value_at(
+pub(crate) fn value_at<'a>(
     context: Ctx,
-    pair: Pair,
-    b: &[u8],
+    pair: &Pair,
+    b: &'a [u8],
     lim: u64,
-) -> Result<(AttrValue<'_>, usize), Reason>
+) -> Result<(AttrValue<'a>, usize), Reason>
     requires { IsContext context }
-    ensures exact { read_attribute context (pair_of pair).form.value (pair_of pair).constant b.now lim ≡ lent_outcome attribute_of result }
-    ensures found { IfOk result (λ x. Taken (attribute context (pair_of pair).form.value (pair_of pair).constant) b.now lim (attribute_of x.0) x.1) }
+    ensures exact { read_attribute context (pair_of pair.now).form.value (pair_of pair.now).constant b.now lim ≡ lent_outcome attribute_of result }
+    ensures found { IfOk result (λ x. Taken (attribute context (pair_of pair.now).form.value (pair_of pair.now).constant) b.now lim (attribute_of x.0) x.1) }
     ensures room { IfOk result (λ x. (x.1 ≤ length b.now) × (x.1 ≤ lim)) }
 {
     lend_value(context, pair.form.value, pair.constant, b, lim)

@@ -9,7 +9,7 @@ use Rattle.dw_leb.specs.DecideNumber.{uleb_fits, length-uleb, initial-size}
 use Rattle.dw_leb.specs.declared.order.Order.{Order}
 use Rattle.dw_leb.specs.declared.order.Format.{Format}
 use Rattle.dw_leb.specs.declared.order.Format.TheVariants.{Dwarf32, Dwarf64}
-use Rattle.dw_form.specs.HeadFront.{front_bytes}
+use Rattle.dw_form.specs.HeadFront.{front_size, front_within, front_bytes}
 use Rattle.dw_form.specs.Form.{Attribute}
 use Rattle.dw_form.specs.Pieces.{HasSpelling, spelling, has_spelling}
 use Rattle.dw_abbrev.specs.Build.{is_width}
@@ -18,7 +18,7 @@ use Rattle.dw_form.specs.declared.shape.Ctx.{Ctx}
 use Rattle.dw_tree.specs.Tree.{Tree, Forest, none, more, leaf, branch, declared_pairs, nulls, AreNulls, nesting, tree as part}
 use Rattle.dw_tree.specs.Row.{push}
 use Rattle.dw_tree.specs.Place.{Frame, Spot, leave_from, PartialValue, UnfinishedEntry, Place}
-use Rattle.dw_tree.specs.Steps.{Growing, TreeAt, settled, settle_by, settle, begun_at, value_at, with_value, partial_in, partial_attribute, ended_by, ended as ended_at, closed_at, undone as undone_at, end_of, finished as finished_at, whole_tree, FirstsFit, NextFits, next_pair}
+use Rattle.dw_tree.specs.Steps.{Growing, TreeAt, settled, settle_by, settle, begun_at, value_at, with_value, partial_in, partial_attribute, ended_by, ended as ended_at, closed_at, undone as undone_at, end_of, finished as finished_at, whole_tree, FirstsFit, FirstFits, NextFits, first_bytes, next_bytes, next_pairs, next_pair}
 use Rattle.dw_tree.specs.Next.{next_is}
 use Rattle.dw_tree.specs.Ends.{begun_end, value_end, closed_end}
 use Rattle.dw_header.specs.Header.{fields, fields_of, context_of}
@@ -351,3 +351,12 @@ module _ (d : Drafted) (tree : Growing) (padded_by size : ℕ) (i : IsDrafted d 
 
     pub unit_built : IsUnit (record { header = d.header; table = t.table; root = t.root; padding = d.padding }) t size
     unit_built = subst (λ (s : TreeAt). IsUnit (record { header = d.header; table = s.table; root = s.root; padding = d.padding }) s size) (sym tree_same) here
+
+-- the front of the next value's bytes lies within them
+pub next_front_short : (k : Ctx) (t : Table) (o : Option UnfinishedEntry) (v : Attribute) → NextFits k t o v → front_size v (length (next_bytes k t o v)) ≤ length (next_bytes k t o v)
+next_front_short k t None v fits = absurd fits
+next_front_short k t (Some r) v fits = by (next_pairs t r) fits
+  where
+    by : (ps : List Pair) → FirstFits k ps v → front_size v (length (first_bytes k ps v)) ≤ length (first_bytes k ps v)
+    by [] h = absurd h
+    by (p ∷ ps) h = front_within k p.form.value p.constant v h

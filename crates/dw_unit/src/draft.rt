@@ -19,7 +19,7 @@ use crate::body::Body;
 use crate::unit::Unit;
 use arrayvec::ArrayVec;
 use dw_abbrev::{Pair, Table};
-use dw_form::{AttrValue, size_of, value_front};
+use dw_form::{AttrValue, front_len, size_of, value_front};
 use dw_header::Header;
 use dw_leb::{Format, Uleb};
 use dw_tree::TreeDraft;
@@ -118,6 +118,25 @@ impl Draft {
             }
             None => unreachable!(),
         }
+    }
+
+    /// The same with the bytes that spell the value (section 7.5.5), by a caller that has read them.
+    #[inline(always)]
+    pub fn spelled_value(
+        &mut self,
+        value: &AttrValue<'_>,
+        spelling: &[u8],
+    ) -> Result<(), AllocError>
+        requires between { partial_in self.old.place.unfinished ≡ None }
+        requires fits { NextFits (context_of self.old.header) self.old.table self.old.place.unfinished (attribute_of value.now) }
+        requires spelled { spelling.now ≡ value_bytes self.old (attribute_of value.now) }
+        requires short { passes_limit self.old (length (value_bytes self.old (attribute_of value.now))) ≡ false }
+        ensures ok { OnOk result (self.new ≡ given (attribute_of value.now) self.old) }
+        ensures size { OnOk result (drafted_size self.new ≡ drafted_size self.old + length (value_bytes self.old (attribute_of value.now))) }
+        ensures err { OnErr result (self.new ≡ self.old) }
+    {
+        let front = &spelling[..front_len(value, spelling.len())];
+        self.tree.value(value, front, spelling.len() as u64)
     }
 
     /// A text, or a block whose length field has `width` bytes, begins as the next value of the unfinished entry

@@ -197,7 +197,7 @@ fn takes_nothing_past_the_units_end(rt: HostRuntime) {
     let answer = refused(rt.alloc(), Order::Little, &TYPED, &WITHOUT_A_NULL);
     assert!(rt; answer == Some((17, Reason::PastUnit, 2)));
     let answer = refused(rt.alloc(), Order::Little, &NAMED, &OF_VERSION_FOUR);
-    assert!(rt; matches!(answer, Some((4, Reason::BadVersion, left)) if left >= 2));
+    assert!(rt; answer == Some((4, Reason::BadVersion, 11)));
 }
 
 const FIRST_RESERVED: [u8; 13] = [0xf0, 0xff, 0xff, 0xff, 1, 2, 3, 4, 5, 6, 7, 8, 9];
@@ -270,4 +270,47 @@ fn tells_a_readers_fault(rt: HostRuntime) -> Result<(), Fail> {
     let mut reader = Watched::new(device);
     assert!(rt; little(rt.alloc(), &NAMED, &mut reader)?.size() == 15);
     Ok(())
+}
+
+/// What is told by a reader that gives these bytes, one a call, and fails when it is asked for more, and
+/// whether it was.
+fn told_of(alloc: Global, section: &[u8], b: &[u8]) -> (Option<ReadError>, bool) {
+    let device = Stepped::failing(b, 1, b.len() as u64, ErrorKind::TimedOut);
+    let mut reader = Watched::new(device);
+    let told = little(alloc, section, &mut reader).err();
+    (told, reader.fault() != None)
+}
+
+/// A second root in the unit's last byte.
+const SECOND_ROOT: [u8; 16] = [
+    0x0c, 0, 0, 0, 0x05, 0, 0x01, 0x08, 0, 0, 0, 0, 0x01, 0x61, 0, 0x01,
+];
+
+/// The same where the unit has a byte more.
+const SECOND_ROOT_WITHIN: [u8; 16] = [
+    0x0d, 0, 0, 0, 0x05, 0, 0x01, 0x08, 0, 0, 0, 0, 0x01, 0x61, 0, 0x01,
+];
+
+const NO_SUCH_CODE: [u8; 13] = [0x0d, 0, 0, 0, 0x05, 0, 0x01, 0x08, 0, 0, 0, 0, 0x02];
+
+/// The unit ends with its header.
+const NO_ROOM_FOR_A_ROOT: [u8; 12] = [0x08, 0, 0, 0, 0x05, 0, 0x01, 0x08, 0, 0, 0, 0];
+
+#[test]
+fn tells_a_fault_before_it_asks_for_more(rt: HostRuntime) {
+    for (bytes, offset, reason) in [
+        (SECOND_ROOT.as_slice(), 15, Reason::SecondRoot),
+        (SECOND_ROOT_WITHIN.as_slice(), 15, Reason::SecondRoot),
+        (NO_SUCH_CODE.as_slice(), 12, Reason::UnknownCode),
+        (NO_ROOM_FOR_A_ROOT.as_slice(), 12, Reason::PastUnit),
+        (&OF_VERSION_FOUR[..6], 4, Reason::BadVersion),
+        (&FIRST_RESERVED[..4], 0, Reason::ReservedLength),
+    ] {
+        let fault = ReadError::Fault(Fault {
+            section: SectionId::Info,
+            offset,
+            reason,
+        });
+        assert!(rt; told_of(rt.alloc(), &NAMED, bytes) == (Some(fault), false));
+    }
 }

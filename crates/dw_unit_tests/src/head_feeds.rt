@@ -45,6 +45,44 @@ fn a_header_in_pieces(rt: HostRuntime) -> Result<(), Fail> {
     Ok(())
 }
 
+const RESERVED: [u8; 4] = [0xf0, 0xff, 0xff, 0xff];
+
+/// How many bytes a feed wants behind these.
+fn wanted_behind(versions: Versions, bytes: &[u8]) -> usize {
+    let mut feed = HeadFeed::new_as(Order::Little, versions);
+    let _ = feed.feed(bytes);
+    feed.wants()
+}
+
+#[test]
+fn wants_the_field_that_comes_next(rt: HostRuntime) {
+    for (bytes, count) in [
+        (&LONGEST[..0], 4),
+        (&LONGEST[..3], 1),
+        (&LONGEST[..4], 8),
+        (&LONGEST[..11], 1),
+        (&LONGEST[..12], 2),
+        (&LONGEST[..13], 1),
+        (&LONGEST[..14], 1),
+        (&LONGEST[..15], 1),
+        (&LONGEST[..16], 8),
+        (&LONGEST[..20], 4),
+        (&LONGEST[..24], 8),
+        (&LONGEST[..32], 8),
+        (&LONGEST[..39], 1),
+        (&LONGEST[..40], 0),
+        (&FIFTEEN[..2], 2),
+        (&FIFTEEN[..4], 2),
+        (&FIFTEEN[..8], 4),
+        (&FIFTEEN[..12], 0),
+        (RESERVED.as_slice(), 0),
+    ] {
+        assert!(rt; wanted_behind(Versions::Five, bytes) == count);
+    }
+    assert!(rt; wanted_behind(Versions::FourAndFive, &FIFTEEN[..4]) == 2);
+    assert!(rt; wanted_behind(Versions::FourAndFive, &FIFTEEN[..8]) == 1);
+}
+
 /// A feed that was pushed these bytes, each as a piece of its own; the last answer; and whether all before
 /// it asked for more and took their byte.
 fn pushed(versions: Versions, bytes: &[u8]) -> (HeadFeed, Answer, bool) {

@@ -2,16 +2,18 @@
 //!
 //! `pieces ABBREV INFO` reads the unit in pieces of several sizes, and says of each whether the unit that came is
 //! written as the bytes that were pushed. `pieces ABBREV INFO SIZE` reads it once in pieces of so many bytes, and
-//! says how many entries it has: with 0 by the reader that recurses, to compare the two.
+//! says how many bytes it has: with 0 by the reader that recurses, to compare the two.
 #![tactic(auto)]
 
-use rothelduf::{
-    BodyFeed, Fault, HeadFeed, Header, Order, Progress, ReadError, Table, Tables, Unit, Versions,
-    Watched, WriteError, write_unit,
-};
+ghost use Rattle.std.specs.Prelude.{IfOk};
+ghost use Rattle.dw_header.specs.Laws.{HasHeaderBytes};
+
 use dw_unit::read_unit_as;
+use rothelduf::{
+    BodyFeed, Fault, HeadFeed, Header, Order, Progress, ReadError, Tables, Unit, Versions, Watched,
+    WriteError, write_unit,
+};
 use std::alloc::{AllocError, Global};
-use std::rc::Rc;
 use std::rt::{Env, Files};
 use std::{env, fs, io};
 use thiserror::Error;
@@ -34,9 +36,7 @@ enum PiecesError {
 }
 
 fn main(rt: HostRuntime) -> Result<(), PiecesError> {
-    let words = env::args(&rt)?
-        .skip(1)
-        .collect::<Vec<String>>(rt.alloc())?;
+    let words = env::args(&rt)?.skip(1).collect::<Vec<String>>(rt.alloc())?;
     match words.as_slice() {
         [abbrev, info] => every_size(&rt, abbrev.as_str(), info.as_str()),
         [abbrev, info, size] => {
@@ -76,7 +76,7 @@ fn one_size(
         0 => recursive(rt.alloc(), &mut tables, info.as_slice())?,
         size => pushed(rt.alloc(), &mut tables, info.as_slice(), size)?,
     };
-    println!(rt; "{} entries", unit.entries().count())?;
+    println!(rt; "{} bytes", unit.size())?;
     Ok(())
 }
 
@@ -92,18 +92,22 @@ fn pushed(
     bytes: &[u8],
     size: usize,
 ) -> Result<Unit, PiecesError> {
-    let (header, unit_length, rest) = head(bytes, size)?;
+    let (header, unit_length, rest) = match head(bytes, size) {
+        Ok(head) => head,
+        Err(end) => return ended(end),
+    };
     let table = tables.get(header.abbrev_offset())?;
     let mut feed = BodyFeed::new(alloc, header, unit_length, table);
     let mut left = rest;
-    while !left.is_empty() {
+    for _ in 0..rest.len() {
         let (piece, behind) = left.split_at(left.len().min(size));
         left = behind;
-        match feed.feed(piece) {
-            (_, Progress::More) => {}
-            (_, Progress::Done(unit)) => return Ok(unit),
-            (_, Progress::Fault(fault)) => return Err(PiecesError::Fault(fault)),
-            (_, Progress::NoMemory | Progress::Spent) => {
+        let (_, answer) = feed.feed(piece);
+        match answer {
+            Progress::More => {}
+            Progress::Done(unit) => return Ok(unit),
+            Progress::Fault(fault) => return Err(PiecesError::Fault(fault)),
+            Progress::NoMemory | Progress::Spent => {
                 return Err(PiecesError::Read(ReadError::NoMemory));
             }
         }
@@ -111,21 +115,23 @@ fn pushed(
     ended(feed.end())
 }
 
-/// The header at the front of the bytes, which are pushed in pieces of so many, and the bytes behind it.
-fn head(bytes: &[u8], size: usize) -> Result<(Header, u64, &[u8]), PiecesError> {
+/// The header at the front of the bytes, which are pushed in pieces of so many, its unit_length, and the bytes
+/// behind it; or the fault at their end.
+fn head(bytes: &[u8], size: usize) -> Result<(Header, u64, &[u8]), Option<Fault>>
+    ensures { IfOk result (λ x. HasHeaderBytes x.0 x.1) }
+{
     let mut feed = HeadFeed::new_as(Order::Little, Versions::FourAndFive);
     let mut left = bytes;
-    while !left.is_empty() {
-        let piece = &left[..left.len().min(size)];
-        let (count, answer) = feed.feed(piece);
+    for _ in 0..bytes.len() {
+        let (count, answer) = feed.feed(&left[..left.len().min(size)]);
         left = &left[count..];
         match answer {
             Progress::Done((header, unit_length)) => return Ok((header, unit_length, left)),
-            Progress::Fault(fault) => return Err(PiecesError::Fault(fault)),
+            Progress::Fault(fault) => return Err(Some(fault)),
             _ => {}
         }
     }
-    ended(feed.end())
+    Err(feed.end())
 }
 
 fn ended<T>(end: Option<Fault>) -> Result<T, PiecesError> {

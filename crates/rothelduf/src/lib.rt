@@ -14,7 +14,9 @@
 //!   counts what a `BodyFeed` holds;
 //! - `Unit` hands out its entries (`EntryRef`) and their attributes (`AttrRef`), borrowed;
 //! - `UnitBuilder` makes a unit entry by entry, over a table of `TableBuilder`;
-//! - `write_unit` writes a unit as it was read or built, each number in its own width.
+//! - `Section` holds the units of a whole section: looked up by item, `EntryId` and offset; `Section::resolve`
+//!   names the entry that a reference means, or says by `RefFault` why there is none;
+//! - `write_unit` and `write_section` write what was read or built, each number in its own width.
 //!
 //! `constants` has the numbers of the standard by name.
 #![tactic(auto)]
@@ -27,6 +29,7 @@ pub use dw_form::{AttrValue, Ctx, Shape, Value};
 pub use dw_leb::{
     Fault, Format, Order, ReadError, Reason, SectionId, Sleb, Uleb, Watched, WriteError, constants,
 };
+pub use dw_section::{EntryId, Item, RefFault, Section, SectionRefusal, write_section};
 pub use dw_unit::{
     AttrRef, Attrs, Children, Draft, Entries, EntryRef, Header, Kind, Refusal, Unit, UnitBuilder,
     Versions, most_levels, read_header, read_header_as, write_unit,

@@ -1,32 +1,39 @@
-use Rattle.std.proofs.Common.{◌≡◌, List, ℕ, subst}
-use Rattle.std.proofs.lemmas.Result.{err_from_is_err_and}
-use Rattle.dw_abbrev.specs.TableErrors.{refused_memory}
-use Rattle.dw_unit.specs.Unit.{UnitAtUnder}
-use Rattle.dw_unit.specs.UnitView.{IsUnitErrorUnder, NamesTableUnder}
-use Rattle.dw_feed.proofs.Taking.{unit_error, takes_unit, takes_no_unit, kept_unit}
+use Rattle.std.proofs.Common.{ℕ, subst}
+use Rattle.std.proofs.lemmas.Result.{err_from_is_err_and, IfOk-weaker, IfErr-weaker}
+use Rattle.dw_abbrev.specs.Table.{Table, TableAt}
+use Rattle.dw_abbrev.specs.TableErrors.{IsTableError}
+use Rattle.dw_header.specs.Header.{Header}
+use Rattle.dw_feed.proofs.UnitReads.{header_error, table_error, body_found, body_error, body_memory}
 use Rattle.dw_feed.proofs.reader.read_unit_from_as.Goals as goal
 
-pub returns-in_err-bytes-clause-broken : goal.returns-in_err-bytes-clause-broken
-returns-in_err-bytes-clause-broken g c =
+pub returns-in_err-header-clause-broken : goal.returns-in_err-header-clause-broken
+returns-in_err-header-clause-broken g c =
     let p = err_from_is_err_and c.from_residual.result c.from_residual.ensures.1 in
-    rw (p.1, p.2) (unit_error c.args.versions c.args.tables.now c.args.order _ _ c.in_err-bytes.field-0.0 c.in_err-bytes.ensures.bytes)
+    rw (p.1, p.2) (header_error c.args.versions c.args.tables.now c.args.order _ _ c.in_err-header.field-0.0 c.in_err-header.ensures.broken)
 
-pub returns-in_err-unit-clause-broken : goal.returns-in_err-unit-clause-broken
-returns-in_err-unit-clause-broken g c =
-    let p = err_from_is_err_and c.from_residual-in_err-unit.result c.from_residual-in_err-unit.ensures.1 in
-    let held = c.in_ok-bytes.ensures.bytes in
-    let is_error = subst (λ (b : List ℕ). IsUnitErrorUnder c.args.versions c.args.tables.now c.args.order b c.in_err-unit.field-0.0) c.as_slice.ensures.value c.in_err-unit.ensures.broken in
-    rw (p.1, p.2) (takes_no_unit c.args.versions c.args.tables.now c.args.order _ _ c.in_ok-bytes.bytes.items held.0 held.1 c.in_err-unit.field-0.0 is_error)
+pub returns-in_err-table-clause-broken : goal.returns-in_err-table-clause-broken
+returns-in_err-table-clause-broken g c =
+    let p = err_from_is_err_and c.from_residual-in_err-table.result c.from_residual-in_err-table.ensures.1 in
+    let e = subst (λ (offset : ℕ). IsTableError c.args.tables.now offset c.in_err-table.field-0.0) c.abbrev_offset.ensures c.in_err-table.ensures.broken in
+    rw (p.1, p.2) (table_error c.args.versions c.args.tables.now c.args.order _ _ c.in_ok-header.header c.in_ok-header.unit_length c.in_ok-header.ensures.found c.in_err-table.field-0.0 e)
 
 pub returns-clause-found : goal.returns-clause-found
 returns-clause-found g c =
-    let held = c.in_ok-bytes.ensures.bytes in
-    let stands = subst (λ (b : List ℕ). UnitAtUnder c.args.versions c.args.tables.now c.args.order b c.in_ok-unit.unit c.in_ok-unit.field-0-1) c.as_slice.ensures.value c.in_ok-unit.ensures.found in
-    takes_unit c.args.versions c.args.tables.now c.args.order _ _ c.in_ok-bytes.bytes.items held.0 held.1 c.in_ok-unit.unit c.in_ok-unit.field-0-1 stands
+    let h : Header = c.in_ok-header.header in
+    let t : Table = c.in_ok-table.table.value in
+    let place : TableAt c.args.tables.now h.abbrev_offset t = subst (λ (offset : ℕ). TableAt c.args.tables.now offset t) c.abbrev_offset.ensures c.in_ok-table.ensures.found in
+    IfOk-weaker c.body_from.result _ _ (body_found c.args.versions c.args.tables.now c.args.order _ _ h c.in_ok-header.unit_length c.in_ok-header.ensures.found t place _) c.body_from.ensures.found
 
-pub returns-in_err-unit-clause-memory : goal.returns-in_err-unit-clause-memory
-returns-in_err-unit-clause-memory g c =
-    let p = err_from_is_err_and c.from_residual-in_err-unit.result c.from_residual-in_err-unit.ensures.1 in
-    let e = c.in_err-unit.field-0.0 in
-    let names = subst (λ (b : List ℕ). e ≡ refused_memory → NamesTableUnder c.args.versions c.args.tables.now c.args.order b) c.as_slice.ensures.value c.in_err-unit.ensures.memory in
-    rw (p.1, p.2) (kept_unit c.args.versions c.args.tables.now c.args.order _ _ c.in_ok-bytes.bytes.items e c.in_ok-bytes.ensures.bytes.0 names)
+pub returns-clause-broken : goal.returns-clause-broken
+returns-clause-broken g c =
+    let h : Header = c.in_ok-header.header in
+    let t : Table = c.in_ok-table.table.value in
+    let place : TableAt c.args.tables.now h.abbrev_offset t = subst (λ (offset : ℕ). TableAt c.args.tables.now offset t) c.abbrev_offset.ensures c.in_ok-table.ensures.found in
+    IfErr-weaker c.body_from.result _ _ (body_error c.args.versions c.args.tables.now c.args.order _ _ h c.in_ok-header.unit_length c.in_ok-header.ensures.found t place _) c.body_from.ensures.broken
+
+pub returns-clause-memory : goal.returns-clause-memory
+returns-clause-memory g c =
+    let h : Header = c.in_ok-header.header in
+    let t : Table = c.in_ok-table.table.value in
+    let place : TableAt c.args.tables.now h.abbrev_offset t = subst (λ (offset : ℕ). TableAt c.args.tables.now offset t) c.abbrev_offset.ensures c.in_ok-table.ensures.found in
+    body_memory c.args.versions c.args.tables.now c.args.order _ _ h c.in_ok-header.unit_length c.in_ok-header.ensures.found t place _ c.body_from.result c.body_from.ensures.broken

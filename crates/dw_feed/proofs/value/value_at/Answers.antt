@@ -9,6 +9,6 @@ use Rattle.dw_feed.proofs.value.value_at.Goals as goal
 
 pub returns-clause-exact : goal.returns-clause-exact
 returns-clause-exact c =
-    let p : Pair = pair_of c.args.pair in
+    let p : Pair = pair_of c.args.pair.now in
     lent_by (attribute c.args.context p.form.value p.constant) (read_attribute c.args.context p.form.value p.constant) (attribute_decides c.args.context p.form.value p.constant) c.args.b.now c.args.lim attribute_of c.lend_value.result
     c.lend_value.ensures.found c.lend_value.ensures.broken

@@ -12,13 +12,13 @@ use Rattle.dw_unit.specs.Draft.{Drafted}
 use Rattle.dw_feed.specs.BodyFeed.{PartialUnit}
 use Rattle.dw_feed.specs.FeedInvariant.{context, left}
 use Rattle.dw_feed.specs.ValueSteps.{behind_value, value_read}
-use Rattle.dw_feed.proofs.ValueRoom.{value_fits}
+use Rattle.dw_feed.proofs.ValueRoom.{value_fits, value_spelled}
 use Rattle.dw_feed.proofs.coming.Coming.give.Goals as goal
 
 pub settle-requires-clause-fits : goal.settle-requires-clause-fits
 settle-requires-clause-fits c =
     let g : PartialUnit = c.args.self.now in
-    let p : Pair = pair_of c.args.pair in
+    let p : Pair = pair_of c.args.pair.now in
     let k : c.context-context.result ≡ context g = c.context-context.ensures.context ∙ ap context_of (c.header.ensures ∙ ap (λ (d : Drafted). d.header) c.deref.ensures) ∙ ap context c.self.view_is in
     let taken = subst (λ (x : Ctx × ℕ). Taken (attribute x.0 p.form.value p.constant) c.args.bytes.now x.1 (attribute_of c.in-Ok.value) c.in-Ok.size) (ap₂ (λ (x : Ctx) (n : ℕ). (x, n)) k c.requires.lim) c.in-Ok.ensures.found in
     (value_fits g p c.requires.stands c.requires.next c.args.bytes.now (attribute_of c.in-Ok.value) c.in-Ok.size taken).0
@@ -26,15 +26,23 @@ settle-requires-clause-fits c =
 pub settle-requires-clause-short : goal.settle-requires-clause-short
 settle-requires-clause-short c =
     let g : PartialUnit = c.args.self.now in
-    let p : Pair = pair_of c.args.pair in
+    let p : Pair = pair_of c.args.pair.now in
     let k : c.context-context.result ≡ context g = c.context-context.ensures.context ∙ ap context_of (c.header.ensures ∙ ap (λ (d : Drafted). d.header) c.deref.ensures) ∙ ap context c.self.view_is in
     let taken = subst (λ (x : Ctx × ℕ). Taken (attribute x.0 p.form.value p.constant) c.args.bytes.now x.1 (attribute_of c.in-Ok.value) c.in-Ok.size) (ap₂ (λ (x : Ctx) (n : ℕ). (x, n)) k c.requires.lim) c.in-Ok.ensures.found in
     (value_fits g p c.requires.stands c.requires.next c.args.bytes.now (attribute_of c.in-Ok.value) c.in-Ok.size taken).1
 
+pub settle-requires-clause-spelled : goal.settle-requires-clause-spelled
+settle-requires-clause-spelled c =
+    let g : PartialUnit = c.args.self.now in
+    let p : Pair = pair_of c.args.pair.now in
+    let k : c.context-context.result ≡ context g = c.context-context.ensures.context ∙ ap context_of (c.header.ensures ∙ ap (λ (d : Drafted). d.header) c.deref.ensures) ∙ ap context c.self.view_is in
+    let taken = subst (λ (x : Ctx × ℕ). Taken (attribute x.0 p.form.value p.constant) c.args.bytes.now x.1 (attribute_of c.in-Ok.value) c.in-Ok.size) (ap₂ (λ (x : Ctx) (n : ℕ). (x, n)) k c.requires.lim) c.in-Ok.ensures.found in
+    value_spelled g p c.requires.stands c.requires.next c.args.bytes.now (attribute_of c.in-Ok.value) c.in-Ok.size taken
+
 pub returns-in-Ok-settle : goal.returns-in-Ok-settle
 returns-in-Ok-settle c =
     let g : PartialUnit = c.args.self.now in
-    let p : Pair = pair_of c.args.pair in
+    let p : Pair = pair_of c.args.pair.now in
     let v : Attribute = attribute_of c.in-Ok.value in
     let k : c.context-context.result ≡ context g = c.context-context.ensures.context ∙ ap context_of (c.header.ensures ∙ ap (λ (d : Drafted). d.header) c.deref.ensures) ∙ ap context c.self.view_is in
     let read : read_attribute (context g) p.form.value p.constant c.args.bytes.now (left g) ≡ Found v c.in-Ok.size =

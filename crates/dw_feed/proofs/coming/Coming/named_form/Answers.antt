@@ -34,7 +34,7 @@ pub own_value-requires-clause-stands : goal.own_value-requires-clause-stands
 own_value-requires-clause-stands c =
     let i = c.loop-form.invariant in
     let g : PartialUnit = c.loop-form.self in
-    let p : Pair = pair_of c.args.pair in
+    let p : Pair = pair_of c.args.pair.now in
     let kept : c.as_slice.result.now ≡ g.pending = c.as_slice.ensures.value ∙ ap (λ (x : PartialUnit). x.pending) c.self-in-loop-form.view_is in
     let taken = subst (λ (bs : List ℕ). Taken (judged uleb bad_inner) bs c.left-lim.result (uleb_of c.in-Ok.form) c.in-Ok.form.width) kept c.in-Ok.ensures.found in
     let at = value_named c.args.self.now c.args.b.now p g c.loop-form.rest.now i.at i.indirect i.unnamed (uleb_of c.in-Ok.form) c.left-lim.result i.lim_is taken in
@@ -44,7 +44,7 @@ pub own_value-requires-clause-has : goal.own_value-requires-clause-has
 own_value-requires-clause-has c =
     let i = c.loop-form.invariant in
     let g : PartialUnit = c.loop-form.self in
-    let p : Pair = pair_of c.args.pair in
+    let p : Pair = pair_of c.args.pair.now in
     let kept : c.as_slice.result.now ≡ g.pending = c.as_slice.ensures.value ∙ ap (λ (x : PartialUnit). x.pending) c.self-in-loop-form.view_is in
     let taken = subst (λ (bs : List ℕ). Taken (judged uleb bad_inner) bs c.left-lim.result (uleb_of c.in-Ok.form) c.in-Ok.form.width) kept c.in-Ok.ensures.found in
     let at = value_named c.args.self.now c.args.b.now p g c.loop-form.rest.now i.at i.indirect i.unnamed (uleb_of c.in-Ok.form) c.left-lim.result i.lim_is taken in
@@ -54,7 +54,7 @@ pub returns-in-Ok : goal.returns-in-Ok
 returns-in-Ok c =
     let i = c.loop-form.invariant in
     let g : PartialUnit = c.loop-form.self in
-    let p : Pair = pair_of c.args.pair in
+    let p : Pair = pair_of c.args.pair.now in
     let kept : c.as_slice.result.now ≡ g.pending = c.as_slice.ensures.value ∙ ap (λ (x : PartialUnit). x.pending) c.self-in-loop-form.view_is in
     let taken = subst (λ (bs : List ℕ). Taken (judged uleb bad_inner) bs c.left-lim.result (uleb_of c.in-Ok.form) c.in-Ok.form.width) kept c.in-Ok.ensures.found in
     let at = value_named c.args.self.now c.args.b.now p g c.loop-form.rest.now i.at i.indirect i.unnamed (uleb_of c.in-Ok.form) c.left-lim.result i.lim_is taken in
@@ -65,7 +65,7 @@ pub returns-then-not-is_cut : goal.returns-then-not-is_cut
 returns-then-not-is_cut c =
     let i = c.loop-form.invariant in
     let g : PartialUnit = c.loop-form.self in
-    let p : Pair = pair_of c.args.pair in
+    let p : Pair = pair_of c.args.pair.now in
     let kept : c.as_slice.result.now ≡ g.pending = c.as_slice.ensures.value ∙ ap (λ (x : PartialUnit). x.pending) c.self-in-loop-form.view_is in
     let read = refused_here g p i.indirect i.at.between i.unnamed c.as_slice.result.now kept c.left-lim.result i.lim_is c.in-Err.reason c.in-Err.ensures.exact in
     value_step c.args.self.now c.args.b.now p g c.loop-form.rest.now i.at (steps.Refused (length c.loop-form.rest.now) c.in-Err.reason) g
@@ -75,7 +75,7 @@ pub returns-in-None : goal.returns-in-None
 returns-in-None c =
     let i = c.loop-form.invariant in
     let g : PartialUnit = c.loop-form.self in
-    let p : Pair = pair_of c.args.pair in
+    let p : Pair = pair_of c.args.pair.now in
     let kept : c.as_slice.result.now ≡ g.pending = c.as_slice.ensures.value ∙ ap (λ (x : PartialUnit). x.pending) c.self-in-loop-form.view_is in
     let cut : c.in-Err.reason ≡ Truncated = told c.is_cut.result c.is_cut.ensures c.if-not-is_cut.false in
     let read = refused_here g p i.indirect i.at.between i.unnamed c.as_slice.result.now kept c.left-lim.result i.lim_is Truncated (c.in-Err.ensures.exact ∙ ap (λ (r : Reason). broken Unsigned 0 r) cut) in
@@ -85,7 +85,7 @@ pub loop-form-preserved : goal.loop-form-preserved
 loop-form-preserved c =
     let i = c.loop-form.invariant in
     let g : PartialUnit = c.loop-form.self in
-    let p : Pair = pair_of c.args.pair in
+    let p : Pair = pair_of c.args.pair.now in
     let kept : c.as_slice.result.now ≡ g.pending = c.as_slice.ensures.value ∙ ap (λ (x : PartialUnit). x.pending) c.self-in-loop-form.view_is in
     let cut : c.in-Err.reason ≡ Truncated = told c.is_cut.result c.is_cut.ensures c.if-not-is_cut.false in
     let read = refused_here g p i.indirect i.at.between i.unnamed c.as_slice.result.now kept c.left-lim.result i.lim_is Truncated (c.in-Err.ensures.exact ∙ ap (λ (r : Reason). broken Unsigned 0 r) cut) in

@@ -60,7 +60,7 @@ if_some P Q (Some x) f h = f x h
 pub unreachable-requires : goal.unreachable-requires
 unreachable-requires c =
     let g : PartialUnit = c.args.self.now in
-    let p : Pair = pair_of c.args.pair in
+    let p : Pair = pair_of c.args.pair.now in
     let b = begins g p c.requires.next c.requires.has c.requires.between c.requires.named c.requires.cut in
     let k = c.context-context.ensures.context ∙ ap context_of (c.header.ensures ∙ ap (λ (d : Drafted). d.header) c.deref.ensures) ∙ ap context c.self.view_is in
     let n = ap (λ (u : PartialUnit). u.named) c.self.view_is in
@@ -69,7 +69,7 @@ unreachable-requires c =
 pub returns-clause-some : goal.returns-clause-some
 returns-clause-some c =
     let g : PartialUnit = c.args.self.now in
-    let p : Pair = pair_of c.args.pair in
+    let p : Pair = pair_of c.args.pair.now in
     let b = begins g p c.requires.next c.requires.has c.requires.between c.requires.named c.requires.cut in
     let k = c.context-context.ensures.context ∙ ap context_of (c.header.ensures ∙ ap (λ (d : Drafted). d.header) c.deref.ensures) ∙ ap context c.self.view_is in
     let n = ap (λ (u : PartialUnit). u.named) c.self.view_is in
@@ -84,7 +84,7 @@ returns-clause-some c =
 pub returns-clause-none : goal.returns-clause-none
 returns-clause-none c none =
     let g : PartialUnit = c.args.self.now in
-    let p : Pair = pair_of c.args.pair in
+    let p : Pair = pair_of c.args.pair.now in
     let b = begins g p c.requires.next c.requires.has c.requires.between c.requires.named c.requires.cut in
     let k = c.context-context.ensures.context ∙ ap context_of (c.header.ensures ∙ ap (λ (d : Drafted). d.header) c.deref.ensures) ∙ ap context c.self.view_is in
     let n = ap (λ (u : PartialUnit). u.named) c.self.view_is in
@@ -97,7 +97,7 @@ returns-clause-none c none =
 pub returns-clause-more : goal.returns-clause-more
 returns-clause-more c none =
     let g : PartialUnit = c.args.self.now in
-    let p : Pair = pair_of c.args.pair in
+    let p : Pair = pair_of c.args.pair.now in
     let b = begins g p c.requires.next c.requires.has c.requires.between c.requires.named c.requires.cut in
     let k = c.context-context.ensures.context ∙ ap context_of (c.header.ensures ∙ ap (λ (d : Drafted). d.header) c.deref.ensures) ∙ ap context c.self.view_is in
     let n = ap (λ (u : PartialUnit). u.named) c.self.view_is in

@@ -26,7 +26,7 @@ pub returns-in-Whole : goal.returns-in-Whole
 returns-in-Whole c =
     let i = c.loop-reason.invariant.at in
     let g : PartialUnit = c.loop-reason.self in
-    let p : Pair = pair_of c.args.pair in
+    let p : Pair = pair_of c.args.pair.now in
     value_step c.args.self.now c.args.b.now p g c.loop-reason.rest.now i (steps.Found (length c.loop-reason.rest.now)) c.give_front.new.self
     (value_whole g p (part g) c.loop-reason.rest.now i.waits c.in-Whole.field-0 c.give_front.new.self c.in-Whole.ensures)
 
@@ -34,14 +34,14 @@ pub returns-then-not-is_cut : goal.returns-then-not-is_cut
 returns-then-not-is_cut c =
     let i = c.loop-reason.invariant.at in
     let g : PartialUnit = c.loop-reason.self in
-    let p : Pair = pair_of c.args.pair in
+    let p : Pair = pair_of c.args.pair.now in
     value_step c.args.self.now c.args.b.now p g c.loop-reason.rest.now i (steps.Refused (length c.loop-reason.rest.now) c.in-Broken.reason) c.give_front.new.self
     (value_refused g p (keeps_stands g i.keeps) i.next (part g) c.loop-reason.rest.now i.waits c.in-Broken.reason (told_not c.is_cut.result c.is_cut.ensures c.if-not-is_cut.true) c.in-Broken.ensures.0 c.give_front.new.self)
 
 pub returns-in-Some : goal.returns-in-Some
 returns-in-Some c =
     let i = c.loop-reason.invariant.at in
-    let p : Pair = pair_of c.args.pair in
+    let p : Pair = pair_of c.args.pair.now in
     let h : PartialUnit = c.give_front.new.self in
     let at = subst (λ (x : PartialUnit). InValue c.args.self.now c.args.b.now p x c.loop-reason.rest.now) (sym c.in-Broken.ensures.1) i in
     value_step c.args.self.now c.args.b.now p h c.loop-reason.rest.now at c.open.result c.open.new.self c.open.ensures
@@ -49,7 +49,7 @@ returns-in-Some c =
 pub returns-in-None : goal.returns-in-None
 returns-in-None c =
     let i = c.loop-reason.invariant.at in
-    let p : Pair = pair_of c.args.pair in
+    let p : Pair = pair_of c.args.pair.now in
     let h : PartialUnit = c.give_front.new.self in
     let at = subst (λ (x : PartialUnit). InValue c.args.self.now c.args.b.now p x c.loop-reason.rest.now) (sym c.in-Broken.ensures.1) i in
     let cut : c.in-Broken.reason ≡ Truncated = told c.is_cut.result c.is_cut.ensures c.if-not-is_cut.false in
@@ -59,7 +59,7 @@ returns-in-None c =
 pub loop-reason-preserved : goal.loop-reason-preserved
 loop-reason-preserved c =
     let i = c.loop-reason.invariant in
-    let p : Pair = pair_of c.args.pair in
+    let p : Pair = pair_of c.args.pair.now in
     let h : PartialUnit = c.give_front.new.self in
     let at = subst (λ (x : PartialUnit). InValue c.args.self.now c.args.b.now p x c.loop-reason.rest.now) (sym c.in-Broken.ensures.1) i.at in
     let cut : c.in-Broken.reason ≡ Truncated = told c.is_cut.result c.is_cut.ensures c.if-not-is_cut.false in

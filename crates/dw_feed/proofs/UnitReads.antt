@@ -1,0 +1,130 @@
+-- A unit that is read from a reader: what follows of its header, its table and what stands behind the header, one after the other.
+use Rattle.std.proofs.Common.{◌≡◌, ℕ, ◌+◌, ◌≤◌, ◌<◌, List, ◌++◌, length, Option, Result, Ok, Err, refl, sym, ap, subst, ◌∙◌, append_assoc, append-nil, arith, inl, inr, length-append}
+use Rattle.std.specs.Prelude.{IfErr}
+use Rattle.std.specs.Io.KnownBytes.{Consumes}
+use Rattle.dw_leb.specs.declared.errors.Fault.{Fault}
+use Rattle.dw_leb.specs.declared.errors.ReadError.{ReadError}
+use Rattle.dw_leb.specs.declared.errors.ReadError.TheVariants as reads
+use Rattle.dw_leb.specs.declared.errors.SectionId.{SectionId}
+use Rattle.dw_leb.specs.declared.order.Order.{Order}
+use Rattle.dw_leb.specs.Number.{length_size}
+use Rattle.dw_leb.specs.DecideNumber.{initial-size, initial_within}
+use Rattle.dw_leb.specs.Transfers.{consumes_more}
+use Rattle.dw_leb.specs.Watch.{KeptSome}
+use Rattle.dw_abbrev.specs.Table.{Table, TableAt}
+use Rattle.dw_abbrev.specs.TableErrors.{IsTableError}
+use Rattle.dw_header.specs.declared.versions.Versions.{Versions}
+use Rattle.dw_header.specs.Header.{Header, Accepts, versions_for, fields, fields_of}
+use Rattle.dw_header.specs.HeaderPlace.{HeaderAtUnder, header_bytes, header_size}
+use Rattle.dw_header.specs.Laws.{HasHeaderBytes, spelled_headers_stand}
+use Rattle.dw_unit.specs.Unit.{WholeUnit, bytes_of, FailsUnder}
+use Rattle.dw_unit.specs.UnitView.{IsUnitErrorUnder}
+use Rattle.dw_unit.specs.DecideUnit.{break_stays}
+use Rattle.dw_feed.specs.Feed.{InUnit, TakesUnitUnder, IsFeedErrorUnder, TakesNoUnitUnder}
+use Rattle.dw_feed.specs.BodyFeed.{started, stream, BreaksAt}
+use Rattle.dw_feed.specs.FedUnit.{started_stream, all_bytes, fed_broken, table_broken}
+use Rattle.dw_feed.specs.FeedReads.{TakesHeader, TakesNoHeader, TakesBody, IsBodyError, TakesNoBody}
+use Rattle.dw_feed.proofs.Cut.{length_bytes}
+use Rattle.dw_feed.proofs.Taking.{left_of, left_at_end, had_before, takes_of, length_some}
+
+-- no header
+pub header_error : (versions : Versions) (section : List ℕ) (order : Order) (old new : Option (List ℕ)) (e : ReadError) → TakesNoHeader versions order old new e → TakesNoUnitUnder versions section order old new e
+header_error versions section order old new (reads.Fault f) h = (h.0, h.1, subst (λ (s : SectionId). FailsUnder versions order section h.0 s f.offset f.reason) (sym h.2.0) (inl h.2.1), h.3)
+header_error versions section order old new reads.NoMemory h = absurd h.2
+header_error versions section order old new (reads.Io kind) h = (h.0, h.1, tt, h.3)
+
+-- what is said where the bytes are at hand is said of a reader
+feed_error : (versions : Versions) (section : List ℕ) (order : Order) (all : List ℕ) (e : ReadError) → IsUnitErrorUnder versions section order all e → IsFeedErrorUnder versions section order all e
+feed_error versions section order all (reads.Fault f) is = is
+feed_error versions section order all reads.NoMemory is = tt
+feed_error versions section order all (reads.Io kind) is = tt
+
+module _ (versions : Versions) (section : List ℕ) (order : Order) (old mid : Option (List ℕ)) (h : Header) (n : ℕ) (head : TakesHeader versions order old mid (h, n)) where
+  abbrev own : List ℕ
+  own = header_bytes h n
+
+  pub has : HasHeaderBytes h n
+  has = head.1.fits
+
+  took : Consumes old mid own
+  took = subst (λ (bs : List ℕ). Consumes old mid bs) head.1.all head.2
+
+  stands : (rest : List ℕ) → HeaderAtUnder versions order (own ++ rest) h n
+  stands rest = subst (λ (o : Order). HeaderAtUnder versions o (own ++ rest) h n) head.1.order_is (spelled_headers_stand versions h n rest head.1.accepted has)
+
+  -- bytes of the unit
+  inside : (rest : List ℕ) (m : ℕ) → m ≤ length_size h.format + n → InUnit order (own ++ rest) m
+  inside rest m le =
+      let f : List ℕ = (fields h.order h.format).spell (fields_of h) in
+      let size : length (length_bytes h.order (h.format, n)) ≡ length_size h.format = initial-size h.order 0 h.format n in
+      subst (λ (o : Order). InUnit o (own ++ rest) m) head.1.order_is
+      (inr ((h.format, n), record { rest = f ++ rest; fits = has.length_fits; split = append_assoc (length_bytes h.order (h.format, n)) f rest; is_size = size; within = omega (arith, initial_within h.order 0 h.format n, size) }, le))
+
+  sized : length own ≡ header_size h
+  sized = omega (arith, length-append (length_bytes h.order (h.format, n)) ((fields h.order h.format).spell (fields_of h)), initial-size h.order 0 h.format n)
+
+  header_some : 0 < length own
+  header_some = omega (arith, sized, length_some h.format)
+
+  -- ---- the table
+
+  -- it isn't there
+  pub table_error : (e : ReadError) → IsTableError section h.abbrev_offset e → TakesNoUnitUnder versions section order old mid e
+  table_error e is = (
+    own ++ left_of mid,
+    takes_of old mid own took,
+    feed_error versions section order (own ++ left_of mid) e (table_broken versions section order (own ++ left_of mid) h n (stands (left_of mid)) e is),
+    inside (left_of mid) (length own) (omega (arith, sized, has.within)),
+  )
+
+  -- ---- what stands behind the header
+
+  module _ (t : Table) (place : TableAt section h.abbrev_offset t) (new : Option (List ℕ)) where
+    pub body_found : (u : WholeUnit) → TakesBody (started h n t) mid new u → TakesUnitUnder versions section order old new u
+    body_found u it =
+        let whole : own ++ it.taken ≡ bytes_of u = ap (λ (bs : List ℕ). bs ++ it.taken) (sym (started_stream h n t)) ∙ it.whole in
+        let all : Consumes old new (bytes_of u) = subst (λ (bs : List ℕ). Consumes old new bs) whole (consumes_more old mid new own it.taken took it.consumed) in
+        let place_is : TableAt section u.header.abbrev_offset u.table = subst (λ (x : Header). TableAt section x.abbrev_offset u.table) (sym it.header_is) (subst (TableAt section h.abbrev_offset) (sym it.table_is) place) in
+        let accepts : Accepts versions u.header.kind = subst (λ (x : Header). Accepts versions x.kind) (sym it.header_is) head.1.accepted in (
+          bytes_of u ++ left_of new,
+          had_before old new (bytes_of u) all,
+          record {
+            table_at = place_is;
+            front = record { order_is = ap (λ (x : Header). x.order) it.header_is ∙ head.1.order_is; accepted = accepts; fits = it.fits; rest = left_of new; split = refl; is_size = refl };
+          },
+          all,
+        )
+
+    -- a fault of what was taken is that of all
+    all_break : (taken : List ℕ) (f : Fault) → IsBodyError (started h n t) taken new (reads.Fault f) → BreaksAt (started h n t) ((own ++ taken) ++ left_of new) f
+    all_break taken f is = subst (λ (bs : List ℕ). BreaksAt (started h n t) ((bs ++ taken) ++ left_of new) f) (started_stream h n t) (elim is.1 [
+      | inl for_good ↦ (is.0.0, break_stays (versions_for h.kind) h.order t (stream (started h n t) ++ taken) (left_of new) f.offset f.reason for_good is.0.1)
+      | inr end ↦ subst (λ (bs : List ℕ). BreaksAt (started h n t) bs f) (sym (append-nil (stream (started h n t) ++ taken)) ∙ ap (λ (bs : List ℕ). (stream (started h n t) ++ taken) ++ bs) (sym (left_at_end new end))) is.0
+    ])
+
+    body_fault : (taken : List ℕ) (f : Fault) → IsBodyError (started h n t) taken new (reads.Fault f) → IsFeedErrorUnder versions section order ((own ++ taken) ++ left_of new) (reads.Fault f)
+    body_fault taken f is =
+        let all : List ℕ = (own ++ taken) ++ left_of new in
+        let there : HeaderAtUnder versions order all h n = subst (λ (bs : List ℕ). HeaderAtUnder versions order bs h n) (sym (append_assoc own taken (left_of new))) (stands (taken ++ left_of new)) in
+        let behind = subst (λ (bs : List ℕ). BreaksAt (started h n t) bs f) (sym (all_bytes versions section order all h n there t (header_size h) refl)) (all_break taken f is) in
+        fed_broken versions section order all h n there t (header_size h) refl place (reads.Fault f) behind
+
+    body_tells : (taken : List ℕ) (e : ReadError) → IsBodyError (started h n t) taken new e → IsFeedErrorUnder versions section order ((own ++ taken) ++ left_of new) e
+    body_tells taken (reads.Fault f) is = body_fault taken f is
+    body_tells taken reads.NoMemory is = tt
+    body_tells taken (reads.Io kind) is = tt
+
+    pub body_error : (e : ReadError) → TakesNoBody (started h n t) mid new e → TakesNoUnitUnder versions section order old new e
+    body_error e (taken, next, le, is) = (
+      (own ++ taken) ++ left_of new,
+      takes_of old new (own ++ taken) (consumes_more old mid new own taken took next),
+      body_tells taken e is,
+      subst (λ (bs : List ℕ). InUnit order bs (length (own ++ taken))) (sym (append_assoc own taken (left_of new)))
+          (inside (taken ++ left_of new) (length (own ++ taken)) (omega (arith, length-append own taken, sized, le, has.within))),
+    )
+
+    pub body_memory : {X : Type 0} (r : Result X ReadError) → IfErr r (TakesNoBody (started h n t) mid new) → KeptSome old new r
+    body_memory (Ok x) it = tt
+    body_memory (Err (reads.Fault f)) it = tt
+    body_memory (Err reads.NoMemory) it = (own ++ it.0, omega (arith, header_some, length-append own it.0), consumes_more old mid new own it.0 took it.1)
+    body_memory (Err (reads.Io kind)) it = tt

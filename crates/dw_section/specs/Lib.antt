@@ -1,0 +1,17 @@
+pub mod Item
+pub mod ItemPlace
+pub mod Section
+pub mod ReadSection
+pub mod DecideItem
+pub mod DecideSection
+pub mod Laws
+pub mod SectionLaws
+pub mod Streamed
+pub mod Reference
+pub mod Lookup
+pub mod ItemView
+pub mod Push
+pub mod SectionView
+pub mod FedItems
+pub mod Found
+pub mod ReferenceLaws

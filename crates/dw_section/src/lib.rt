@@ -1,0 +1,19 @@
+//! Whole sections `.debug_info` (section 7.5), and references between entries (sections 2.2 and 7.5.5).
+#![tactic(auto)]
+
+mod find;
+mod id;
+mod item;
+mod kind;
+pub mod laws;
+mod lists;
+mod refusal;
+mod resolve;
+mod section;
+mod writer;
+
+pub use id::{EntryId, RefFault};
+pub use item::Item;
+pub use refusal::SectionRefusal;
+pub use section::Section;
+pub use writer::write_section;
