@@ -4,10 +4,10 @@ ghost use Rattle.std.specs.Prelude.{◌≤◌, length};
 
 use crate::common::{FIFTEEN, NAMED, PADDED, TYPED, WITH_A_CHILD, spells};
 use dw_abbrev::Tables;
-use dw_feed::{BodyFeed, Progress};
+use dw_feed::{BodyFeed, Held, Progress};
 use dw_leb::{Fault, Order, Reason, SectionId};
 use dw_unit::read_header;
-use std::alloc::Global;
+use std::alloc::{AllocError, Global};
 use std::process::Abort;
 use std::test::Fail;
 
@@ -321,5 +321,77 @@ fn what_is_kept_of_a_number(rt: HostRuntime) -> Result<(), Fail> {
     assert!(rt; feed.pending() == 0);
     assert!(rt; push(&mut feed, &[0x81]) == (1, Said::More) && feed.pending() == 1);
     assert!(rt; push(&mut feed, &[0]) == (1, Said::More) && feed.pending() == 0);
+    Ok(())
+}
+
+/// What a feed holds.
+const fn held(pending: usize, nested: usize, entries: u64, values: u128, pool: usize) -> Held {
+    Held {
+        pending,
+        nested,
+        entries,
+        values,
+        pool,
+    }
+}
+
+/// Whether a piece is taken whole and answered so, and so much is held then.
+fn holds(feed: &mut BodyFeed, piece: &[u8], said: Said, want: Held) -> bool {
+    push(feed, piece) == (piece.len(), said) && feed.held() == want
+}
+
+#[test]
+fn what_is_held_of_entries(rt: HostRuntime) -> Result<(), Fail> {
+    let mut feed = feed(rt.alloc(), &TYPED, 14)?;
+    assert!(rt; feed.held() == held(0, 0, 0, 0, 0));
+    assert!(rt; holds(&mut feed, &[0x01, 0x61], Said::More, held(0, 1, 1, 0, 1)));
+    assert!(rt; holds(&mut feed, &[0, 0x02], Said::More, held(0, 2, 2, 1, 1)));
+    assert!(rt; holds(&mut feed, &[0x04, 0], Said::Done, held(0, 0, 0, 0, 0)));
+    Ok(())
+}
+
+#[test]
+fn what_is_held_of_a_number(rt: HostRuntime) -> Result<(), Fail> {
+    let mut feed = feed(rt.alloc(), &SIZED, 13)?;
+    assert!(rt;
+        holds(
+            &mut feed,
+            &[0x01, 0x02, 0x03],
+            Said::More,
+            held(2, 1, 1, 0, 0)
+        )
+    );
+    Ok(())
+}
+
+#[test]
+fn what_is_held_of_a_block(rt: HostRuntime) -> Result<(), Fail> {
+    let mut feed = feed(rt.alloc(), &BLOCK4, 15)?;
+    assert!(rt; holds(&mut feed, &[0x01, 0x02, 0], Said::More, held(2, 1, 1, 0, 0)));
+    assert!(rt; holds(&mut feed, &[0, 0, 0x61], Said::More, held(0, 1, 1, 0, 1)));
+    Ok(())
+}
+
+/// Code 1, DW_TAG_compile_unit, no children, and so many times DW_AT_name as DW_FORM_flag_present.
+fn flags(alloc: Global, count: usize) -> Result<Vec<u8>, AllocError> {
+    let mut section = Vec::new(alloc);
+    section.extend_from_slice(&[0x01, 0x11, 0])?;
+    for _ in 0..count {
+        section.extend_from_slice(&[0x03, 0x19])?;
+    }
+    section.extend_from_slice(&[0, 0, 0])?;
+    Ok(section)
+}
+
+/// A feed of a unit of an entry with so many values without a byte, of which a byte is left behind it.
+fn flagged(alloc: Global, count: usize) -> Result<BodyFeed, Fail> {
+    let section = flags(alloc, count)?;
+    feed(alloc, section.as_slice(), 10)
+}
+
+#[test]
+fn what_is_held_of_values_without_bytes(rt: HostRuntime) -> Result<(), Fail> {
+    let mut feed = flagged(rt.alloc(), 1024)?;
+    assert!(rt; holds(&mut feed, &[0x01], Said::More, held(0, 0, 1, 1024, 0)));
     Ok(())
 }

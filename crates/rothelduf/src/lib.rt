@@ -10,7 +10,8 @@
 //!   so from any reader; `read_unit_as` and `read_unit_from_as` also read units of version 4, where
 //!   `Versions` says so;
 //! - `HeadFeed` and `BodyFeed` take a header, and the rest of its unit, that their caller pushes in pieces of
-//!   any size, and answer by `Progress` at the first byte that shows the header, the unit or its fault;
+//!   any size, and answer by `Progress` at the first byte that shows the header, the unit or its fault; `Held`
+//!   counts what a `BodyFeed` holds;
 //! - `Unit` hands out its entries (`EntryRef`) and their attributes (`AttrRef`), borrowed;
 //! - `UnitBuilder` makes a unit entry by entry, over a table of `TableBuilder`;
 //! - `Section` holds the units of a whole section: looked up by item, `EntryId` and offset; `Section::resolve`
@@ -22,7 +23,7 @@
 
 pub use dw_abbrev::{Decl, Pair, Table, TableBuilder, TableRefusal, Tables};
 pub use dw_feed::{
-    BodyFeed, HeadFeed, Progress, read_unit, read_unit_as, read_unit_from, read_unit_from_as,
+    BodyFeed, HeadFeed, Held, Progress, read_unit, read_unit_as, read_unit_from, read_unit_from_as,
 };
 pub use dw_form::{AttrValue, Ctx, Shape, Value};
 pub use dw_leb::{
