@@ -7,6 +7,7 @@ mod bytes;
 mod code;
 mod coming;
 mod content;
+mod entry;
 mod head;
 pub mod laws;
 mod progress;
