@@ -12,4 +12,5 @@ mod HeadFeedRows
 mod DraftRoom
 mod ValueRoom
 mod Turns
+mod EntryLemmas
 mod Zero

@@ -225,12 +225,15 @@ module _ (g0 : PartialUnit) (piece : List ℕ) (g : PartialUnit) (rest : List �
         by None h = refl
         by (Some x) h = absurd cc
 
-    none_part : part new ≡ []
+    pub none_part : part new ≡ []
     none_part = ap part says.4 ∙ ap (λ (o : Option PartialValue). value_part (moved_to q.0 q.1 g) o ++ []) progress.free
 
     pub goes_at : is_some (root_if_whole new) ≡ false → At g0 piece new (part new ++ drop (length rest - over) rest)
     goes_at h =
         subst (At g0 piece new) (rest_is ∙ ap (λ (bs : List ℕ). bs ++ drop (length rest - over) rest) (sym none_part)) (subst (λ (u : PartialUnit). At g0 piece u (drop size bytes)) (sym says.4) (goes_on g0 piece g bytes at q size seen (ap root_if_whole (sym says.4) ∙ none_whole h)))
+
+    pub none_partial : partial_in new.place.unfinished ≡ None
+    none_partial = ap (λ (u : PartialUnit). partial_in u.place.unfinished) says.4 ∙ progress.free
 
     pub goes_waits : Waits new
     goes_waits = inr none_part

@@ -41,3 +41,4 @@ pub mod EmptyPiece
 pub mod ContentSteps
 pub mod NamedValues
 pub mod LengthFields
+pub mod EntrySteps

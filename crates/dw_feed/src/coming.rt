@@ -190,6 +190,21 @@ impl Coming {
         requires waits { Waits self.old }
         ensures { TakenSays self.old piece.now result self.new }
     {
+        match self.draft.share_table() {
+            Ok(table) => self.take_over(Some(&table), piece),
+            Err(_) => self.take_over(None, piece),
+        }
+    }
+
+    /// The same, where the table of the entries' declarations is at hand, or isn't.
+    fn take_over(&mut self, table: Option<&Table>, piece: &[u8]) -> Taken
+        requires over { IfSome table (λ t. t.now ≡ self.old.table) }
+        requires stands { Keeps self.old }
+        requires has { HasPart self.old }
+        requires fit { AreBytes (part self.old) }
+        requires waits { Waits self.old }
+        ensures { TakenSays self.old piece.now result self.new }
+    {
         let mut left = piece;
         loop {
             let here = self.draft.size();
@@ -199,6 +214,7 @@ impl Coming {
                     if self.is_whole() {
                         return Taken::Whole(over);
                     }
+                    left = self.values_at_once(table, left);
                 }
                 Step::Wanting => return Taken::More,
                 Step::Refused(over, reason) => return Taken::Refused(over, fault_at(here, reason)),

@@ -1,5 +1,5 @@
 //! A unit under construction whose entries and values are counted.
-ghost use Rattle.std.specs.Prelude.{◌≡◌, ◌≢◌, ◌<◌, [], length, true, false, None, Some, IsSome, option_map, OnOk};
+ghost use Rattle.std.specs.Prelude.{◌≡◌, ◌≢◌, ◌<◌, [], length, true, false, None, Some, IsSome, option_map, OnOk, OnErr};
 ghost use Rattle.dw_leb.specs.View.{uleb_of};
 ghost use Rattle.dw_form.specs.Lent.{attribute_of};
 ghost use Rattle.dw_abbrev.specs.Build.{is_width};
@@ -100,6 +100,7 @@ impl Counted {
         requires spelled { spelling.now ≡ value_bytes self.old (attribute_of value.now) }
         requires short { passes_limit self.old (length (value_bytes self.old (attribute_of value.now))) ≡ false }
         ensures ok { OnOk result (self.new ≡ given (attribute_of value.now) self.old) }
+        ensures err { OnErr result (self.new ≡ self.old) }
     {
         self.draft.spelled_value(value, spelling)?;
         self.values += 1;

@@ -8,6 +8,7 @@ mod code;
 mod coming;
 mod content;
 mod counted;
+mod entry;
 mod head;
 mod held;
 pub mod laws;

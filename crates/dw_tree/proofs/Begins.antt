@@ -9,12 +9,12 @@ use Rattle.dw_form.specs.declared.shape.Ctx.{Ctx}
 use Rattle.dw_form.specs.Form.{Attribute}
 use Rattle.dw_form.specs.StoredView.{text_or_block, value_bytes}
 use Rattle.dw_tree.specs.declared.row.Row.{Row}
-use Rattle.dw_abbrev.specs.Table.{Table}
+use Rattle.dw_abbrev.specs.Table.{Table, Pair}
 use Rattle.dw_tree.specs.Tree.{Forest}
 use Rattle.dw_leb.specs.View.{uleb_of}
 use Rattle.dw_tree.specs.Place.{Frame, Spot, rows_before, spot_after, UnfinishedEntry, Place}
 use Rattle.dw_tree.specs.Flat.{place_of, unfinished_of}
-use Rattle.dw_tree.specs.Steps.{Growing, given_partial, partial_in, next_pair, end_of, whole_tree}
+use Rattle.dw_tree.specs.Steps.{Growing, given_partial, partial_in, next_pair, next_pairs, end_of, whole_tree}
 use Rattle.dw_tree.specs.Row.{Token}
 use Rattle.dw_tree.specs.PoolBytes.{joined, held, held_in, partial_bytes}
 use Rattle.dw_tree.specs.RowHeads.{heads, rows_heads, unfinished_heads, heads_in, Account}
@@ -245,3 +245,10 @@ if_some P (Some x) h = h refl
 
 pub settled_room : (o : Option Unfinished) (a b c d : ℕ) → (IsSome o → a < b) → (IsSome o → c < d) → HasRoom o a b c d
 settled_room o a b c d h k = record { row = if_some (a < b) o h; place = if_some (c < d) o k }
+
+-- the pairs that are left are those of the unfinished entry, with a partial value or without
+pub given_pairs : (t : Table) (o : Option StoredPartial) (pool : List ℕ) (vs : List Attribute) (q : Option Unfinished) (s : Spot) (ps : List Pair)
+    → IfSome (option_map (entry_with vs) q) (λ r. ps ≡ next_pairs t r) → IfSome (place_with o pool (record { spot = s; unfinished = option_map (entry_with vs) q })).unfinished (λ r. ps ≡ next_pairs t r)
+given_pairs t None pool vs q s ps h = h
+given_pairs t (Some b) pool vs None s ps h = tt
+given_pairs t (Some b) pool vs (Some r) s ps h = h

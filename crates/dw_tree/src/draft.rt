@@ -1,5 +1,5 @@
 //! A tree under construction.
-ghost use Rattle.std.specs.Prelude.{◌≡◌, ◌≢◌, ◌+◌, ◌<◌, ◌≤◌, ◌^◌, ◌-◌, ◌*◌, [], length, option_map, IfOk, IfSome, None, Some, is_some, IsSome, OnOk, OnErr, vec_len, vec_capacity};
+ghost use Rattle.std.specs.Prelude.{◌≡◌, ◌≢◌, ◌+◌, ◌<◌, ◌≤◌, ◌^◌, ◌-◌, ◌*◌, [], length, map, option_map, IfOk, IfSome, None, Some, is_some, IsSome, OnOk, OnErr, vec_len, vec_capacity};
 ghost use Rattle.dw_leb.specs.Number.{uleb};
 ghost use Rattle.dw_leb.specs.View.{uleb_of};
 ghost use Rattle.dw_form.specs.Form.{IsContext};
@@ -15,7 +15,7 @@ ghost use Rattle.dw_tree.specs.RowHeads.{heads_in};
 ghost use Rattle.dw_tree.specs.Emptiness.{is_bare};
 ghost use Rattle.dw_tree.specs.declared.row.RowKind.TheVariants.{Null};
 ghost use Rattle.dw_tree.specs.Completed.{row_with, settled_rows, settled_open, settled_unfinished};
-ghost use Rattle.dw_tree.specs.Steps.{begun_at, with_value, partial_in, partial_attribute, started, extended, ended, closed_at, undone, end_of, NextFits, next_bytes, next_front, next_pair, finished};
+ghost use Rattle.dw_tree.specs.Steps.{begun_at, with_value, partial_in, partial_attribute, started, extended, ended, closed_at, undone, end_of, NextFits, next_bytes, next_front, next_pair, next_pairs, finished};
 
 use crate::row::{PartialValue, Row, RowKind, Unfinished};
 use crate::tree::EntryTree;
@@ -287,6 +287,29 @@ impl TreeDraft {
         let unfinished = self.unfinished?;
         let decl = self.table.get(unfinished.code.value)?;
         Some(decl.pairs()[unfinished.given])
+    }
+
+    /// The same table, shared. `AllocError` where it is shared as often as it can be.
+    pub fn share_table(&self) -> Result<Rc<Table>, AllocError>
+        ensures { IfOk result (λ t. t.value ≡ self.now.table) }
+    {
+        self.table.clone()
+    }
+
+    /// The pairs whose values the unfinished entry is still to be given (section 7.5.3), out of the table of
+    /// its entries' declarations. None where no entry is read.
+    pub fn next_pairs<'a>(&self, table: &'a Table) -> &'a [Pair]
+        requires { table.now ≡ self.now.table }
+        ensures some { IfSome self.now.place.unfinished (λ r. map pair_of result.now ≡ next_pairs self.now.table r) }
+        ensures none { self.now.place.unfinished ≡ None → result.now ≡ [] }
+    {
+        let Some(unfinished) = self.unfinished else {
+            return &[];
+        };
+        match table.get(unfinished.code.value) {
+            Some(decl) => &decl.pairs()[unfinished.given..],
+            None => &[],
+        }
     }
 
     /// How many entries are open.

@@ -1,5 +1,5 @@
 //! Units under construction, step by step (sections 2.3 and 7.5).
-ghost use Rattle.std.specs.Prelude.{◌≡◌, ◌≢◌, ◌≤◌, ◌<◌, ◌+◌, ◌↔◌, [], length, IsTrue, true, false, None, Some, is_some, IsSome, IfSome, option_map, OnOk, OnErr};
+ghost use Rattle.std.specs.Prelude.{◌≡◌, ◌≢◌, ◌≤◌, ◌<◌, ◌+◌, ◌↔◌, [], length, IsTrue, true, false, None, Some, is_some, IsSome, IfSome, option_map, map, IfOk, OnOk, OnErr};
 ghost use Rattle.dw_leb.specs.View.{uleb_of};
 ghost use Rattle.dw_form.specs.HeadFront.{front_bytes};
 ghost use Rattle.dw_form.specs.Lent.{attribute_of};
@@ -9,7 +9,7 @@ ghost use Rattle.dw_abbrev.specs.Table.{declared, zero_of};
 ghost use Rattle.dw_tree.specs.Tree.{nesting};
 ghost use Rattle.dw_tree.specs.PoolBytes.{held_in};
 ghost use Rattle.dw_tree.specs.Emptiness.{is_bare};
-ghost use Rattle.dw_tree.specs.Steps.{partial_in, NextFits, next_pair};
+ghost use Rattle.dw_tree.specs.Steps.{partial_in, NextFits, next_pair, next_pairs};
 ghost use Rattle.dw_header.specs.Header.{context_of};
 ghost use Rattle.dw_unit.specs.Unit.{UnitFits, bytes_of};
 ghost use Rattle.dw_header.specs.HeaderPlace.{header_size};
@@ -266,6 +266,13 @@ impl Draft {
         self.tree.table()
     }
 
+    /// The same table, shared. `AllocError` where it is shared as often as it can be.
+    pub fn share_table(&self) -> Result<Rc<Table>, AllocError>
+        ensures { IfOk result (λ t. t.value ≡ self.now.table) }
+    {
+        self.tree.share_table()
+    }
+
     /// The count of its bytes so far, with those of the initial length and of the unfinished entry,
     /// but not those of a partial value. It is less than 2^32 - 12 in the 32-bit format, and less
     /// than 2^63 in the 64-bit format.
@@ -283,6 +290,16 @@ impl Draft {
         ensures unfinished { is_some result ≡ is_some self.now.place.unfinished }
     {
         self.tree.next_pair()
+    }
+
+    /// The pairs whose values the unfinished entry is still to be given (section 7.5.3), out of the table of
+    /// its entries' declarations. None where no entry is read.
+    pub fn next_pairs<'a>(&self, table: &'a Table) -> &'a [Pair]
+        requires { table.now ≡ self.now.table }
+        ensures some { IfSome self.now.place.unfinished (λ r. map pair_of result.now ≡ next_pairs self.now.table r) }
+        ensures none { self.now.place.unfinished ≡ None → result.now ≡ [] }
+    {
+        self.tree.next_pairs(table)
     }
 
     /// The partial text or block, with its bytes so far.

@@ -1,0 +1,82 @@
+use Rattle.std.proofs.Common.{◌≡◌, ◌++◌, ◌<◌, ◌-◌, ℕ, List, length, sym, ap, subst, ◌∙◌, arith, inr, length-drop}
+use Rattle.std.specs.Prelude.{IfSome}
+use Rattle.dw_abbrev.specs.Table.{Table}
+use Rattle.dw_leb.specs.Field.{are_bytes}
+use Rattle.dw_leb.specs.declared.errors.Reason.{Reason}
+use Rattle.dw_leb.specs.declared.errors.Fault.{Fault}
+use Rattle.dw_leb.specs.declared.errors.SectionId.TheVariants.{Info}
+use Rattle.dw_unit.specs.Draft.{drafted_size}
+use Rattle.dw_feed.specs.declared.progress.Progress.TheVariants as answers
+use Rattle.dw_feed.specs.BodyFeed.{PartialUnit, Refused, part, before}
+use Rattle.dw_feed.specs.BodyView.{drafted}
+use Rattle.dw_feed.specs.PlainFeed.{ran, fault_at}
+use Rattle.dw_feed.proofs.DraftRoom.{size_before}
+use Rattle.dw_feed.specs.FeedSteps.{At, RanSays, at_first}
+use Rattle.dw_leb.specs.ByteLists.{joined_are_bytes}
+use Rattle.dw_feed.proofs.Turns.{turns, over_within, behind_stands, whole_says, none_partial, goes_at, goes_has, goes_less, wanting_says, refused_says}
+use Rattle.dw_feed.proofs.EntryLemmas.{found_none_kept, found_table, turns_on, turns_less}
+use Rattle.dw_feed.proofs.coming.Coming.take_over.Goals as goal
+
+abbrev fault_of_offset : ℕ → Reason → Fault
+fault_of_offset n reason = record { section = Info; offset = n; reason = reason }
+
+pub loop-over-init : goal.loop-over-init
+loop-over-init c =
+    let fit = are_bytes c.args.piece.now (λ k. omega (arith, c.type_inv.piece k)) in
+    record { at = at_first c.args.self.now c.args.piece.now c.requires.stands (joined_are_bytes (part c.args.self.now) c.args.piece.now c.requires.fit fit) c.requires.waits; has = c.requires.has; waits = c.requires.waits; over = c.requires.over }
+
+pub last-left-requires : goal.last-left-requires
+last-left-requires c = over_within c.args.self.now c.args.piece.now c.loop-over.self c.loop-over.left.now c.loop-over.invariant.at c.loop-over.invariant.waits c.in-Found.over c.step.new.self c.in-Found.ensures
+
+pub is_whole-requires : goal.is_whole-requires
+is_whole-requires c = behind_stands c.args.self.now c.args.piece.now c.loop-over.self c.loop-over.left.now c.loop-over.invariant.at c.loop-over.invariant.waits c.in-Found.over c.step.new.self c.in-Found.ensures
+
+pub returns-then-is_whole : goal.returns-then-is_whole
+returns-then-is_whole c = whole_says c.args.self.now c.args.piece.now c.loop-over.self c.loop-over.left.now c.loop-over.invariant.at c.loop-over.invariant.waits c.in-Found.over c.step.new.self c.in-Found.ensures (sym c.is_whole.ensures ∙ c.if-is_whole.true)
+
+pub values_at_once-left-requires-clause-over : goal.values_at_once-left-requires-clause-over
+values_at_once-left-requires-clause-over c =
+    subst (λ (t : Table). IfSome c.args.table (λ x. x.now ≡ t)) (sym (found_table c.loop-over.self (part c.loop-over.self ++ c.loop-over.left.now) c.in-Found.over c.step.new.self c.in-Found.ensures)) c.loop-over.invariant.over
+
+pub values_at_once-left-requires-clause-stands : goal.values_at_once-left-requires-clause-stands
+values_at_once-left-requires-clause-stands c = (goes_at c.args.self.now c.args.piece.now c.loop-over.self c.loop-over.left.now c.loop-over.invariant.at c.loop-over.invariant.waits c.in-Found.over c.step.new.self c.in-Found.ensures (sym c.is_whole.ensures ∙ c.if-is_whole.false)).keeps
+
+pub values_at_once-left-requires-clause-has : goal.values_at_once-left-requires-clause-has
+values_at_once-left-requires-clause-has c = goes_has c.args.self.now c.args.piece.now c.loop-over.self c.loop-over.left.now c.loop-over.invariant.at c.loop-over.invariant.waits c.in-Found.over c.step.new.self c.in-Found.ensures
+
+pub values_at_once-left-requires-clause-none_kept : goal.values_at_once-left-requires-clause-none_kept
+values_at_once-left-requires-clause-none_kept c = found_none_kept c.loop-over.self (part c.loop-over.self ++ c.loop-over.left.now) c.in-Found.over c.step.new.self c.in-Found.ensures
+
+pub values_at_once-left-requires-clause-between : goal.values_at_once-left-requires-clause-between
+values_at_once-left-requires-clause-between c = none_partial c.args.self.now c.args.piece.now c.loop-over.self c.loop-over.left.now c.loop-over.invariant.at c.loop-over.invariant.waits c.in-Found.over c.step.new.self c.in-Found.ensures
+
+pub loop-over-smaller : goal.loop-over-smaller
+loop-over-smaller c =
+    let l = goes_less c.args.self.now c.args.piece.now c.loop-over.self c.loop-over.left.now c.loop-over.invariant.at c.loop-over.invariant.waits c.in-Found.over c.step.new.self c.in-Found.ensures in
+    let w = over_within c.args.self.now c.args.piece.now c.loop-over.self c.loop-over.left.now c.loop-over.invariant.at c.loop-over.invariant.waits c.in-Found.over c.step.new.self c.in-Found.ensures in
+    let n : c.in-Found.over ≡ length c.last-left.result.now = omega (arith, w, ap length c.last-left.ensures, length-drop (length c.loop-over.left.now - c.in-Found.over) c.loop-over.left.now) in
+    let less : turns c.step.new.self (length c.last-left.result.now) < turns c.loop-over.self (length c.loop-over.left.now) = subst (λ (m : ℕ). turns c.step.new.self m < turns c.loop-over.self (length c.loop-over.left.now)) n l in
+    let more = turns_on c.step.new.self c.last-left.result.now c.values_at_once-left.new.self c.values_at_once-left.result.now c.values_at_once-left.ensures in
+    turns_less c.values_at_once-left.new.self c.step.new.self c.loop-over.self c.values_at_once-left.result.now c.last-left.result.now c.loop-over.left.now more less
+
+pub loop-over-preserved : goal.loop-over-preserved
+loop-over-preserved c =
+    let on = c.values_at_once-left.ensures in
+    record {
+      at = on.at c.args.self.now c.args.piece.now (subst (λ (bs : List ℕ). At c.args.self.now c.args.piece.now c.step.new.self (part c.step.new.self ++ bs)) (sym c.last-left.ensures)
+          (goes_at c.args.self.now c.args.piece.now c.loop-over.self c.loop-over.left.now c.loop-over.invariant.at c.loop-over.invariant.waits c.in-Found.over c.step.new.self c.in-Found.ensures (sym c.is_whole.ensures ∙ c.if-is_whole.false)));
+      has = on.has;
+      waits = inr on.none_there;
+      over = subst (λ (t : Table). IfSome c.args.table (λ x. x.now ≡ t)) (sym (on.same_table ∙ found_table c.loop-over.self (part c.loop-over.self ++ c.loop-over.left.now) c.in-Found.over c.step.new.self c.in-Found.ensures)) c.loop-over.invariant.over;
+    }
+
+pub returns-in-Wanting : goal.returns-in-Wanting
+returns-in-Wanting c = wanting_says c.args.self.now c.args.piece.now c.loop-over.self c.loop-over.left.now c.loop-over.invariant.at c.loop-over.invariant.waits c.step.new.self c.in-Wanting.ensures
+
+pub returns-in-Refused : goal.returns-in-Refused
+returns-in-Refused c =
+    let g : PartialUnit = c.loop-over.self in
+    let offset : c.size-here.result ≡ length (before g) = c.size-here.ensures.size ∙ ap drafted_size c.deref.ensures ∙ ap (λ (x : PartialUnit). drafted_size (drafted x)) c.self.view_is ∙ size_before g in
+    let fault : fault_at g c.in-Refused.reason ≡ c.fault_at.result = ap (λ (n : ℕ). fault_of_offset n c.in-Refused.reason) (sym offset) ∙ sym c.fault_at.ensures in
+    subst (λ (f : Fault). RanSays c.args.self.now c.args.piece.now (ran (answers.Fault f) (Refused f) c.in-Refused.over)) fault
+    (refused_says c.args.self.now c.args.piece.now g c.loop-over.left.now c.loop-over.invariant.at c.loop-over.invariant.waits c.in-Refused.over c.in-Refused.reason c.step.new.self c.in-Refused.ensures)
