@@ -118,6 +118,7 @@ impl Table {
     pub fn pairs_are_few(&self)
         ensures { FewPairs self.now }
     {
+        // A look inside tells the proof what is true of every table.
         let _declarations = &self.decls;
     }
 
