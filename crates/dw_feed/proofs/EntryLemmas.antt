@@ -2,11 +2,9 @@
 use Rattle.std.proofs.Common.{◌≡◌, ℕ, zero, suc, ◌+◌, ◌-◌, ◌*◌, ◌<◌, ◌≤◌, Bool, true, false, List, [], ◌∷◌, ◌++◌, length, take, drop, map, slice_get, slice_index_or, Option, Some, None, refl, sym, ap, subst, ◌∙◌, arith, inr, length-append, length-drop}
 use Rattle.std.proofs.lemmas.List.{length-take-le, drop-drop}
 use Rattle.std.proofs.lemmas.Bool.{eqb-true}
-use Rattle.std.specs.Prelude.{◌==◌, is_some, IfSome}
+use Rattle.std.specs.Prelude.{◌==◌, is_some}
 use Rattle.dw_leb.specs.Number.{Unsigned}
 use Rattle.dw_leb.specs.Decide.{AreBytes}
-use Rattle.dw_leb.specs.ByteLists.{joined_are_bytes}
-use Rattle.dw_leb.specs.Reader.{Found}
 use Rattle.dw_form.specs.Form.{Attribute}
 use Rattle.dw_form.specs.Pieces.{via_bytes}
 use Rattle.dw_abbrev.specs.PairView.{pair_of}
@@ -14,21 +12,19 @@ use Rattle.dw_abbrev.specs.declared.pair.Pair.{Pair as RustPair}
 use Rattle.dw_abbrev.specs.Table.{Pair, Declaration, Table, declared}
 use Rattle.dw_tree.specs.Tree.{Forest, declared_pairs}
 use Rattle.dw_tree.specs.Place.{Frame, Spot, UnfinishedEntry}
-use Rattle.dw_tree.specs.Steps.{next_pair, next_pairs, partial_in, settled, settle_by, settle, value_at}
-use Rattle.dw_unit.specs.Unit.{left_behind}
+use Rattle.dw_tree.specs.Steps.{next_pair, partial_in, settled, settle_by, settle, value_at}
 use Rattle.dw_unit.specs.Draft.{Drafted, given, tree_in}
 use Rattle.dw_feed.specs.declared.step.Step.TheVariants as steps
-use Rattle.dw_feed.specs.declared.step.Attempt.TheVariants as attempts
 use Rattle.dw_feed.specs.BodyFeed.{PartialUnit, pairs_left, part}
 use Rattle.dw_feed.specs.BodyView.{drafted, coming}
 use Rattle.dw_feed.specs.EntrySteps.{NoneKept, NextSays, TakesOn}
 use Rattle.dw_feed.specs.FeedInvariant.{Keeps, context, frames_of, chain_of, body_so_far, left, moved_to}
-use Rattle.dw_feed.specs.FeedSteps.{At, at_first, found_wants}
-use Rattle.dw_feed.specs.FieldReader.{PlaceBehind, Follows, follows}
-use Rattle.dw_feed.specs.FieldSteps.{HasPart, Waits, StepSays}
-use Rattle.dw_feed.specs.PlainFeed.{field_at, root_if_whole, whole_at}
+use Rattle.dw_feed.specs.FeedSteps.{At, at_first}
+use Rattle.dw_feed.specs.FieldReader.{Follows, follows}
+use Rattle.dw_feed.specs.FieldSteps.{Waits, StepSays}
+use Rattle.dw_feed.specs.PlainFeed.{root_if_whole, whole_at}
 use Rattle.dw_feed.specs.ValueSteps.{behind_value, part_free}
-use Rattle.dw_feed.proofs.Turns.{longest, turns, value_less, settled_free, over_within, none_part, goes_at, goes_has}
+use Rattle.dw_feed.proofs.Turns.{longest, turns, value_less, settled_free, none_part, goes_at, goes_has}
 
 -- ---- the pairs that are left
 
@@ -143,11 +139,11 @@ module _ (g0 : PartialUnit) (b : List ℕ) (keeps : Keeps g0) (none_there : part
       says_found : StepSays g (part g ++ rest) (steps.Found over) new
       says_found = subst (λ (bs : List ℕ). StepSays g (bs ++ rest) (steps.Found over) new) (sym on.none_there) (behind_value g says.0, size, says.1, omega (arith, says.2), says.3)
 
-      inside_still : 0 < length (frames_of new)
-      inside_still = omega (arith, inside, given_above g says.0, ap (λ (u : PartialUnit). length (frames_of u)) says.3)
+      pub inside_with : 0 < length (frames_of new)
+      inside_with = omega (arith, inside, given_above g says.0, ap (λ (u : PartialUnit). length (frames_of u)) says.3)
 
       not_whole : is_some (root_if_whole new) ≡ false
-      not_whole = below_open new inside_still
+      not_whole = below_open new inside_with
 
       own_size : length rest - over ≡ size
       own_size = omega (arith, says.2)
@@ -184,18 +180,11 @@ module _ (g0 : PartialUnit) (b : List ℕ) (keeps : Keeps g0) (none_there : part
       pub free_with : partial_in new.place.unfinished ≡ None
       free_with = ap (λ (u : PartialUnit). partial_in u.place.unfinished) says.3 ∙ given_free g says.0
 
-      pub inside_with : 0 < length (frames_of new)
-      inside_with = inside_still
-
       pub context_with : context new ≡ context g
       context_with = ap context says.3
 
       pub pairs_with : (ps : List RustPair) (i : ℕ) → pairs_left g.table g.place.unfinished ≡ drop i (map pair_of ps) → pairs_left new.table new.place.unfinished ≡ drop (i + 1) (map pair_of ps)
       pairs_with ps i e = left_pairs ∙ ap (drop 1) e ∙ drop-drop 1 i (map pair_of ps)
-
--- nothing was taken yet
-pub on_first : (g : PartialUnit) (b : List ℕ) → HasPart g → part g ≡ [] → TakesOn g b g b
-on_first g b has none_there = record { at = λ g0 piece a. a; has = has; none_there = none_there; same_table = refl; within = omega arith; fewer = omega arith }
 
 -- ---- the next pair
 
@@ -216,11 +205,6 @@ next_is t o ps i p e lt is = by o (e ∙ next_item ps i p lt ∙ ap (λ (q : Rus
     by : (u : Option UnfinishedEntry) → pairs_left t u ≡ pair_of p ∷ drop (suc i) (map pair_of ps) → next_pair t u ≡ Some (pair_of p)
     by None h = absurd cc
     by (Some r) h = first_of (declared_pairs (declared t r.code.value)) (length r.values) (pair_of p) (drop (suc i) (map pair_of ps)) h
-
--- the pairs that the draft hands out
-pub pairs_first : (t : Table) (o : Option UnfinishedEntry) (ps : List RustPair) → IfSome o (λ r. map pair_of ps ≡ next_pairs t r) → (o ≡ None → ps ≡ []) → pairs_left t o ≡ drop 0 (map pair_of ps)
-pairs_first t None ps h n = ap (map pair_of) (sym (n refl))
-pairs_first t (Some r) ps h n = sym h
 
 -- nothing is there of the field, where none of it is kept and no value is partial
 pub none_part_of : (g : PartialUnit) → NoneKept g → partial_in g.place.unfinished ≡ None → part g ≡ []

@@ -235,9 +235,6 @@ module _ (g0 : PartialUnit) (piece : List ℕ) (g : PartialUnit) (rest : List �
     pub none_partial : partial_in new.place.unfinished ≡ None
     none_partial = ap (λ (u : PartialUnit). partial_in u.place.unfinished) says.4 ∙ progress.free
 
-    pub goes_waits : Waits new
-    goes_waits = inr none_part
-
     pub goes_has : HasPart new
     goes_has = subst HasPart (sym says.4) (by q.0.unfinished progress.free (next_here (moved_to q.0 q.1 g) (subst Standing says.4 behind_stands)))
       where

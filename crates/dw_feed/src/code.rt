@@ -20,6 +20,7 @@ pub(crate) fn number(b: &[u8], lim: u64) -> Result<Uleb, Reason>
 
 /// The code or null at the front of `b`, as the next field of the draft, of which `lim` bytes are left to
 /// the unit's end.
+#[inline(always)]
 pub(crate) fn code_at(draft: &Draft, b: &[u8], lim: u64) -> Result<Uleb, Reason>
     ensures exact { checked read_uleb (code_meaning draft.now.table draft.now.place.spot.above draft.now.place.spot.left) b.now lim ≡ outcome_of uleb_of (λ x. x.width) result }
     ensures room { IfOk result (λ x. (x.width ≤ length b.now) × (x.width ≤ lim)) }

@@ -159,6 +159,7 @@ impl Coming {
     }
 
     /// A code or null that is whole stands at the place, and so many bytes are left over.
+    #[inline(always)]
     fn put(&mut self, code: Uleb, over: usize) -> Step
         requires free { self.old.place.unfinished ≡ None }
         requires stands { Standing self.old }

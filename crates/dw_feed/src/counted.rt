@@ -75,6 +75,7 @@ impl Counted {
     }
 
     /// An entry of this code begins.
+    #[inline(always)]
     pub(crate) fn begin(&mut self, code: Uleb) -> Result<(), AllocError>
         requires some { 0 < code.value }
         requires known { IsSome (declared self.old.table code.value) }
@@ -90,6 +91,7 @@ impl Counted {
     }
 
     /// The unfinished entry is given its next value, with the bytes that spell it.
+    #[inline(always)]
     pub(crate) fn spelled_value(
         &mut self,
         value: &AttrValue<'_>,
@@ -136,6 +138,7 @@ impl Counted {
     }
 
     /// The innermost open entry is closed by a null of `width` bytes.
+    #[inline(always)]
     pub(crate) fn close(&mut self, width: u8) -> Result<(), AllocError>
         requires width { is_width width ≡ true }
         requires inside { self.old.place.spot.above ≢ [] }

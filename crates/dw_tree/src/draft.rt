@@ -280,6 +280,7 @@ impl TreeDraft {
 
     /// The pair whose value the unfinished entry is given next (section 7.5.3). None exactly where
     /// no entry is read.
+    #[inline(always)]
     pub fn next_pair(&self) -> Option<Pair>
         ensures pair { option_map pair_of result ≡ next_pair self.now.table self.now.place.unfinished }
         ensures unfinished { is_some result ≡ is_some self.now.place.unfinished }

@@ -1,4 +1,4 @@
-use Rattle.std.proofs.Common.{◌≡◌, ℕ, List, length, ap, ap₂, subst, ◌∙◌, sym}
+use Rattle.std.proofs.Common.{◌≡◌, ℕ, length, ap, ap₂, subst, ◌∙◌, sym}
 use Rattle.std.specs.Prelude.{option_map}
 use Rattle.dw_leb.specs.Part.{Taken}
 use Rattle.dw_leb.specs.View.{uleb_of}
@@ -9,9 +9,8 @@ use Rattle.dw_form.specs.ReadForm.{read_attribute}
 use Rattle.dw_form.specs.Lent.{attribute_of}
 use Rattle.dw_abbrev.specs.PairView.{pair_of}
 use Rattle.dw_abbrev.specs.Table.{Pair}
-use Rattle.dw_header.specs.Header.{context_of}
 use Rattle.dw_tree.specs.Steps.{NextFits}
-use Rattle.dw_unit.specs.Draft.{Drafted, value_bytes, passes_limit}
+use Rattle.dw_unit.specs.Draft.{value_bytes, passes_limit}
 use Rattle.dw_feed.specs.BodyFeed.{PartialUnit}
 use Rattle.dw_feed.specs.BodyView.{drafted}
 use Rattle.dw_feed.specs.FeedInvariant.{context, left}
