@@ -4,7 +4,8 @@
 Usage: scripts/pieces.py PROGRAM [ABBREV INFO]
 
 PROGRAM is the built `pieces` (crates/pieces/out/pieces). The unit of each folder of `examples` is pushed in pieces of
-several sizes, and each time written and compared with its bytes. Over ABBREV and INFO, the sections of one unit of some
+several sizes, and each time written and compared with its bytes. Each front of it, and it with each byte changed in
+three ways, is read by both readers, in pieces of one byte by the one that is pushed, and they have to end alike. Over ABBREV and INFO, the sections of one unit of some
 megabytes, the instructions of both readers are counted by Valgrind: that of the recursive one, and of the pushed one by
 the size of its pieces, as a multiple of the first. The status is 1 where a unit differs, a run fails, or a multiple is
 above its bound (in one piece 1.1, in pieces of 4,096 bytes 1.2, of one byte 12), else 0.
@@ -42,14 +43,40 @@ def same_in_pieces(program, folder):
     return run.returncode == 0 and len(lines) == 7 and all(line.endswith(": true") for line in lines)
 
 
+def ends_alike(program, abbrev, bytes_, folder):
+    info = os.path.join(folder, "info")
+    with open(info, "wb") as it:
+        it.write(bytes_)
+    runs = [subprocess.run([program, abbrev, info, size], capture_output=True) for size in ("0", "1")]
+    return len({(run.returncode, run.stdout, run.stderr) for run in runs}) == 1
+
+
+def changed(unit):
+    """Each front of the unit, and the unit with each byte changed."""
+    for at in range(len(unit)):
+        yield unit[:at]
+        for byte in (unit[at] ^ 0x01, unit[at] ^ 0x80, 0xFF):
+            yield unit[:at] + bytes([byte]) + unit[at + 1:]
+
+
+def count_differences(program, abbrev, info):
+    with open(info, "rb") as it:
+        unit = it.read()
+    with tempfile.TemporaryDirectory() as folder:
+        tried = [ends_alike(program, abbrev, bytes_, folder) for bytes_ in changed(unit)]
+    return len(tried), tried.count(False)
+
+
 def compare_examples(program):
     well = True
     for name in sorted(os.listdir(EXAMPLES)):
         folder = os.path.join(EXAMPLES, name)
         if os.path.exists(os.path.join(folder, "debug_info")):
             same = same_in_pieces(program, folder)
-            print(f"{name}: {'the same in all pieces' if same else 'DIFFERENT'}")
-            well = well and same
+            abbrev, info = (os.path.join(folder, it) for it in ("debug_abbrev", "debug_info"))
+            tried, differences = count_differences(program, abbrev, info)
+            print(f"{name}: {'the same in all pieces' if same else 'DIFFERENT'}; {tried} changed, {differences} differences")
+            well = well and same and not differences
     return well
 
 

@@ -26,8 +26,6 @@ enum PiecesError {
     #[error("{0}")]
     Read(#[from] ReadError),
     #[error("{0}")]
-    Fault(#[from] Fault),
-    #[error("{0}")]
     Write(#[from] WriteError),
     #[error("memory")]
     Memory(#[from] AllocError),
@@ -106,7 +104,7 @@ fn pushed(
         match answer {
             Progress::More => {}
             Progress::Done(unit) => return Ok(unit),
-            Progress::Fault(fault) => return Err(PiecesError::Fault(fault)),
+            Progress::Fault(fault) => return Err(PiecesError::Read(ReadError::Fault(fault))),
             Progress::NoMemory | Progress::Spent => {
                 return Err(PiecesError::Read(ReadError::NoMemory));
             }
@@ -136,7 +134,7 @@ fn head(bytes: &[u8], size: usize) -> Result<(Header, u64, &[u8]), Option<Fault>
 
 fn ended<T>(end: Option<Fault>) -> Result<T, PiecesError> {
     match end {
-        Some(fault) => Err(PiecesError::Fault(fault)),
+        Some(fault) => Err(PiecesError::Read(ReadError::Fault(fault))),
         None => Err(PiecesError::Read(ReadError::NoMemory)),
     }
 }
