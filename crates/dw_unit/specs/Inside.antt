@@ -8,7 +8,7 @@ use Rattle.dw_leb.specs.declared.order.Order.{Order}
 use Rattle.dw_leb.specs.declared.order.Format.{Format}
 use Rattle.dw_leb.specs.Part.{Breaks, Part, After, ◌then◌, judged, nothing, refused, optional}
 use Rattle.dw_leb.specs.Repeat.{BreaksBehind, item_bytes, repeated}
-use Rattle.dw_leb.specs.Number.{Short, Unsigned, Signed, uleb, fixed, offset_size, initial_length, length_field, length_limit}
+use Rattle.dw_leb.specs.Number.{Short, Unsigned, Signed, uleb, fixed, offset_size, length_field, length_limit}
 use Rattle.dw_leb.specs.Field.{IsField}
 use Rattle.dw_leb.specs.DecideNumber.{uleb_field, initial_length_field}
 use Rattle.dw_form.specs.declared.shape.Ctx.{Ctx}
@@ -16,7 +16,7 @@ use Rattle.dw_form.specs.Form.{attribute}
 use Rattle.dw_abbrev.specs.Table.{Pair, Table, is_null, declared}
 use Rattle.dw_tree.specs.Tree.{Forest, Body, values, declared_pairs, declares_children, bad_root, bad_child, body, children, tree, nesting, nulls, not_null, MoreBreaks, PaddingBreaks}
 use Rattle.dw_header.specs.declared.versions.Versions.{Versions}
-use Rattle.dw_header.specs.Header.{Header, added_sizes, numbers, bad_version_under, bad_type, bad_address_size, five_part, four_part, fields_behind, fields_under, fields_of, context_of}
+use Rattle.dw_header.specs.Header.{Header, added_sizes, numbers, bad_version_under, bad_type, bad_address_size, five_part, four_part, fields_behind, fields_under, context_of}
 use Rattle.dw_header.specs.HeaderPlace.{HeaderBreaksUnder, HeaderAtUnder, header_size}
 use Rattle.dw_header.specs.HeaderFound.{head_room, head_rest}
 use Rattle.dw_unit.specs.Unit.{EntriesBreak, FailsUnder, UnitBreaksUnder, left_behind}

@@ -114,7 +114,7 @@ impl Draft {
                 let context = self.header.context();
                 let size = size_of(context, pair.form.value, value);
                 let front = value_front(context, pair.form.value, value);
-                self.tree.value(value, front.as_slice(), size)
+                self.put_value(value, front.as_slice(), size)
             }
             None => unreachable!(),
         }
@@ -136,7 +136,27 @@ impl Draft {
         ensures err { OnErr result (self.new ≡ self.old) }
     {
         let front = &spelling[..front_len(value, spelling.len())];
-        self.tree.value(value, front, spelling.len() as u64)
+        self.put_value(value, front, spelling.len() as u64)
+    }
+
+    /// The same with the count of the value's bytes, and those that come before its own text or block.
+    #[inline(always)]
+    fn put_value(
+        &mut self,
+        value: &AttrValue<'_>,
+        front: &[u8],
+        size: u64,
+    ) -> Result<(), AllocError>
+        requires between { partial_in self.old.place.unfinished ≡ None }
+        requires fits { NextFits (context_of self.old.header) self.old.table self.old.place.unfinished (attribute_of value.now) }
+        requires front { front.now ≡ front_bytes (attribute_of value.now) (value_bytes self.old (attribute_of value.now)) }
+        requires size { size ≡ length (value_bytes self.old (attribute_of value.now)) }
+        requires short { passes_limit self.old (length (value_bytes self.old (attribute_of value.now))) ≡ false }
+        ensures ok { OnOk result (self.new ≡ given (attribute_of value.now) self.old) }
+        ensures size { OnOk result (drafted_size self.new ≡ drafted_size self.old + length (value_bytes self.old (attribute_of value.now))) }
+        ensures err { OnErr result (self.new ≡ self.old) }
+    {
+        self.tree.value(value, front, size)
     }
 
     /// A text, or a block whose length field has `width` bytes, begins as the next value of the unfinished entry
