@@ -19,7 +19,7 @@ use Rattle.dw_feed.specs.declared.progress.Progress.TheVariants as answers
 use Rattle.dw_feed.specs.FeedInvariant.{body_so_far}
 use Rattle.dw_feed.specs.BodyFeed.{PartialUnit, BodyFeed, Reading, Refused, Finished, started, part, before, stream, BreaksAt, IsCutOff, SameUnit, SaysMore, SaysDone, SaysFault, FeedsBody, EndsBody}
 use Rattle.dw_feed.specs.FedUnit.{started_stream, fault_of_all, same_breaks}
-use Rattle.dw_feed.proofs.Cut.{length_bytes, same_length, whole_never_cut}
+use Rattle.dw_feed.specs.Cut.{length_bytes, same_length, whole_never_cut}
 
 -- ---- what the feed answers
 

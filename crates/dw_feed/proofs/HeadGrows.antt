@@ -20,7 +20,7 @@ use Rattle.dw_header.specs.HeaderMoments.{type_judges, address_size_judges, vers
 use Rattle.dw_feed.specs.Feed.{escape}
 use Rattle.dw_feed.specs.HeaderCut.{IsCut, CutBelow, short_cut, judged_cut}
 use Rattle.dw_feed.specs.HeadFeed.{Reading, Wants, AreSizes, FieldLacks, Lacks}
-use Rattle.dw_feed.proofs.Cut.{escape_is, no_escape}
+use Rattle.dw_feed.specs.Cut.{escape_is, no_escape}
 use Rattle.dw_feed.proofs.HeadReads.{short_is_cut, wide_is_cut, no_bytes, cut_in_field}
 
 -- Of what is cut off so many bytes are there at the least. It stays cut off where fewer follow than make so many.

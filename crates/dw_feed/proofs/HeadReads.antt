@@ -1,8 +1,8 @@
 -- A header that is read in parts and pushed into its feed: how many bytes it wants, and what was taken.
-use Rattle.std.proofs.Common.{◌≡◌, ◌⊎◌, ℕ, suc, ◌+◌, ◌-◌, ◌≤◌, ◌<◌, Bool, true, false, List, [], ◌∷◌, ◌++◌, length, take, drop, Option, Some, refl, sym, ap, subst, ◌∙◌, append_assoc, append-nil, arith, inl, inr, length-append}
+use Rattle.std.proofs.Common.{◌≡◌, ◌⊎◌, ℕ, suc, ◌+◌, ◌-◌, ◌^◌, ◌≤◌, ◌<◌, Bool, true, false, List, [], ◌∷◌, ◌++◌, length, take, drop, Option, Some, refl, sym, ap, subst, ◌∙◌, append_assoc, append-nil, arith, inl, inr, length-append}
 use Rattle.std.specs.Prelude.{◌==◌}
 use Rattle.std.proofs.lemmas.Bool.{eqb-true}
-use Rattle.std.proofs.lemmas.List.{take-append-drop, take-append-le, take_all, take_at, length-take, same_from_push}
+use Rattle.std.proofs.lemmas.List.{take-append-drop, take-append-le, take_all, take_at, length-take}
 use Rattle.std.specs.Io.KnownBytes.{Consumes, IsAtEnd}
 use Rattle.dw_leb.specs.declared.errors.Fault.{Fault as TheFault}
 use Rattle.dw_leb.specs.declared.errors.Reason.TheVariants.{Truncated}
@@ -21,12 +21,14 @@ use Rattle.dw_header.specs.Laws.{spelled_headers_stand, no_header_and_break, hea
 use Rattle.dw_feed.specs.declared.progress.Progress.{Progress}
 use Rattle.dw_feed.specs.declared.progress.Progress.TheVariants.{More, Done, Fault, NoMemory, Spent}
 use Rattle.dw_feed.specs.UnitNeverTruncated.{fields_never_truncated}
-use Rattle.dw_feed.specs.Feed.{escape, InUnit, Takes}
-use Rattle.dw_feed.specs.HeaderCut.{IsCut}
-use Rattle.dw_feed.specs.HeadFeed.{HeadFeed, HeadState, Reading, Refused, Finished, IsHeader, IsFirst, Answers, FeedsHead, Ends, Wants}
+use Rattle.dw_feed.specs.Feed.{behind, StartsWith, escape, InUnit, Takes}
+use Rattle.dw_unit.specs.Inside.{header_inside}
+use Rattle.dw_unit.specs.UnitView.{FaultWithin}
+use Rattle.dw_feed.specs.HeaderCut.{IsCut, cut_headers_are_short}
+use Rattle.dw_feed.specs.HeadFeed.{HeadFeed, HeadState, Reading, Refused, Finished, IsHeader, Answers, FeedsHead, Ends, Wants}
 use Rattle.dw_feed.specs.FeedReads.{TakesNoHeader}
-use Rattle.dw_feed.proofs.Cut.{escape_is}
-use Rattle.dw_feed.proofs.Taking.{left_of, left_at_end, takes_of, field_longer, taken_longer}
+use Rattle.dw_feed.specs.Cut.{escape_is}
+use Rattle.dw_feed.specs.Taking.{starts_longer, left_of, left_at_end, takes_of, field_longer, taken_longer}
 
 -- ---- how many bytes are wanted
 
@@ -110,32 +112,21 @@ last_of : (b : ℕ) (bs : List ℕ) → (front : List ℕ) × (last : ℕ) × (b
 last_of b [] = ([], b, refl)
 last_of b (c ∷ bs) = let l = last_of c bs in (b ∷ l.0, l.1, ap (λ (xs : List ℕ). b ∷ xs) l.2)
 
--- bytes that without their last one are cut off
-pub first_in_unit : (versions : Versions) (order : Order) (bytes : List ℕ) → IsFirst versions order bytes → InUnit order bytes (length bytes)
-first_in_unit versions order [] first = inl (inl (omega arith))
-first_in_unit versions order (b ∷ bs) first =
-    let l = last_of b bs in
-    let one : length (b ∷ bs) ≡ suc (length l.0) = omega (arith, ap length l.2, length-append l.0 (l.1 ∷ [])) in
-    subst (λ (xs : List ℕ). InUnit order xs (length (b ∷ bs))) (sym l.2) (unit_longer order l.0 (l.1 ∷ []) (length (b ∷ bs)) (one_in_unit versions order l.0 (length (b ∷ bs)) one (first l.0 l.1 l.2)))
-
-pub none_first : (versions : Versions) (order : Order) → IsFirst versions order []
-none_first versions order front b e = absurd (omega (arith, ap length e, length-append front (b ∷ [])))
-
 -- no more were taken than the feed wants
-pub wanted_first : (versions : Versions) (order : Order) (taken got : List ℕ) (n : ℕ) → IsFirst versions order taken → Wants versions order (Reading taken) n → length got ≤ n → IsFirst versions order (taken ++ got)
-wanted_first versions order taken [] n first wants le front b e = first front b (sym (append-nil taken) ∙ e)
-wanted_first versions order taken (g ∷ gs) n first wants le front b e =
+pub wanted_inside : (versions : Versions) (order : Order) (taken got : List ℕ) (n : ℕ) → InUnit order taken (length taken) → Wants versions order (Reading taken) n → length got ≤ n → InUnit order (taken ++ got) (length (taken ++ got))
+wanted_inside versions order taken [] n inside wants le = subst (λ (bs : List ℕ). InUnit order bs (length bs)) (sym (append-nil taken)) inside
+wanted_inside versions order taken (g ∷ gs) n inside wants le =
     let l = last_of g gs in
-    let same : taken ++ l.0 ≡ front = (same_from_push (taken ++ l.0) front l.1 b (append_assoc taken l.0 (l.1 ∷ []) ∙ ap (λ (xs : List ℕ). taken ++ xs) (sym l.2) ∙ e)).0 in
-    subst (IsCut versions order) same (wants.1 l.0 (omega (arith, le, ap length l.2, length-append l.0 (l.1 ∷ []))))
+    let all : (taken ++ l.0) ++ l.1 ∷ [] ≡ taken ++ g ∷ gs = append_assoc taken l.0 (l.1 ∷ []) ∙ ap (λ (xs : List ℕ). taken ++ xs) (sym l.2) in
+    let one : length (taken ++ g ∷ gs) ≡ suc (length (taken ++ l.0)) = omega (arith, ap length (sym all), length-append (taken ++ l.0) (l.1 ∷ [])) in
+    let cut : IsCut versions order (taken ++ l.0) = wants.1 l.0 (omega (arith, le, ap length l.2, length-append l.0 (l.1 ∷ []))) in
+    subst (λ (xs : List ℕ). InUnit order xs (length (taken ++ g ∷ gs))) all (unit_longer order (taken ++ l.0) (l.1 ∷ []) (length (taken ++ g ∷ gs)) (one_in_unit versions order (taken ++ l.0) (length (taken ++ g ∷ gs)) one cut))
+
+-- a feed that wants more took bytes that are cut off
+pub wants_cut : (versions : Versions) (order : Order) (taken : List ℕ) (n : ℕ) → Wants versions order (Reading taken) n → IsCut versions order taken
+wants_cut versions order taken n wants = subst (IsCut versions order) (append-nil taken) (wants.1 [] wants.0)
 
 -- ---- what the feed answers
-
--- what a feed took that reads on
-abbrev pub taken_of : HeadState → List ℕ
-taken_of (Reading taken) = taken
-taken_of (Refused f) = []
-taken_of Finished = []
 
 module _ (versions : Versions) (order : Order) (feed : HeadFeed) (taken : List ℕ) (state_is : feed.state ≡ Reading taken) (order_is : feed.order ≡ order) (versions_is : feed.versions ≡ versions) where
   pub reading_wants : (n : ℕ) → Wants feed.versions feed.order feed.state n → Wants versions order (Reading taken) n
@@ -197,18 +188,33 @@ spent_reads versions order taken piece n Finished says = says
 
 -- ---- what was taken where no header is read
 
-module _ (versions : Versions) (order : Order) (old new : Option (List ℕ)) (taken : List ℕ) (took : Consumes old new taken) (first : IsFirst versions order taken) where
+module _ (versions : Versions) (order : Order) (before : List ℕ) (old new : Option (List ℕ)) (taken : List ℕ) (took : Consumes (behind before old) new taken) (inside : InUnit order taken (length taken)) (front : StartsWith before taken) where
   taken_inside : InUnit order (taken ++ left_of new) (length taken)
-  taken_inside = unit_longer order taken (left_of new) (length taken) (first_in_unit versions order taken first)
+  taken_inside = unit_longer order taken (left_of new) (length taken) inside
+
+  all_starts : StartsWith before (taken ++ left_of new)
+  all_starts = starts_longer before taken (left_of new) front
 
   -- the reader failed
-  pub takes_till_io : (all : List ℕ) × (h : Takes old new all) × Unit {0} × InUnit order all (length h.taken)
-  takes_till_io = (taken ++ left_of new, takes_of old new taken took, tt, taken_inside)
+  pub takes_till_io : (all : List ℕ) × (h : Takes (behind before old) new all) × Unit {0} × InUnit order all (length h.taken) × StartsWith before all
+  takes_till_io = (taken ++ left_of new, takes_of (behind before old) new taken took, tt, taken_inside, all_starts)
 
   -- the header has a fault
-  pub takes_till_fault : (f : TheFault) → HeaderFaultUnder versions order (taken ++ left_of new) f → TakesNoHeader versions order old new (reads.Fault f)
-  takes_till_fault f fault = (taken ++ left_of new, takes_of old new taken took, fault, taken_inside)
+  pub takes_till_fault : (f : TheFault) → HeaderFaultUnder versions order (taken ++ left_of new) f → TakesNoHeader versions order before old new (reads.Fault f)
+  takes_till_fault f fault = (taken ++ left_of new, takes_of (behind before old) new taken took, fault, taken_inside, all_starts)
 
 -- the reader has no more
 pub ends_in_header : (versions : Versions) (order : Order) (new : Option (List ℕ)) (taken : List ℕ) (f : TheFault) → IsAtEnd new → HeaderFaultUnder versions order taken f → HeaderFaultUnder versions order (taken ++ left_of new) f
 ends_in_header versions order new taken f end fault = subst (λ (bs : List ℕ). HeaderFaultUnder versions order bs f) (sym (append-nil taken) ∙ ap (λ (bs : List ℕ). taken ++ bs) (sym (left_at_end new end))) fault
+
+-- ---- how far a fault stands
+
+-- a header's fault stands within the bytes that show it, and they are few
+pub fault_near : (versions : Versions) (order : Order) (taken piece : List ℕ) (n : ℕ) (f : TheFault) (new : HeadState) → IsCut versions order taken → length piece ≤ 12 → Answers versions order (Reading taken) piece n (Fault f) new → FaultWithin (2 ^ 63) (reads.Fault f)
+fault_near versions order taken piece n f (Reading now) cut le says = absurd says
+fault_near versions order taken piece n f Finished cut le says = absurd says
+fault_near versions order taken piece n f (Refused g) cut le says = λ info.
+    omega (arith, header_inside versions order (taken ++ take n piece) f.offset f.reason says.2.1, length-append taken (take n piece), length-take n piece, le, cut_headers_are_short versions order taken cut)
+
+pub end_near : (versions : Versions) (order : Order) (taken : List ℕ) (f : TheFault) → IsCut versions order taken → HeaderFaultUnder versions order taken f → FaultWithin (2 ^ 63) (reads.Fault f)
+end_near versions order taken f cut fault = λ info. omega (arith, header_inside versions order taken f.offset f.reason fault.1, cut_headers_are_short versions order taken cut)

@@ -1,5 +1,3 @@
-pub mod Cut
-pub mod Taking
 pub mod HeadSteps
 pub mod HeadReads
 pub mod HeadGrows

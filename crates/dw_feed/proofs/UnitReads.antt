@@ -1,14 +1,15 @@
 -- A unit that is read from a reader: what follows of its header, its table and what stands behind the header, one after the other.
-use Rattle.std.proofs.Common.{◌≡◌, ℕ, ◌+◌, ◌≤◌, ◌<◌, List, ◌++◌, length, Option, Result, Ok, Err, refl, sym, ap, subst, ◌∙◌, append_assoc, append-nil, arith, inl, inr, length-append}
+use Rattle.std.proofs.Common.{◌≡◌, ℕ, ◌+◌, ◌^◌, ◌≤◌, ◌<◌, List, [], ◌++◌, length, Option, Some, None, Result, Ok, Err, refl, sym, ap, subst, ◌∙◌, append_assoc, append-nil, arith, inl, inr, length-append}
 use Rattle.std.specs.Prelude.{IfErr}
 use Rattle.std.specs.Io.KnownBytes.{Consumes}
 use Rattle.dw_leb.specs.declared.errors.Fault.{Fault}
 use Rattle.dw_leb.specs.declared.errors.ReadError.{ReadError}
 use Rattle.dw_leb.specs.declared.errors.ReadError.TheVariants as reads
 use Rattle.dw_leb.specs.declared.errors.SectionId.{SectionId}
+use Rattle.dw_leb.specs.declared.errors.SectionId.TheVariants.{Info, Abbrev}
 use Rattle.dw_leb.specs.declared.order.Order.{Order}
 use Rattle.dw_leb.specs.Number.{length_size}
-use Rattle.dw_leb.specs.DecideNumber.{initial-size, initial_within}
+use Rattle.dw_leb.specs.DecideNumber.{initial-size, initial_within, initial_end}
 use Rattle.dw_leb.specs.Transfers.{consumes_more}
 use Rattle.dw_leb.specs.Watch.{KeptSome}
 use Rattle.dw_abbrev.specs.Table.{Table, TableAt}
@@ -18,20 +19,26 @@ use Rattle.dw_header.specs.Header.{Header, Accepts, versions_for, fields, fields
 use Rattle.dw_header.specs.HeaderPlace.{HeaderAtUnder, header_bytes, header_size}
 use Rattle.dw_header.specs.Laws.{HasHeaderBytes, spelled_headers_stand}
 use Rattle.dw_unit.specs.Unit.{WholeUnit, bytes_of, FailsUnder}
-use Rattle.dw_unit.specs.UnitView.{IsUnitErrorUnder}
+use Rattle.dw_unit.specs.UnitView.{IsUnitErrorUnder, FaultWithin}
+use Rattle.dw_unit.specs.Inside.{break_inside}
 use Rattle.dw_unit.specs.DecideUnit.{break_stays}
-use Rattle.dw_feed.specs.Feed.{InUnit, TakesUnitUnder, IsFeedErrorUnder, TakesNoUnitUnder}
+use Rattle.dw_feed.specs.Feed.{behind, StartsWith, InUnit, TakesUnitUnder, IsFeedErrorUnder, TakesNoUnitUnder, TakesNoUnitBehind}
 use Rattle.dw_feed.specs.BodyFeed.{started, stream, BreaksAt}
 use Rattle.dw_feed.specs.FedUnit.{started_stream, all_bytes, fed_broken, table_broken}
 use Rattle.dw_feed.specs.FeedReads.{TakesHeader, TakesNoHeader, TakesBody, IsBodyError, TakesNoBody}
-use Rattle.dw_feed.proofs.Cut.{length_bytes}
-use Rattle.dw_feed.proofs.Taking.{left_of, left_at_end, had_before, takes_of, length_some}
+use Rattle.dw_feed.specs.Cut.{length_bytes}
+use Rattle.dw_feed.specs.Taking.{starts_longer, left_of, left_at_end, had_before, takes_of, length_some}
 
 -- no header
-pub header_error : (versions : Versions) (section : List ℕ) (order : Order) (old new : Option (List ℕ)) (e : ReadError) → TakesNoHeader versions order old new e → TakesNoUnitUnder versions section order old new e
-header_error versions section order old new (reads.Fault f) h = (h.0, h.1, subst (λ (s : SectionId). FailsUnder versions order section h.0 s f.offset f.reason) (sym h.2.0) (inl h.2.1), h.3)
-header_error versions section order old new reads.NoMemory h = absurd h.2
-header_error versions section order old new (reads.Io kind) h = (h.0, h.1, tt, h.3)
+pub header_error : (versions : Versions) (section : List ℕ) (order : Order) (taken : List ℕ) (old new : Option (List ℕ)) (e : ReadError) → TakesNoHeader versions order taken old new e → TakesNoUnitBehind versions section order taken old new e
+header_error versions section order taken old new (reads.Fault f) h = (h.0, h.1, subst (λ (s : SectionId). FailsUnder versions order section h.0 s f.offset f.reason) (sym h.2.0) (inl h.2.1), h.3, h.4)
+header_error versions section order taken old new reads.NoMemory h = absurd h.2
+header_error versions section order taken old new (reads.Io kind) h = (h.0, h.1, tt, h.3, h.4)
+
+-- none were taken before
+pub from_start : (versions : Versions) (section : List ℕ) (order : Order) (old new : Option (List ℕ)) (e : ReadError) → TakesNoUnitBehind versions section order [] old new e → TakesNoUnitUnder versions section order old new e
+from_start versions section order None new e h = (h.0, h.1, h.2, h.3)
+from_start versions section order (Some bytes) new e h = (h.0, h.1, h.2, h.3)
 
 -- what is said where the bytes are at hand is said of a reader
 feed_error : (versions : Versions) (section : List ℕ) (order : Order) (all : List ℕ) (e : ReadError) → IsUnitErrorUnder versions section order all e → IsFeedErrorUnder versions section order all e
@@ -39,7 +46,10 @@ feed_error versions section order all (reads.Fault f) is = is
 feed_error versions section order all reads.NoMemory is = tt
 feed_error versions section order all (reads.Io kind) is = tt
 
-module _ (versions : Versions) (section : List ℕ) (order : Order) (old mid : Option (List ℕ)) (h : Header) (n : ℕ) (head : TakesHeader versions order old mid (h, n)) where
+module _ (versions : Versions) (section : List ℕ) (order : Order) (before : List ℕ) (had mid : Option (List ℕ)) (h : Header) (n : ℕ) (head : TakesHeader versions order before had mid (h, n)) where
+  abbrev old : Option (List ℕ)
+  old = behind before had
+
   abbrev own : List ℕ
   own = header_bytes h n
 
@@ -60,6 +70,9 @@ module _ (versions : Versions) (section : List ℕ) (order : Order) (old mid : O
       subst (λ (o : Order). InUnit o (own ++ rest) m) head.1.order_is
       (inr ((h.format, n), record { rest = f ++ rest; fits = has.length_fits; split = append_assoc (length_bytes h.order (h.format, n)) f rest; is_size = size; within = omega (arith, initial_within h.order 0 h.format n, size) }, le))
 
+  starts : StartsWith before own
+  starts = subst (StartsWith before) head.1.all head.3
+
   sized : length own ≡ header_size h
   sized = omega (arith, length-append (length_bytes h.order (h.format, n)) ((fields h.order h.format).spell (fields_of h)), initial-size h.order 0 h.format n)
 
@@ -69,13 +82,20 @@ module _ (versions : Versions) (section : List ℕ) (order : Order) (old mid : O
   -- ---- the table
 
   -- it isn't there
-  pub table_error : (e : ReadError) → IsTableError section h.abbrev_offset e → TakesNoUnitUnder versions section order old mid e
+  pub table_error : (e : ReadError) → IsTableError section h.abbrev_offset e → TakesNoUnitBehind versions section order before had mid e
   table_error e is = (
     own ++ left_of mid,
     takes_of old mid own took,
     feed_error versions section order (own ++ left_of mid) e (table_broken versions section order (own ++ left_of mid) h n (stands (left_of mid)) e is),
     inside (left_of mid) (length own) (omega (arith, sized, has.within)),
+    starts_longer before own (left_of mid) starts,
   )
+
+  -- and there was no memory for it: the header was taken
+  pub table_memory : (X : Type 0) (e : ReadError) → KeptSome {X = X} old mid (Err e)
+  table_memory X (reads.Fault f) = tt
+  table_memory X reads.NoMemory = (own, header_some, took)
+  table_memory X (reads.Io kind) = tt
 
   -- ---- what stands behind the header
 
@@ -94,6 +114,11 @@ module _ (versions : Versions) (section : List ℕ) (order : Order) (old mid : O
           },
           all,
         )
+
+    pub unit_starts : (u : WholeUnit) → TakesBody (started h n t) mid new u → StartsWith before (bytes_of u)
+    unit_starts u it =
+        let whole : own ++ it.taken ≡ bytes_of u = ap (λ (bs : List ℕ). bs ++ it.taken) (sym (started_stream h n t)) ∙ it.whole in
+        subst (StartsWith before) whole (starts_longer before own it.taken starts)
 
     -- a fault of what was taken is that of all
     all_break : (taken : List ℕ) (f : Fault) → IsBodyError (started h n t) taken new (reads.Fault f) → BreaksAt (started h n t) ((own ++ taken) ++ left_of new) f
@@ -114,13 +139,14 @@ module _ (versions : Versions) (section : List ℕ) (order : Order) (old mid : O
     body_tells taken reads.NoMemory is = tt
     body_tells taken (reads.Io kind) is = tt
 
-    pub body_error : (e : ReadError) → TakesNoBody (started h n t) mid new e → TakesNoUnitUnder versions section order old new e
+    pub body_error : (e : ReadError) → TakesNoBody (started h n t) mid new e → TakesNoUnitBehind versions section order before had new e
     body_error e (taken, next, le, is) = (
       (own ++ taken) ++ left_of new,
       takes_of old new (own ++ taken) (consumes_more old mid new own taken took next),
       body_tells taken e is,
       subst (λ (bs : List ℕ). InUnit order bs (length (own ++ taken))) (sym (append_assoc own taken (left_of new)))
           (inside (taken ++ left_of new) (length (own ++ taken)) (omega (arith, length-append own taken, sized, le, has.within))),
+      starts_longer before (own ++ taken) (left_of new) (starts_longer before own taken starts),
     )
 
     pub body_memory : {X : Type 0} (r : Result X ReadError) → IfErr r (TakesNoBody (started h n t) mid new) → KeptSome old new r
@@ -128,3 +154,30 @@ module _ (versions : Versions) (section : List ℕ) (order : Order) (old mid : O
     body_memory (Err (reads.Fault f)) it = tt
     body_memory (Err reads.NoMemory) it = (own ++ it.0, omega (arith, header_some, length-append own it.0), consumes_more old mid new own it.0 took it.1)
     body_memory (Err (reads.Io kind)) it = tt
+
+    -- a fault stands within the unit
+    body_near : (e : ReadError) → TakesNoBody (started h n t) mid new e → FaultWithin (2 ^ 63) e
+    body_near (reads.Fault f) (taken, next, le, is) = λ info.
+        let s : List ℕ = stream (started h n t) in
+        omega (
+          arith,
+          break_inside (versions_for h.kind) h.order t (s ++ taken) f.offset f.reason is.0.1,
+          length-append s taken,
+          ap length (started_stream h n t),
+          sized,
+          le,
+          has.within,
+          initial_end h.order 0 h.format n has.length_fits,
+        )
+    body_near reads.NoMemory it = tt
+    body_near (reads.Io kind) it = tt
+
+    pub unit_near : {X : Type 0} (r : Result X ReadError) → IfErr r (TakesNoBody (started h n t) mid new) → IfErr r (FaultWithin (2 ^ 63))
+    unit_near (Ok x) it = tt
+    unit_near (Err e) it = body_near e it
+
+-- a table's fault stands in another section
+pub table_near : (abbreviations : List ℕ) (offset n : ℕ) (e : ReadError) → IsTableError abbreviations offset e → FaultWithin n e
+table_near abbreviations offset n (reads.Fault f) is = λ info. let no : Info ≡ Abbrev = sym info ∙ is.0 in cc
+table_near abbreviations offset n reads.NoMemory is = tt
+table_near abbreviations offset n (reads.Io kind) is = absurd is

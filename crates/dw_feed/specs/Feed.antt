@@ -19,6 +19,15 @@ abbrev pub Had : Option (List ℕ) → List ℕ → Type 0
 Had None all = Unit {0}
 Had (Some bytes) all = bytes ≡ all
 
+-- what a reader had left, behind bytes that were taken of it before
+abbrev pub behind : List ℕ → Option (List ℕ) → Option (List ℕ)
+behind taken None = None
+behind taken (Some bytes) = Some (taken ++ bytes)
+
+-- they begin with these bytes
+abbrev pub StartsWith : List ℕ → List ℕ → Type 0
+StartsWith front all = (more : List ℕ) × (all ≡ front ++ more)
+
 -- the four bytes that begin a length of the 64-bit format
 abbrev pub escape : List ℕ
 escape = 255 ∷ 255 ∷ 255 ∷ 255 ∷ []
@@ -39,10 +48,6 @@ pub record Takes (old new : Option (List ℕ)) (all : List ℕ) : Type 0 where
   pub split : all ≡ taken ++ rest
   pub consumed : Consumes old new taken
 
--- no byte was taken past the unit's end, and none past the length field where that is unread or refused
-abbrev pub TakesInUnit : Order → Option (List ℕ) → Option (List ℕ) → Type 0
-TakesInUnit order old new = (all : List ℕ) × (h : Takes old new all) × InUnit order all (length h.taken)
-
 -- the unit stands at the front of all that the reader had left, and exactly its bytes were taken
 abbrev pub TakesUnitUnder : Versions → List ℕ → Order → Option (List ℕ) → Option (List ℕ) → WholeUnit → Type 0
 TakesUnitUnder versions abbreviations order old new u = (all : List ℕ) × Had old all × UnitAtUnder versions abbreviations order all u (length (bytes_of u)) × Consumes old new (bytes_of u)
@@ -56,6 +61,11 @@ IsFeedErrorUnder versions abbreviations order all (reads.Io kind) = Unit {0}
 -- no unit is read: what the error tells, and that no byte was taken past the unit's end
 abbrev pub TakesNoUnitUnder : Versions → List ℕ → Order → Option (List ℕ) → Option (List ℕ) → ReadError → Type 0
 TakesNoUnitUnder versions abbreviations order old new e = (all : List ℕ) × (h : Takes old new all) × IsFeedErrorUnder versions abbreviations order all e × InUnit order all (length h.taken)
+
+-- the same, where bytes were taken before
+abbrev pub TakesNoUnitBehind : Versions → List ℕ → Order → List ℕ → Option (List ℕ) → Option (List ℕ) → ReadError → Type 0
+TakesNoUnitBehind versions abbreviations order taken old new e =
+    (all : List ℕ) × (h : Takes (behind taken old) new all) × IsFeedErrorUnder versions abbreviations order all e × InUnit order all (length h.taken) × StartsWith taken all
 
 -- ---- where version 5 alone is accepted
 
@@ -95,32 +105,6 @@ FailsInField old new (reads.Io kind) = (all : List ℕ) × (h : Takes old new al
 abbrev pub ReadsField : {X : Type 0} → (X → List ℕ) → Option (List ℕ) → Option (List ℕ) → Result X ReadError → Type 0
 ReadsField view old new (Ok x) = Consumes old new (view x) × InField (view x) (length (view x)) × (IsField (view x) ⊎ IsAtEnd new)
 ReadsField view old new (Err e) = FailsInField old new e
-
--- a length field that is refused; as cut only where the reader has no more
-pub record FieldRefused (order : Order) (bytes : List ℕ) (new : Option (List ℕ)) : Type 0 where
-  pub reason : Reason
-  pub breaks : (initial_length order 0).Break bytes length_limit 0 reason
-  pub inside : InField bytes (length bytes)
-  pub why : (reason ≢ Truncated) ⊎ IsAtEnd new
-
--- a length field, and behind it the bytes that it tells, or fewer where the reader has no more
-pub record UnitHeld (order : Order) (bytes : List ℕ) (new : Option (List ℕ)) : Type 0 where
-  pub format : Format
-  pub count : ℕ
-  pub field : Taken (initial_length order 0) bytes length_limit (format, count) (length_size format)
-  pub inside : length bytes ≤ length_size format + count
-  pub whole : (length bytes ≡ length_size format + count) ⊎ IsAtEnd new
-
--- a read of a unit's bytes fails: at most the unit was taken
-abbrev pub FailsInUnit : Order → Option (List ℕ) → Option (List ℕ) → ReadError → Type 0
-FailsInUnit order old new (reads.Fault f) = ⊥
-FailsInUnit order old new reads.NoMemory = TakesInUnit order old new
-FailsInUnit order old new (reads.Io kind) = TakesInUnit order old new
-
--- what a read of a unit's bytes gives
-abbrev pub ReadsBytes : {X : Type 0} → (X → List ℕ) → Order → Option (List ℕ) → Option (List ℕ) → Result X ReadError → Type 0
-ReadsBytes view order old new (Ok x) = Consumes old new (view x) × (FieldRefused order (view x) new ⊎ UnitHeld order (view x) new)
-ReadsBytes view order old new (Err e) = FailsInUnit order old new e
 
 -- whether these are the bytes that begin a length of the 64-bit format
 abbrev pub IsEscape : List ℕ → Bool → Type 0

@@ -9,15 +9,15 @@ use Rattle.dw_header.specs.declared.versions.Versions.{Versions}
 use Rattle.dw_header.specs.Header.{Header}
 use Rattle.dw_header.specs.HeaderPlace.{HeaderFaultUnder}
 use Rattle.dw_unit.specs.Unit.{WholeUnit, bytes_of, UnitFits, left_behind}
-use Rattle.dw_feed.specs.Feed.{InUnit, Takes}
+use Rattle.dw_feed.specs.Feed.{behind, StartsWith, InUnit, Takes}
 use Rattle.dw_feed.specs.HeadFeed.{IsHeader}
 use Rattle.dw_feed.specs.BodyFeed.{PartialUnit, BreaksAt, stream}
 
 -- ---- the header
 
--- exactly the bytes of a header were taken
-abbrev pub TakesHeader : Versions → Order → Option (List ℕ) → Option (List ℕ) → Header × ℕ → Type 0
-TakesHeader versions order old new x = (bytes : List ℕ) × IsHeader versions order bytes x.0 x.1 × Consumes old new bytes
+-- exactly the bytes of a header were taken, of which these were taken before
+abbrev pub TakesHeader : Versions → Order → List ℕ → Option (List ℕ) → Option (List ℕ) → Header × ℕ → Type 0
+TakesHeader versions order taken old new x = (bytes : List ℕ) × IsHeader versions order bytes x.0 x.1 × Consumes (behind taken old) new bytes × StartsWith taken bytes
 
 -- no header is read: a fault is that of all that the reader had left
 abbrev pub IsHeaderError : Versions → Order → List ℕ → ReadError → Type 0
@@ -26,8 +26,8 @@ IsHeaderError versions order all reads.NoMemory = ⊥
 IsHeaderError versions order all (reads.Io kind) = Unit {0}
 
 -- and no byte was taken past the unit's end
-abbrev pub TakesNoHeader : Versions → Order → Option (List ℕ) → Option (List ℕ) → ReadError → Type 0
-TakesNoHeader versions order old new e = (all : List ℕ) × (h : Takes old new all) × IsHeaderError versions order all e × InUnit order all (length h.taken)
+abbrev pub TakesNoHeader : Versions → Order → List ℕ → Option (List ℕ) → Option (List ℕ) → ReadError → Type 0
+TakesNoHeader versions order taken old new e = (all : List ℕ) × (h : Takes (behind taken old) new all) × IsHeaderError versions order all e × InUnit order all (length h.taken) × StartsWith taken all
 
 -- ---- what follows it
 

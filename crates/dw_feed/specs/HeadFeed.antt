@@ -19,6 +19,12 @@ pub data HeadState : Type 0 where
   Refused : TheFault → HeadState
   Finished : HeadState
 
+-- what a feed took that was not answered yet
+abbrev pub taken_of : HeadState → List ℕ
+taken_of (Reading taken) = taken
+taken_of (Refused f) = []
+taken_of Finished = []
+
 pub record HeadFeed : Type 0 where
   pub order : Order
   pub versions : Versions

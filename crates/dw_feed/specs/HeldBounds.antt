@@ -26,7 +26,7 @@ use Rattle.dw_tree.specs.Levels.{nesting_is}
 use Rattle.dw_tree.specs.Sizes.{values_short, rows_short}
 use Rattle.dw_feed.specs.PlaceBytes.{open_bytes}
 use Rattle.dw_feed.specs.PlaceRows.{place_rows}
-use Rattle.dw_feed.specs.FieldPlace.{ChildFits, ChainFits, BeginsEntry, RootFits, BeforeFits, FramesFit, PlaceFits}
+use Rattle.dw_feed.specs.FieldPlace.{ChildFits, ChainFits, BeginsEntry, RootFits, BeforeFits, FramesFit, PaddingFits, PlaceFits}
 use Rattle.dw_feed.specs.PlaceBreaks.{room_is}
 use Rattle.dw_feed.specs.FieldFound.{root_begins}
 use Rattle.dw_feed.specs.BodyFeed.{PartialUnit, first_form, count_if, pairs_left, value_part, part, before, stream}
@@ -151,6 +151,10 @@ module _ (k : Ctx) (t : Table) where
       let ps : List Pair = declared_pairs (declared t r.code.value) in
       omega (arith, (values_short k (take (length r.values) ps) r.values 0 h.spot_fits.values_fit).1, length-append (uleb.spell r.code) (first_values k ps r.values))
 
+few_nulls : (ws : List ℕ) → AreNulls ws → length ws ≤ length (nulls ws)
+few_nulls [] h = omega arith
+few_nulls (w ∷ ws) h = omega (arith, few_nulls ws h.1, uleb_some (zero_of w) h.0, length-append (uleb.spell (zero_of w)) (nulls ws))
+
 -- ---- what a feed holds
 
 module _ (g : PartialUnit) (keeps : Keeps g) where
@@ -216,6 +220,24 @@ module _ (g : PartialUnit) (keeps : Keeps g) where
       by fs ts None ws h m = omega arith
       by fs ts (Some r) ws h m = omega (arith, m, short_unfinished (context g) g.table fs ts r ws h, length-append (joined r.values) (partial_bytes r.partial))
 
+  pub few_padding : length g.padding ≤ length (stream g)
+  few_padding =
+      omega (
+        arith,
+        parts_size,
+        few_nulls g.padding (by (frames_of g) (chain_of g) g.place.unfinished g.padding keeps.stands.padding_fits),
+        length-append (before g) (part g),
+        length-append (header_bytes g.header g.unit_length) (body_so_far g),
+      )
+    where
+      by : (fs : List Frame) (ts : Forest) (o : Option UnfinishedEntry) (ws : List ℕ) → PaddingFits (context g) g.table fs ts o ws → AreNulls ws
+      by fs ts o [] h = tt
+      by [] (more x ts) None (w ∷ ws) h = h
+      by [] none None (w ∷ ws) h = absurd h
+      by [] none (Some r) (w ∷ ws) h = absurd h
+      by [] (more x ts) (Some r) (w ∷ ws) h = absurd h
+      by (f ∷ fs) ts o (w ∷ ws) h = absurd h
+
   pub held_within : FewPairs g.table → length g.pending ≤ 16 → HeldWithin (length (stream g)) (held_by g)
   held_within few short = record {
     pending = short;
@@ -224,7 +246,3 @@ module _ (g : PartialUnit) (keeps : Keeps g) where
     values = held_values few;
     pool = held_pool;
   }
-
-pub few_nulls : (ws : List ℕ) → AreNulls ws → length ws ≤ length (nulls ws)
-few_nulls [] h = omega arith
-few_nulls (w ∷ ws) h = omega (arith, few_nulls ws h.1, uleb_some (zero_of w) h.0, length-append (uleb.spell (zero_of w)) (nulls ws))

@@ -1,5 +1,5 @@
 -- What a feed says that it holds, as the counts of the definitions, and their bounds.
-use Rattle.std.specs.Prelude.{ℕ, ◌*◌, ◌≤◌, length}
+use Rattle.std.specs.Prelude.{ℕ, ◌*◌, ◌≤◌, List, [], length}
 use Rattle.dw_feed.specs.declared.held.Held.{Held}
 use Rattle.dw_feed.specs.BodyFeed.{BodyFeed, Reading, Refused, Finished, stream}
 use Rattle.dw_feed.specs.HeldCounts.{HeldCounts}
@@ -14,6 +14,12 @@ pub record HeldWithin (taken : ℕ) (h : HeldCounts) : Type 0 where
   pub entries : h.entries ≤ taken
   pub values : h.values ≤ 1024 * h.entries
   pub pool : h.pool ≤ taken
+
+-- the widths of the padding's nulls that a feed took; none once an answer was not More
+abbrev pub padding_of : BodyFeed → List ℕ
+padding_of (Reading g) = g.padding
+padding_of (Refused f) = []
+padding_of Finished = []
 
 -- the bytes that a feed holds the contents of; none once an answer was not More
 abbrev pub taken_by : BodyFeed → ℕ

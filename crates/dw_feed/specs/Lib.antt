@@ -2,6 +2,8 @@ pub mod NeverTruncated
 pub mod UnitNeverTruncated
 pub mod CodeMoments
 pub mod Feed
+pub mod Cut
+pub mod Taking
 pub mod Laws
 pub mod HeaderCut
 pub mod HeadFeed

@@ -1,43 +1,18 @@
-//! The bytes of a unit, taken from a reader.
+//! Bytes that are taken from a reader and kept.
 ghost use Rattle.std.specs.Prelude.{◌≡◌, None, vec_items};
 ghost use Rattle.dw_leb.specs.Watch.{inner_of, fault_of, reader_fault, KeptSome};
-ghost use Rattle.dw_feed.specs.Feed.{ReadsBytes, ReadsField, ReadsUpTo, IsEscape};
+ghost use Rattle.dw_feed.specs.Feed.{ReadsField, ReadsUpTo, IsEscape};
 
-use dw_leb::{Order, ReadError, Watched, read_length};
+use dw_leb::{ReadError, Watched};
 use std::alloc::Global;
 use std::io::Read;
 
 const CHUNK: usize = 4096;
 
-/// The bytes of the unit at the front of what the reader has left: as many as its initial length
-/// says (sections 7.2.2 and 7.4), or fewer where the reader has no more. Where the initial length
-/// is cut or refused, the bytes of that field alone. `NoMemory` is returned where a growth was
-/// refused, and only where at least a byte was taken.
-pub fn unit_bytes<R: Read>(
-    alloc: Global,
-    order: Order,
-    reader: &mut Watched<R>,
-) -> Result<Vec<u8>, ReadError>
-    requires { fault_of reader.old ≡ None }
-    ensures bytes { ReadsBytes vec_items order
-        (R.remaining (inner_of reader.old))
-        (R.remaining (inner_of reader.new))
-        result }
-    ensures memory { KeptSome (R.remaining (inner_of reader.old)) (R.remaining (inner_of reader.new)) result }
-    ensures fault { fault_of reader.new ≡ reader_fault result }
-{
-    let mut bytes = field_bytes(alloc, reader)?;
-    match read_length(order, 0, bytes.as_slice()) {
-        Ok((_, length)) => {
-            read_up_to(reader, length, &mut bytes)?;
-            Ok(bytes)
-        }
-        Err(_) => Ok(bytes),
-    }
-}
-
-/// The bytes of an initial length: four, and eight more where those are ff ff ff ff.
-fn field_bytes<R: Read>(alloc: Global, reader: &mut Watched<R>) -> Result<Vec<u8>, ReadError>
+/// The bytes of an initial length (section 7.4): four, and eight more where those are ff ff ff ff. Fewer where the
+/// reader has no more. `NoMemory` is returned where a growth was refused, and only where at least a byte was
+/// taken.
+pub fn field_bytes<R: Read>(alloc: Global, reader: &mut Watched<R>) -> Result<Vec<u8>, ReadError>
     requires { fault_of reader.old ≡ None }
     ensures bytes { ReadsField vec_items
         (R.remaining (inner_of reader.old))
@@ -61,9 +36,9 @@ pub(crate) fn is_escape(bytes: &[u8]) -> bool
     bytes == [0xff, 0xff, 0xff, 0xff].as_slice()
 }
 
-/// Appends the next `most` bytes of the reader to `bytes`, or fewer where it has no more. `bytes`
-/// grows by what comes.
-fn read_up_to<R: Read>(
+/// Appends the next `most` bytes of the reader to `bytes`, or fewer where it has no more. `bytes` grows by what
+/// comes. `NoMemory` is returned where a growth was refused, and only where at least a byte was taken.
+pub fn read_up_to<R: Read>(
     reader: &mut Watched<R>,
     most: u64,
     bytes: &mut Vec<u8>,

@@ -19,9 +19,9 @@ mod unit;
 mod value;
 
 pub use body::BodyFeed;
-pub use bytes::unit_bytes;
+pub use bytes::{field_bytes, read_up_to};
 pub use head::HeadFeed;
 pub use held::Held;
 pub use progress::Progress;
-pub use reader::{read_unit_from, read_unit_from_as};
+pub use reader::{read_unit_behind, read_unit_from, read_unit_from_as};
 pub use unit::{read_unit, read_unit_as};

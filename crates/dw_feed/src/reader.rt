@@ -1,10 +1,12 @@
 //! Reading a unit from a reader.
-ghost use Rattle.std.specs.Prelude.{◌≡◌, None, IfOk, IfErr};
+ghost use Rattle.std.specs.Prelude.{◌≡◌, ◌<◌, ◌^◌, length, None, IfOk, IfErr};
 ghost use Rattle.dw_leb.specs.Watch.{inner_of, fault_of, reader_fault, KeptSome};
 ghost use Rattle.dw_header.specs.Laws.{HasHeaderBytes};
-ghost use Rattle.dw_unit.specs.Unit.{left_behind};
+ghost use Rattle.dw_unit.specs.Unit.{bytes_of, left_behind};
+ghost use Rattle.dw_unit.specs.UnitView.{FaultWithin};
 ghost use Rattle.dw_feed.specs.BodyFeed.{started};
-ghost use Rattle.dw_feed.specs.Feed.{TakesUnit, TakesUnitUnder, TakesNoUnit, TakesNoUnitUnder};
+ghost use Rattle.dw_feed.specs.HeadFeed.{Reading, taken_of};
+ghost use Rattle.dw_feed.specs.Feed.{behind, StartsWith, InUnit, TakesUnit, TakesUnitUnder, TakesNoUnit, TakesNoUnitUnder, TakesNoUnitBehind};
 ghost use Rattle.dw_feed.specs.FeedReads.{TakesHeader, TakesNoHeader, TakesBody, TakesNoBody};
 
 use crate::body::BodyFeed;
@@ -21,7 +23,10 @@ use std::rc::Rc;
 const PART: usize = 8;
 
 /// The most bytes that are read at once behind a header.
-const CHUNK: usize = 4096;
+const CHUNK: usize = 65_536;
+
+/// The most where the unit has no more: a larger piece of the stack would cost more than the unit.
+const SMALL: usize = 1024;
 
 /// The unit of version 5 at the front of what the reader has left, in whatever pieces its bytes come. At `Ok`
 /// exactly the unit's bytes were taken.
@@ -82,28 +87,57 @@ pub fn read_unit_from_as<R: Read>(
     ensures tables { tables.new ≡ tables.old }
     ensures fault { fault_of reader.new ≡ reader_fault result }
 {
-    let (header, unit_length) = head_from(order, versions, reader)?;
+    read_unit_behind(alloc, HeadFeed::new_as(order, versions), tables, reader)
+}
+
+/// The unit of which a feed of its header took the first bytes, and whose other bytes are at the front of what the
+/// reader has left, as `read_unit_from_as` gives it where none were taken before. The feed gives the byte order
+/// and the versions. It wants more bytes, and took none past the unit's end.
+///
+/// All that is said there of what the reader had left is said of the bytes that the feed took and those behind
+/// them; offsets count from the first of these.
+pub fn read_unit_behind<R: Read>(
+    alloc: Global,
+    feed: HeadFeed,
+    tables: &mut Tables<'_>,
+    reader: &mut Watched<R>,
+) -> Result<Unit, ReadError>
+    requires clear { fault_of reader.old ≡ None }
+    requires reading { feed.state ≡ Reading (taken_of feed.state) }
+    requires inside { InUnit feed.order (taken_of feed.state) (length (taken_of feed.state)) }
+    ensures found { IfOk result (TakesUnitUnder feed.versions tables.old feed.order
+        (behind (taken_of feed.state) (R.remaining (inner_of reader.old)))
+        (R.remaining (inner_of reader.new))) }
+    ensures front { IfOk result (λ u. StartsWith (taken_of feed.state) (bytes_of u)) }
+    ensures broken { IfErr result (TakesNoUnitBehind feed.versions tables.old feed.order (taken_of feed.state)
+        (R.remaining (inner_of reader.old))
+        (R.remaining (inner_of reader.new))) }
+    ensures memory { KeptSome (behind (taken_of feed.state) (R.remaining (inner_of reader.old))) (R.remaining (inner_of reader.new)) result }
+    ensures near { IfErr result (FaultWithin (2 ^ 63)) }
+    ensures tables { tables.new ≡ tables.old }
+    ensures fault { fault_of reader.new ≡ reader_fault result }
+{
+    let (header, unit_length) = head_from(feed, reader)?;
     let table = tables.get(header.abbrev_offset())?;
     body_from(alloc, header, unit_length, table, reader)
 }
 
-/// The header at the front of what the reader has left, and its unit_length. No byte is taken that the
-/// header doesn't want.
-fn head_from<R: Read>(
-    order: Order,
-    versions: Versions,
-    reader: &mut Watched<R>,
-) -> Result<(Header, u64), ReadError>
-    requires { fault_of reader.old ≡ None }
-    ensures found { IfOk result (TakesHeader versions order
+/// The header of which the feed took the first bytes, and its unit_length; the other bytes are at the front of
+/// what the reader has left. No byte is taken that the header doesn't want.
+fn head_from<R: Read>(feed: HeadFeed, reader: &mut Watched<R>) -> Result<(Header, u64), ReadError>
+    requires clear { fault_of reader.old ≡ None }
+    requires reading { feed.state ≡ Reading (taken_of feed.state) }
+    requires inside { InUnit feed.order (taken_of feed.state) (length (taken_of feed.state)) }
+    ensures found { IfOk result (TakesHeader feed.versions feed.order (taken_of feed.state)
         (R.remaining (inner_of reader.old))
         (R.remaining (inner_of reader.new))) }
-    ensures broken { IfErr result (TakesNoHeader versions order
+    ensures broken { IfErr result (TakesNoHeader feed.versions feed.order (taken_of feed.state)
         (R.remaining (inner_of reader.old))
         (R.remaining (inner_of reader.new))) }
+    ensures near { IfErr result (FaultWithin (2 ^ 63)) }
     ensures fault { fault_of reader.new ≡ reader_fault result }
 {
-    let mut feed = HeadFeed::new_as(order, versions);
+    let mut feed = feed;
     let mut part = [0u8; PART];
     loop {
         let want = feed.wants();
@@ -153,9 +187,36 @@ fn body_from<R: Read>(
         (R.remaining (inner_of reader.new))) }
     ensures fault { fault_of reader.new ≡ reader_fault result }
 {
+    if behind_header(header, unit_length) <= SMALL as u64 {
+        let mut chunk = [0u8; SMALL];
+        return body_through(alloc, header, unit_length, table, reader, &mut chunk);
+    }
+    let mut chunk = [0u8; CHUNK];
+    body_through(alloc, header, unit_length, table, reader, &mut chunk)
+}
+
+/// The same, read into this chunk again and again.
+fn body_through<R: Read>(
+    alloc: Global,
+    header: Header,
+    unit_length: u64,
+    table: Rc<Table>,
+    reader: &mut Watched<R>,
+    chunk: &mut [u8],
+) -> Result<Unit, ReadError>
+    requires spelled { HasHeaderBytes header unit_length }
+    requires clear { fault_of reader.old ≡ None }
+    requires room { 0 < length chunk.old }
+    ensures found { IfOk result (TakesBody (started header unit_length table.value)
+        (R.remaining (inner_of reader.old))
+        (R.remaining (inner_of reader.new))) }
+    ensures broken { IfErr result (TakesNoBody (started header unit_length table.value)
+        (R.remaining (inner_of reader.old))
+        (R.remaining (inner_of reader.new))) }
+    ensures fault { fault_of reader.new ≡ reader_fault result }
+{
     let mut left = behind_header(header, unit_length);
     let mut feed = BodyFeed::new(alloc, header, unit_length, table);
-    let mut chunk = [0u8; CHUNK];
     // A unit that has no room for a root is refused before a byte is read.
     let mut got = 0;
     loop {
@@ -167,7 +228,7 @@ fn body_from<R: Read>(
             Progress::NoMemory => return Err(ReadError::NoMemory),
             Progress::Spent => unreachable!(),
         }
-        let want = left.min(CHUNK as u64) as usize;
+        let want = left.min(chunk.len() as u64) as usize;
         got = match reader.read(&mut chunk[..want]) {
             Ok(got) => got,
             Err(e) => return Err(ReadError::Io(e.kind())),

@@ -2,7 +2,7 @@ use Rattle.std.proofs.Common.{◌≡◌, ◌∙◌, List, [], ◌++◌, Bool, �
 use Rattle.std.proofs.lemmas.Result.{err_from_is_err_and}
 use Rattle.dw_leb.specs.Transfers.{consumes_none}
 use Rattle.dw_feed.specs.Feed.{escape, IsEscape}
-use Rattle.dw_feed.proofs.Taking.{field_error, kept_more}
+use Rattle.dw_feed.specs.Taking.{field_error, kept_more}
 use Rattle.dw_feed.proofs.bytes.field_bytes.Goals as goal
 
 pub returns-in_err-read_up_to-clause-bytes : goal.returns-in_err-read_up_to-clause-bytes

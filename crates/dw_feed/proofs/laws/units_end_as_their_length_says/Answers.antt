@@ -9,7 +9,7 @@ use Rattle.dw_unit.specs.DecideUnit.{unit_says, unit_stays, AnswerSays}
 use Rattle.dw_unit.specs.ReadUnit.{Answer, Unit, Fault, read_unit_under}
 use Rattle.dw_unit.specs.UnitLaws.{one_fault, not_both}
 use Rattle.dw_feed.specs.Laws.{HoldsUnit}
-use Rattle.dw_feed.proofs.Cut.{whole_never_truncated, whole_fault}
+use Rattle.dw_feed.specs.Cut.{whole_never_truncated, whole_fault}
 use Rattle.dw_feed.proofs.laws.units_end_as_their_length_says.Goals as goal
 
 from_inside : (versions : Versions) (order : Order) (abbreviations bytes tail : List ℕ) (s : SectionId) (offset : ℕ) (reason : Reason) → HoldsUnit order bytes → FailsUnder versions order abbreviations (bytes ++ tail) s offset reason

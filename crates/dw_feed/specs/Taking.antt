@@ -11,7 +11,7 @@ use Rattle.dw_leb.specs.Part.{Taken}
 use Rattle.dw_leb.specs.Number.{length_field, initial_length, length_limit, length_size}
 use Rattle.dw_leb.specs.Watch.{ConsumesUpTo, KeptSome}
 use Rattle.dw_leb.specs.Transfers.{consumes_more}
-use Rattle.dw_feed.specs.Feed.{Had, escape, InField, Takes, TakesInUnit, UnitHeld, FailsUpTo, FailsInField, FailsInUnit}
+use Rattle.dw_feed.specs.Feed.{Had, behind, StartsWith, escape, InField, Takes, FailsUpTo, FailsInField}
 
 -- what a reader has left, where it tells
 abbrev pub left_of : Option (List ℕ) → List ℕ
@@ -26,6 +26,14 @@ pub had_before : (old new : Option (List ℕ)) (taken : List ℕ) → Consumes o
 had_before None new taken h = tt
 had_before (Some all) None taken h = absurd h
 had_before (Some all) (Some rest) taken h = h
+
+-- what was taken before is in front of what is taken now
+pub behind_taken : (taken : List ℕ) (old : Option (List ℕ)) → Consumes (behind taken old) old taken
+behind_taken taken None = tt
+behind_taken taken (Some bytes) = refl
+
+pub starts_longer : (front taken rest : List ℕ) → StartsWith front taken → StartsWith front (taken ++ rest)
+starts_longer front taken rest (more, is) = (more ++ rest, ap (λ (bs : List ℕ). bs ++ rest) is ∙ append_assoc front more rest)
 
 abbrev pub takes_of : (old new : Option (List ℕ)) (taken : List ℕ) → Consumes old new taken → Takes old new (taken ++ left_of new)
 takes_of old new taken h = record { taken = taken; rest = left_of new; had = had_before old new taken h; split = refl; consumed = h }
@@ -69,29 +77,6 @@ field_fails old mid new bytes most took next room =
         let front : take 4 bytes ≡ bytes = take_all 4 bytes (omega arith) in
         field_longer (bytes ++ got) (left_of new) (length (bytes ++ got)) (inr (omega (arith, eight), take-append-le 4 bytes got (omega arith) ∙ front ∙ e))
 
--- up to so many bytes behind a length field that tells them
-pub unit_fails : (order : Order) (old mid new : Option (List ℕ)) (bytes : List ℕ) (x : Format × ℕ) → Consumes old mid bytes → length bytes ≡ length_size x.0
-    → Taken (initial_length order 0) bytes length_limit x (length_size x.0) → ConsumesUpTo mid new x.1 → TakesInUnit order old new
-unit_fails order old mid new bytes x took size field next =
-    let got : List ℕ = next.0 in
-    let both : Consumes old new (bytes ++ got) = consumes_more old mid new bytes got took next.2 in
-    let sum : length (bytes ++ got) ≡ length bytes + length got = length-append bytes got in
-    let there = taken_longer order (bytes ++ got) (left_of new) x (length_size x.0) (taken_longer order bytes got x (length_size x.0) field) in
-    ((bytes ++ got) ++ left_of new, takes_of old new (bytes ++ got) both, inr (x, there, omega (arith, next.1)))
-
--- what was read behind a length field
-pub unit_held : (order : Order) (new : Option (List ℕ)) (bytes got : List ℕ) (x : Format × ℕ) → length bytes ≡ length_size x.0 → Taken (initial_length order 0) bytes length_limit x (length_size x.0)
-    → length got ≤ x.1 → (length got ≡ x.1) ⊎ IsAtEnd new → UnitHeld order (bytes ++ got) new
-unit_held order new bytes got x size field le whole =
-    let sum : length (bytes ++ got) ≡ length bytes + length got = length-append bytes got in
-    record {
-      format = x.0;
-      count = x.1;
-      field = taken_longer order bytes got x (length_size x.0) field;
-      inside = omega arith;
-      whole = elim whole [ inl e ↦ inl (omega (arith, e)) | inr e ↦ inr e ];
-    }
-
 -- ---- errors that are handed on
 
 pub field_error : (old mid new : Option (List ℕ)) (bytes : List ℕ) (most : ℕ) (e : ReadError) → Consumes old mid bytes
@@ -99,17 +84,6 @@ pub field_error : (old mid new : Option (List ℕ)) (bytes : List ℕ) (most : �
 field_error old mid new bytes most (reads.Fault f) took room h = h
 field_error old mid new bytes most reads.NoMemory took room h = field_fails old mid new bytes most took h room
 field_error old mid new bytes most (reads.Io kind) took room h = field_fails old mid new bytes most took h room
-
-pub bytes_error : (order : Order) (old new : Option (List ℕ)) (e : ReadError) → FailsInField old new e → FailsInUnit order old new e
-bytes_error order old new (reads.Fault f) h = h
-bytes_error order old new reads.NoMemory h = (h.0, h.1, inl h.2)
-bytes_error order old new (reads.Io kind) h = (h.0, h.1, inl h.2)
-
-pub rest_error : (order : Order) (old mid new : Option (List ℕ)) (bytes : List ℕ) (x : Format × ℕ) (e : ReadError) → Consumes old mid bytes → length bytes ≡ length_size x.0
-    → Taken (initial_length order 0) bytes length_limit x (length_size x.0) → FailsUpTo mid new x.1 e → FailsInUnit order old new e
-rest_error order old mid new bytes x (reads.Fault f) took size field h = h
-rest_error order old mid new bytes x reads.NoMemory took size field h = unit_fails order old mid new bytes x took size field h
-rest_error order old mid new bytes x (reads.Io kind) took size field h = unit_fails order old mid new bytes x took size field h
 
 -- ---- want of memory
 

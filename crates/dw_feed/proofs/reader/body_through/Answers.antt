@@ -6,14 +6,14 @@ use Rattle.dw_feed.specs.declared.progress.Progress.TheVariants as answers
 use Rattle.dw_feed.specs.BodyFeed.{PartialUnit, BodyFeed, started, stream, EndsBody}
 use Rattle.dw_feed.specs.FedUnit.{done_says}
 use Rattle.dw_feed.proofs.BodyReads.{pushed, more_feeds, fault_feeds, done_all, fault_all, more_all, end_all}
-use Rattle.dw_feed.proofs.Taking.{consumes_nothing, got_within}
-use Rattle.dw_feed.proofs.reader.body_from.Goals as goal
+use Rattle.dw_feed.specs.Taking.{consumes_nothing, got_within}
+use Rattle.dw_feed.proofs.reader.body_through.Goals as goal
 
 pub loop-unit-init : goal.loop-unit-init
 loop-unit-init g c = record {
   at = (started c.args.header c.args.unit_length c.args.table.value, c.new-feed.ensures, (refl, refl, refl));
   taken = ([], consumes_none _, refl, omega (arith, c.behind_header-left.ensures));
-  chunk = (refl, omega arith);
+  chunk = (refl, omega arith, c.requires.room);
   clear = c.requires.clear;
 }
 
@@ -56,7 +56,7 @@ returns-then-got-eq0-clause-broken g c =
     let piece : List ℕ = take c.loop-unit.got c.loop-unit.chunk in
     let next = more_feeds now piece c.feed-answer.result.0 c.feed-answer.new.self (pushed c.loop-unit.feed c.feed-answer.new.self now piece c.feed-answer.result.0 c.feed-answer.result.1 answers.More i.at.1 c.in-More.is c.feed-answer.ensures.feeds) in
     let more = more_all c.args.header c.args.unit_length c.args.table.value c.requires.spelled now i.at.2 piece i.taken.0 i.taken.2 next.0 c.feed-answer.result.0 next.2 in
-    let some : 0 < length c.read.new.buf = omega (arith, c.read.auto.buf, length-take c.min-want.result c.loop-unit.chunk, i.chunk.0, c.min-want.ensures, more.2, i.taken.3) in
+    let some : 0 < length c.read.new.buf = omega (arith, c.read.auto.buf, length-take c.min-want.result c.loop-unit.chunk, i.chunk.0, i.chunk.2, c.min-want.ensures, more.2, i.taken.3) in
     let took = consumes_nothing _ _ _ i.taken.0 c.read.new.buf c.in-Ok.got c.if-got-eq0.true i.taken.1 c.in-Ok.ensures.bytes.0 in
     let ends = subst (λ (x : BodyFeed). EndsBody x (Some c.in-Some.fault)) next.1 c.in-Some.ensures in (
       i.taken.0,
@@ -89,6 +89,7 @@ loop-unit-preserved g c =
       chunk = (
         omega (arith, length-append c.read.new.buf others, length-drop c.min-want.result c.loop-unit.chunk, buf, length-take c.min-want.result c.loop-unit.chunk, i.chunk.0, c.min-want.ensures),
         omega (arith, within, c.min-want.ensures),
+        i.chunk.2,
       );
       clear = c.in-Ok.ensures.fault;
     }

@@ -94,17 +94,17 @@ second_never_truncated order bytes rest own a true e is split size lim enough re
 ]
 
 -- a whole length field is not cut
-pub field_never_truncated : (order : Order) (bytes : List ℕ) (offset : ℕ) (reason : Reason) → IsField bytes → (initial_length order 0).Break bytes length_limit offset reason → reason ≢ Truncated
-field_never_truncated order bytes offset reason is (inr far) = λ e. too_far_judges 0 far.value (far.refused ∙ ap (λ (r : Reason). Some r) e)
-field_never_truncated order bytes offset reason is (inl (here, own, inl (inl short))) = elim short.1 [
+pub field_never_truncated : (order : Order) (start : ℕ) (bytes : List ℕ) (offset : ℕ) (reason : Reason) → IsField bytes → (initial_length order start).Break bytes length_limit offset reason → reason ≢ Truncated
+field_never_truncated order start bytes offset reason is (inr far) = λ e. too_far_judges start far.value (far.refused ∙ ap (λ (r : Reason). Some r) e)
+field_never_truncated order start bytes offset reason is (inl (here, own, inl (inl short))) = elim short.1 [
   | inl past ↦ λ e. cc
   | inr cut ↦ elim is [
     | inl four ↦ absurd (omega (arith, cut.1, four.0))
     | inr twelve ↦ absurd (omega (arith, cut.1, twelve))
   ]
 ]
-field_never_truncated order bytes offset reason is (inl (here, own, inl (inr bad))) = λ e. reserved_judges bad.value (bad.refused ∙ ap (λ (r : Reason). Some r) e)
-field_never_truncated order bytes offset reason is (inl (here, own, inr (a, fits, after))) =
+field_never_truncated order start bytes offset reason is (inl (here, own, inl (inr bad))) = λ e. reserved_judges bad.value (bad.refused ∙ ap (λ (r : Reason). Some r) e)
+field_never_truncated order start bytes offset reason is (inl (here, own, inr (a, fits, after))) =
     let size : length (fixed_bytes order 4 a) ≡ 4 = length-fixed order 4 a in
     second_never_truncated order bytes after.rest after.own a (a == 0xffffffff) refl is after.split size (length_limit - length (fixed_bytes order 4 a)) (omega arith) reason after.breaks
 
