@@ -2,7 +2,7 @@
 use Rattle.std.specs.Prelude.{◌≡◌, ◌≢◌, ◌<◌, ℕ, List, ◌++◌, ◌⊎◌, Some, Ok}
 use Rattle.std.specs.List.{AllByRecursion}
 use Rattle.dw_leb.specs.declared.errors.Reason.{Reason}
-use Rattle.dw_leb.specs.declared.errors.Reason.TheVariants.{Truncated}
+use Rattle.dw_leb.specs.declared.errors.Reason.TheVariants.{Truncated, BadVersion, BadUnitType}
 use Rattle.dw_leb.specs.declared.errors.SectionId.{SectionId}
 use Rattle.dw_leb.specs.declared.errors.SectionId.TheVariants.{Info}
 use Rattle.dw_leb.specs.declared.order.Order.{Order}
@@ -42,6 +42,10 @@ SomeAnswer = (versions : Versions) (order : Order) (abbreviations bytes : List �
 abbrev pub FaultsStay : Type 0
 FaultsStay = (versions : Versions) (order : Order) (abbreviations bytes tail : List ℕ) (s : SectionId) (n : ℕ) (r : Reason) → (s ≡ Info → r ≢ Truncated)
     → SectionFails versions order abbreviations bytes s n r → SectionFails versions order abbreviations (bytes ++ tail) s n r
+
+-- no section is refused for a version or for a unit type: items of others are kept as their bytes
+abbrev pub NoKindFaults : Type 0
+NoKindFaults = (versions : Versions) (order : Order) (abbreviations bytes : List ℕ) (s : SectionId) (n : ℕ) (r : Reason) → SectionFails versions order abbreviations bytes s n r → (r ≢ BadVersion) × (r ≢ BadUnitType)
 
 -- the bytes of a section are read as that section where the tables of its units stand
 abbrev pub WrittenIsRead : Type 0

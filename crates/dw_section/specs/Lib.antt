@@ -9,9 +9,11 @@ pub mod SectionLaws
 pub mod Streamed
 pub mod Reference
 pub mod Lookup
+pub mod StringBase
 pub mod ItemView
 pub mod Push
 pub mod SectionView
 pub mod FedItems
+pub mod Reads
 pub mod Found
 pub mod ReferenceLaws

@@ -10,7 +10,7 @@ use dw_leb::{Bad, Order, read_fixed};
 use dw_unit::Versions;
 
 /// Whether an item with `n` bytes behind its initial length is a unit that is read, as far as those of them
-/// show it that are there. Nothing calls this yet.
+/// show it that are there.
 ///
 /// An error is `Truncated`, where the input ends before the version or the unit type.
 pub(crate) fn shows_known(versions: Versions, order: Order, n: u64, b: &[u8]) -> Result<bool, Bad>

@@ -1,5 +1,5 @@
 //! Laws of the definitions of sections and references. They call nothing.
-ghost use Rattle.dw_section.specs.Laws.{OneSection, OneFault, NotBoth, SomeAnswer, FaultsStay, WrittenIsRead, ReadIsWritten, ReferencesNameEntries};
+ghost use Rattle.dw_section.specs.Laws.{OneSection, OneFault, NotBoth, SomeAnswer, FaultsStay, NoKindFaults, WrittenIsRead, ReadIsWritten, ReferencesNameEntries};
 
 /// One outcome: bytes are exactly one of a section, spelled in one way, and a first fault, in one section, at
 /// one place, for one reason.
@@ -13,6 +13,12 @@ pub fn one_outcome()
 /// Outcomes are stable: a fault whose reason isn't `Truncated` stays whatever bytes follow.
 pub fn outcomes_are_stable()
     ensures faults { FaultsStay }
+{}
+
+/// Items of a version or a unit type that isn't read are kept as their bytes: so `BadVersion` and `BadUnitType` are
+/// never why a section is refused.
+pub fn no_kind_is_refused()
+    ensures faults { NoKindFaults }
 {}
 
 /// The round trip: the bytes of a section are read as that section, with every width, where the tables of its

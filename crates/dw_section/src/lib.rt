@@ -1,12 +1,14 @@
 //! Whole sections `.debug_info` (section 7.5), and references between entries (sections 2.2 and 7.5.5).
 #![tactic(auto)]
 
+mod base;
 mod find;
 mod id;
 mod item;
 mod kind;
 pub mod laws;
 mod lists;
+mod reader;
 mod refusal;
 mod resolve;
 mod section;
@@ -14,6 +16,7 @@ mod writer;
 
 pub use id::{EntryId, RefFault};
 pub use item::Item;
+pub use reader::{read_section, read_section_as};
 pub use refusal::SectionRefusal;
 pub use section::Section;
 pub use writer::write_section;

@@ -12,19 +12,22 @@ use dw_unit::Kind;
 use indexmap::IndexMap;
 use std::alloc::AllocError;
 
-/// Room for one more item, its start and its type. No list is changed.
+/// Room for one more item, its start, its base and its type. No list is changed.
 pub(crate) fn make_room(
     items: &mut Vec<Item>,
     starts: &mut Vec<u64>,
+    bases: &mut Vec<Option<u64>>,
     types: &mut IndexMap<u64, EntryId>,
 ) -> Result<(), AllocError>
     ensures items { items.new.items ≡ items.old.items }
     ensures starts { starts.new.items ≡ starts.old.items }
+    ensures bases { bases.new.items ≡ bases.old.items }
     ensures types { types.new.entries ≡ types.old.entries }
-    ensures room { OnOk result ((vec_len items.new < vec_capacity items.new) × (vec_len starts.new < vec_capacity starts.new) × (0 < spare types.new)) }
+    ensures room { OnOk result ((vec_len items.new < vec_capacity items.new) × (vec_len starts.new < vec_capacity starts.new) × (vec_len bases.new < vec_capacity bases.new) × (0 < spare types.new)) }
 {
     items.reserve(1)?;
     starts.reserve(1)?;
+    bases.reserve(1)?;
     types.reserve(1)
 }
 

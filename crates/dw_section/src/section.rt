@@ -6,8 +6,10 @@ ghost use Rattle.dw_section.specs.Section.{SectionFits, section_bytes};
 ghost use Rattle.dw_unit.specs.Unit.{WholeUnit, UnitFits};
 ghost use Rattle.dw_section.specs.Push.{with_item, same_order, accepts, push_refusal, or_memory};
 ghost use Rattle.dw_section.specs.Lookup.{unit_at, start_of, entry};
+ghost use Rattle.dw_section.specs.StringBase.{str_offsets_base};
 ghost use Rattle.dw_header.specs.declared.versions.Versions.TheVariants.{Five};
 
+use crate::base::base_in;
 use crate::id::EntryId;
 use crate::item::Item;
 use crate::lists::{add, keep_type, make_room};
@@ -29,6 +31,8 @@ pub struct Section {
     pub(crate) items: Vec<Item>,
     /// Where each item begins, counted from the section's first byte.
     pub(crate) starts: Vec<u64>,
+    /// The base of the strings of each item.
+    pub(crate) bases: Vec<Option<u64>>,
     /// The entry of the type of each type unit, by the unit's signature; of two with one signature that of
     /// the first.
     pub(crate) types: IndexMap<u64, EntryId>,
@@ -48,7 +52,7 @@ impl Model for Section {
 
     ghost view = { λ s. record { order = s.order; versions = s.versions; items = map item_of s.items.items } };
 
-    ghost invariant = { λ s. IsSection (record { order = s.order; versions = s.versions; items = map item_of s.items.items }) s.starts.items s.types.entries s.end };
+    ghost invariant = { λ s. IsSection (record { order = s.order; versions = s.versions; items = map item_of s.items.items }) s.starts.items s.bases.items s.types.entries s.end };
 }
 
 impl Section {
@@ -68,6 +72,7 @@ impl Section {
             versions,
             items: Vec::new(alloc),
             starts: Vec::new(alloc),
+            bases: Vec::new(alloc),
             types: IndexMap::new(alloc),
             end: 0,
         }
@@ -120,6 +125,19 @@ impl Section {
     {
         match self.starts.get(item) {
             Some(start) => Some(*start),
+            None => None,
+        }
+    }
+
+    /// Where the entries of a unit's strings begin in `.debug_str_offsets`, counted from the first byte of that
+    /// section (sections 3.1.1 and 7.26): the value of the first DW_AT_str_offsets_base of its root, where that
+    /// is a fixed number of 1 to 8 bytes or an unsigned LEB128 one. None exactly where it isn't, where the root
+    /// has none, and where the item is no unit that is read. It was looked up when the unit was added.
+    pub fn str_offsets_base(&self, item: usize) -> Option<u64>
+        ensures { result ≡ str_offsets_base self.now.items item }
+    {
+        match self.bases.get(item) {
+            Some(base) => *base,
             None => None,
         }
     }
@@ -183,7 +201,14 @@ impl Section {
         ensures handed_back { IfErr result (λ x. x ≡ item) }
         ensures unchanged { OnErr result (self.new ≡ self.old) }
     {
-        if make_room(&mut self.items, &mut self.starts, &mut self.types).is_err() {
+        if make_room(
+            &mut self.items,
+            &mut self.starts,
+            &mut self.bases,
+            &mut self.types,
+        )
+        .is_err()
+        {
             return Err(item);
         }
         let end = self.end + item.size();
@@ -191,6 +216,7 @@ impl Section {
         let number = self.items.as_slice().len();
         keep_type(&mut self.types, number, &item);
         add(&mut self.starts, start);
+        add(&mut self.bases, base_in(&item));
         add(&mut self.items, item);
         Ok(())
     }

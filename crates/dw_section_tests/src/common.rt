@@ -25,26 +25,20 @@ pub const REFERS: [u8; 17] = [
 ];
 
 /// The unit of version 4 or 5 at the front of the bytes.
-pub fn unit(alloc: Global, abbreviations: &[u8], bytes: &[u8]) -> Result<Unit, Fail> {
+pub fn unit(alloc: Global, order: Order, abbreviations: &[u8], bytes: &[u8]) -> Result<Unit, Fail> {
     let mut tables = Tables::new(alloc, abbreviations);
-    let (unit, _) = read_unit_as(
-        alloc,
-        Order::Little,
-        Versions::FourAndFive,
-        &mut tables,
-        bytes,
-    )?;
+    let (unit, _) = read_unit_as(alloc, order, Versions::FourAndFive, &mut tables, bytes)?;
     Ok(unit)
 }
 
-/// Appends the unit of these bytes. Whether the section takes it.
+/// Appends the unit of these bytes, which are in the section's order. Whether the section takes it.
 pub fn takes(
     alloc: Global,
     section: &mut Section,
     abbreviations: &[u8],
     bytes: &[u8],
 ) -> Result<bool, Fail> {
-    let unit = unit(alloc, abbreviations, bytes)?;
+    let unit = unit(alloc, section.order(), abbreviations, bytes)?;
     Ok(section.push(unit).is_ok())
 }
 

@@ -49,7 +49,7 @@ fn refusal(
     section: &mut Section,
     bytes: &[u8],
 ) -> Result<Option<SectionRefusal>, Fail> {
-    let unit = unit(alloc, &TWO_TABLES, bytes)?;
+    let unit = unit(alloc, Order::Little, &TWO_TABLES, bytes)?;
     match section.push(unit) {
         Ok(()) => Ok(None),
         Err((refusal, _)) => Ok(Some(refusal)),

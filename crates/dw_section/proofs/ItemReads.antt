@@ -1,0 +1,440 @@
+-- An item that is read from a reader: what was taken of it, and from there to what the read says.
+use Rattle.std.proofs.Common.{Bool, true, false, ◌≡◌, ◌≢◌, ◌⊎◌, ℕ, ◌+◌, ◌-◌, ◌^◌, ◌<◌, ◌≤◌, List, [], ◌∷◌, ◌++◌, length, take, drop, Option, Some, None, Result, Ok, Err, refl, sym, ap, subst, ◌∙◌, append_assoc, append-nil, arith, inl, inr}
+use Rattle.std.specs.Prelude.{min, nat_le, ◌==◌, ◌&&◌}
+use Rattle.std.proofs.lemmas.Bool.{leb-true, leb-false}
+use Rattle.std.proofs.lemmas.List.{length-append, length-take, take-append-drop, take_all}
+use Rattle.std.proofs.Math.Seq.{drop-append_seam}
+use Rattle.std.specs.Io.KnownBytes.{Consumes, IsAtEnd}
+use Rattle.dw_leb.specs.declared.errors.Reason.{Reason}
+use Rattle.dw_leb.specs.declared.errors.Reason.TheVariants.{Truncated}
+use Rattle.dw_leb.specs.declared.errors.Fault.{Fault as TheFault}
+use Rattle.dw_leb.specs.declared.errors.ReadError.{ReadError}
+use Rattle.dw_leb.specs.declared.errors.ReadError.TheVariants as reads
+use Rattle.dw_leb.specs.declared.errors.SectionId.{SectionId}
+use Rattle.dw_leb.specs.declared.errors.SectionId.TheVariants.{Info, Abbrev}
+use Rattle.dw_leb.specs.declared.order.Order.{Order}
+use Rattle.dw_leb.specs.declared.order.Format.{Format}
+use Rattle.dw_leb.specs.declared.order.Format.TheVariants.{Dwarf32, Dwarf64}
+use Rattle.dw_leb.specs.Part.{Taken, optional}
+use Rattle.dw_leb.specs.Number.{Short, fixed, fixed_bytes, length_field, initial_length, length_limit, length_size}
+use Rattle.dw_leb.specs.Digits.{length-fixed}
+use Rattle.dw_leb.specs.DecideNumber.{initial-size, initial_within, initial_length_stays}
+use Rattle.dw_leb.specs.Transfers.{consumes_more}
+use Rattle.dw_leb.specs.Watch.{KeptSome}
+use Rattle.dw_header.specs.declared.kind.Kind.{Kind}
+use Rattle.dw_header.specs.declared.kind.Kind.TheVariants.{Compile, Partial, TypeUnit, Skeleton, Four}
+use Rattle.dw_header.specs.declared.versions.Versions.{Versions}
+use Rattle.dw_header.specs.declared.versions.Versions.TheVariants.{Five, FourAndFive}
+use Rattle.dw_header.specs.Header.{Header, fields, fields_of}
+use Rattle.dw_header.specs.HeaderPlace.{HeaderBreaksUnder, HeaderFaultUnder}
+use Rattle.dw_header.specs.Laws.{header_breaks_stay}
+use Rattle.dw_unit.specs.Inside.{header_inside}
+use Rattle.dw_unit.specs.Unit.{WholeUnit, bytes_of, FailsUnder}
+use Rattle.dw_feed.specs.declared.progress.Progress.{Progress}
+use Rattle.dw_feed.specs.declared.progress.Progress.TheVariants.{More, Done, Fault, NoMemory, Spent}
+use Rattle.dw_feed.specs.Feed.{Had, behind, StartsWith, Takes, InUnit, IsField, FailsUpTo, FailsInField, TakesUnitUnder, TakesNoUnitBehind}
+use Rattle.dw_feed.specs.HeadFeed.{HeadFeed, HeadState, Reading, Refused, Finished, IsHeader, Answers, FeedsHead}
+use Rattle.dw_feed.specs.Taking.{left_of, left_at_end, takes_of, behind_taken}
+use Rattle.dw_feed.specs.Cut.{field_never_truncated, field_size, same_length}
+use Rattle.dw_section.specs.Item.{Item, Known, Other, item_bytes, least_length, marks_with, marks, ShowsKind, Begins, ItemFits, IsKnown, ItemFails}
+use Rattle.dw_section.specs.ItemPlace.{fits_alone, length_some, shows_more, known_there, other_there}
+use Rattle.dw_section.specs.Streamed.{length_fault, kind_fault, other_cut}
+use Rattle.dw_section.specs.FedItems.{fault_there}
+use Rattle.dw_section.specs.Reads.{TakesItem, TakesNoItem, IsItemError, HasLength, HasKind, moved_offset, moved, moved_error, fault_at}
+
+-- ---- bytes that were taken before
+
+-- what is taken behind them is taken with them
+pub consumes_from : (old mid new : Option (List ℕ)) (taken xs : List ℕ) → Consumes old mid taken → Consumes (behind taken mid) new xs → Consumes old new xs
+consumes_from None mid new taken xs h k = tt
+consumes_from (Some all) None new taken xs h k = absurd h
+consumes_from (Some all) (Some rest) new taken xs h k = subst (λ (b : List ℕ). Consumes (Some b) new xs) (sym h) k
+
+had_from : (old mid : Option (List ℕ)) (taken all : List ℕ) → Consumes old mid taken → Had (behind taken mid) all → Had old all
+had_from None mid taken all h k = tt
+had_from (Some bytes) None taken all h k = absurd h
+had_from (Some bytes) (Some rest) taken all h k = h ∙ k
+
+pub takes_from : (old mid new : Option (List ℕ)) (taken all : List ℕ) → Consumes old mid taken → Takes (behind taken mid) new all → Takes old new all
+takes_from old mid new taken all h k = record { taken = k.taken; rest = k.rest; had = had_from old mid taken all h k.had; split = k.split; consumed = consumes_from old mid new taken k.taken h k.consumed }
+
+pub item_from : (versions : Versions) (order : Order) (abbreviations : List ℕ) (start : ℕ) (old mid new : Option (List ℕ)) (taken : List ℕ) (x : Item) → Consumes old mid taken
+    → TakesItem versions order abbreviations start (behind taken mid) new x → TakesItem versions order abbreviations start old new x
+item_from versions order abbreviations start old mid new taken x h k = record { fits = k.fits; place = k.place; consumed = consumes_from old mid new taken (item_bytes x) h k.consumed }
+
+pub no_item_from : (versions : Versions) (order : Order) (abbreviations : List ℕ) (start : ℕ) (old mid new : Option (List ℕ)) (taken : List ℕ) (e : ReadError) → Consumes old mid taken
+    → TakesNoItem versions order abbreviations start (behind taken mid) new e → TakesNoItem versions order abbreviations start old new e
+no_item_from versions order abbreviations start old mid new taken e h (all, takes, is) = (all, takes_from old mid new taken all h takes, is)
+
+pub kept_error : (X Y : Type 0) (old mid new : Option (List ℕ)) (taken : List ℕ) (e : ReadError) → Consumes old mid taken → KeptSome {X = X} (behind taken mid) new (Err e) → KeptSome {X = Y} old new (Err e)
+kept_error X Y old mid new taken (reads.Fault f) h k = tt
+kept_error X Y old mid new taken reads.NoMemory h k = (k.0, k.1, consumes_from old mid new taken k.0 h k.2)
+kept_error X Y old mid new taken (reads.Io kind) h k = tt
+
+pub kept_from : (X : Type 0) (old mid new : Option (List ℕ)) (taken : List ℕ) (r : Result X ReadError) → Consumes old mid taken → KeptSome (behind taken mid) new r → KeptSome old new r
+kept_from X old mid new taken (Ok x) h k = tt
+kept_from X old mid new taken (Err e) h k = kept_error X X old mid new taken e h k
+
+-- ---- the length
+
+pub begins_more : (order : Order) (start : ℕ) (bytes : List ℕ) (format : Format) (n : ℕ) (rest more : List ℕ) → Begins order start bytes format n rest → Begins order start (bytes ++ more) format n (rest ++ more)
+begins_more order start bytes format n rest more b = record { fits = b.fits; split = ap (λ (x : List ℕ). x ++ more) b.split ∙ append_assoc ((length_field order).spell (format, n)) rest more }
+
+pub begins_size : (order : Order) (start : ℕ) (bytes : List ℕ) (format : Format) (n : ℕ) (rest : List ℕ) → Begins order start bytes format n rest → length bytes ≡ length_size format + length rest
+begins_size order start bytes format n rest b = omega (arith, ap length b.split, length-append ((length_field order).spell (format, n)) rest, initial-size order start format n)
+
+pub begins_some : (order : Order) (start : ℕ) (bytes : List ℕ) (format : Format) (n : ℕ) (rest : List ℕ) → Begins order start bytes format n rest → 0 < length bytes
+begins_some order start bytes format n rest b = omega (arith, begins_size order start bytes format n rest b, length_some format)
+
+-- a whole length field that is read
+pub field_taken : (order : Order) (start : ℕ) (bytes : List ℕ) (format : Format) (n : ℕ) → Rattle.dw_feed.specs.Feed.InField bytes (length bytes) → Taken (initial_length order start) bytes length_limit (format, n) (length_size format) → HasLength order start n bytes
+field_taken order start bytes format n inside h =
+    let alone : Taken (initial_length order 0) bytes length_limit (format, n) (length_size format) = record { rest = h.rest; fits = fits_alone order start format n h.fits; split = h.split; is_size = h.is_size; within = h.within } in
+    let size : length bytes ≡ length_size format = field_size order bytes format n inside alone in
+    let s : List ℕ = (length_field order).spell (format, n) in
+    let none : h.rest ≡ [] = no_rest h.rest (omega (arith, size, ap length h.split, length-append s h.rest, initial-size order start format n)) in
+    record { format = format; begins = record { fits = h.fits; split = h.split ∙ ap (λ (x : List ℕ). s ++ x) none } }
+  where
+    no_rest : (xs : List ℕ) → length xs ≡ 0 → xs ≡ []
+    no_rest [] e = refl
+    no_rest (x ∷ xs) e = absurd (omega (arith, e))
+
+-- one that is refused, or cut where the reader has no more
+pub field_refused : (versions : Versions) (order : Order) (abbreviations : List ℕ) (start : ℕ) (old new : Option (List ℕ)) (bytes : List ℕ) (reason : Reason) → Consumes old new bytes → IsField bytes ⊎ IsAtEnd new → 0 < length bytes
+    → (initial_length order start).Break bytes length_limit 0 reason → TakesNoItem versions order abbreviations start old new (fault_at start reason)
+field_refused versions order abbreviations start old new bytes reason took why some breaks =
+    let there : (initial_length order start).Break (bytes ++ left_of new) length_limit 0 reason = elim why [
+      | inl is ↦ initial_length_stays order start bytes (left_of new) length_limit 0 reason (field_never_truncated order start bytes 0 reason is breaks) breaks
+      | inr end ↦ subst (λ (x : List ℕ). (initial_length order start).Break x length_limit 0 reason) (sym (append-nil bytes) ∙ ap (λ (x : List ℕ). bytes ++ x) (sym (left_at_end new end))) breaks
+    ] in
+    let zero : start + 0 ≡ start = omega arith in (
+      bytes ++ left_of new,
+      takes_of old new bytes took,
+      (
+        omega (arith, some, length-append bytes (left_of new)),
+        subst (λ (q : ℕ). ItemFails versions order abbreviations start (bytes ++ left_of new) Info q reason) zero (length_fault versions order abbreviations start (bytes ++ left_of new) 0 reason there),
+      ),
+    )
+
+-- the reader failed in it, or there was no memory
+pub field_failed : (versions : Versions) (order : Order) (abbreviations : List ℕ) (start : ℕ) (old new : Option (List ℕ)) (e : ReadError) → FailsInField old new e → TakesNoItem versions order abbreviations start old new e
+field_failed versions order abbreviations start old new (reads.Fault f) h = absurd h
+field_failed versions order abbreviations start old new reads.NoMemory h = (h.0, h.1, tt)
+field_failed versions order abbreviations start old new (reads.Io kind) h = (h.0, h.1, tt)
+
+-- the same behind bytes that were taken
+pub rest_failed : (versions : Versions) (order : Order) (abbreviations : List ℕ) (start : ℕ) (old new : Option (List ℕ)) (taken : List ℕ) (most : ℕ) (e : ReadError) → FailsUpTo old new most e
+    → TakesNoItem versions order abbreviations start (behind taken old) new e
+rest_failed versions order abbreviations start old new taken most (reads.Fault f) h = absurd h
+rest_failed versions order abbreviations start old new taken most reads.NoMemory h =
+    let both = consumes_more (behind taken old) old new taken h.0 (behind_taken taken old) h.2 in
+    ((taken ++ h.0) ++ left_of new, takes_of (behind taken old) new (taken ++ h.0) both, tt)
+rest_failed versions order abbreviations start old new taken most (reads.Io kind) h =
+    let both = consumes_more (behind taken old) old new taken h.0 (behind_taken taken old) h.2 in
+    ((taken ++ h.0) ++ left_of new, takes_of (behind taken old) new (taken ++ h.0) both, tt)
+
+-- ---- what shows the kind
+
+-- where all bytes of it are there, it doesn't break
+pub marks_whole : (versions : Versions) (order : Order) (n : ℕ) (bytes : List ℕ) (offset : ℕ) (reason : Reason) → (n ≤ length bytes) ⊎ (3 ≤ length bytes) → (marks versions order n).Break bytes n offset reason → ⊥
+marks_whole versions order n bytes offset reason enough = by (nat_le (least_length versions) n) (nat_le 3 n) refl refl
+  where
+    least : (v : Versions) → 2 ≤ least_length v
+    least Five = omega arith
+    least FourAndFive = omega arith
+
+    of_short : (m lim : ℕ) (b : List ℕ) (o : ℕ) → m ≤ lim → m ≤ length b → Short m b lim o reason → ⊥
+    of_short m lim b o le there (at, inl past) = omega (arith, le, past.0)
+    of_short m lim b o le there (at, inr cut) = omega (arith, there, cut.1)
+
+    of_type : (v : Bool) (lim : ℕ) (b : List ℕ) (o : ℕ) → (v ≡ true → 1 ≤ lim) → (v ≡ true → 1 ≤ length b) → (optional v (fixed order 1)).Break b lim o reason → ⊥
+    of_type true lim b o le there h = of_short 1 lim b o (le refl) (there refl) h
+    of_type false lim b o le there h = h
+
+    room_of : (v w : Bool) → v && w ≡ true → w ≡ true
+    room_of true w e = e
+    room_of false w e = absurd cc
+
+    many : (m : ℕ) → m ≤ n → m ≤ 3 → m ≤ length bytes
+    many m le three = elim enough [ inl a ↦ omega (arith, le, a) | inr b ↦ omega (arith, three, b) ]
+
+    by : (v w : Bool) → nat_le (least_length versions) n ≡ v → nat_le 3 n ≡ w → (marks_with order v w).Break bytes n offset reason → ⊥
+    by false w e f h = h
+    by true w e f (inl one) =
+        let two : 2 ≤ n = omega (arith, leb-true (least_length versions) n e, least versions) in
+        of_short 2 n bytes offset two (many 2 two (omega arith)) one
+    by true w e f (inr two) =
+        of_type (two.0 == 5 && w) (n - length (fixed_bytes order 2 two.0)) two.2.rest two.2.own
+        (λ t. let three = leb-true 3 n (f ∙ room_of (two.0 == 5) w t) in omega (arith, three, length-fixed order 2 two.0))
+        (λ t.
+        let three = leb-true 3 n (f ∙ room_of (two.0 == 5) w t) in
+        omega (arith, many 3 three (omega arith), ap length two.2.split, length-append (fixed_bytes order 2 two.0) two.2.rest, length-fixed order 2 two.0))
+        two.2.breaks
+
+-- the input ends before it shows the kind
+pub kind_cut : (versions : Versions) (order : Order) (abbreviations : List ℕ) (start n field : ℕ) (old new : Option (List ℕ)) (bytes got : List ℕ) (begun : HasLength order start n bytes) → field ≡ length bytes
+    → Consumes old new got → ((n ≤ length got) ⊎ (3 ≤ length got)) ⊎ IsAtEnd new → (own : ℕ) (reason : Reason) → (marks versions order n).Break got n own reason
+    → TakesNoItem versions order abbreviations start (behind bytes old) new (fault_at (start + field + own) reason)
+kind_cut versions order abbreviations start n field old new bytes got begun field_is took (inl whole) own reason breaks = absurd (marks_whole versions order n got own reason whole breaks)
+kind_cut versions order abbreviations start n field old new bytes got begun field_is took (inr end) own reason breaks =
+    let f : Format = begun.format in
+    let all : List ℕ = (bytes ++ got) ++ left_of new in
+    let is : bytes ++ got ≡ all = sym (append-nil (bytes ++ got)) ∙ ap (λ (x : List ℕ). (bytes ++ got) ++ x) (sym (left_at_end new end)) in
+    let there : Begins order start all f n got = subst (λ (x : List ℕ). Begins order start x f n got) is (begins_more order start bytes f n [] got begun.begins) in
+    let at : start + length_size f + own ≡ start + field + own = omega (arith, field_is, begins_size order start bytes f n [] begun.begins) in (
+      all,
+      takes_of (behind bytes old) new (bytes ++ got) (consumes_more (behind bytes old) old new bytes got (behind_taken bytes old) took),
+      (
+        begins_some order start all f n got there,
+        subst (λ (q : ℕ). ItemFails versions order abbreviations start all Info q reason) at (kind_fault versions order abbreviations start all f n got own reason there breaks),
+      ),
+    )
+
+-- what was taken shows it
+pub kind_taken : (versions : Versions) (order : Order) (start n field : ℕ) (bytes got : List ℕ) (known : Bool) → HasLength order start n bytes → field ≡ length bytes → length got ≤ n → length got ≤ 3 → ShowsKind versions order n got known
+    → HasKind versions order start n field (bytes ++ got) known
+kind_taken versions order start n field bytes got known begun field_is le few shows = record {
+  format = begun.format;
+  rest = got;
+  begins = begins_more order start bytes begun.format n [] got begun.begins;
+  field_is = field_is ∙ begins_size order start bytes begun.format n [] begun.begins ∙ omega arith;
+  inside = le;
+  few = few;
+  shows = shows;
+}
+
+-- what was taken behind so many bytes of a length field
+pub behind_field : (bytes got now : List ℕ) (field : ℕ) → field ≡ length bytes → now ≡ bytes ++ got → take (length now - field) (drop field now) ≡ got
+behind_field bytes got now field field_is is =
+    let rest : drop field now ≡ got = ap (λ (k : ℕ). drop k now) field_is ∙ ap (drop (length bytes)) is ∙ drop-append_seam bytes got in
+    ap (take (length now - field)) rest ∙ take_all (length now - field) got (omega (arith, field_is, ap length is, length-append bytes got))
+
+-- all bytes of an item, or as many as show its kind
+pub enough : (n got most : ℕ) → got ≡ most → most ≡ min n 3 → (n ≤ got) ⊎ (3 ≤ got)
+enough n got most all is = by (nat_le n got) refl
+  where
+    by : (v : Bool) → nat_le n got ≡ v → (n ≤ got) ⊎ (3 ≤ got)
+    by true e = inl (leb-true n got e)
+    by false e = inr (omega (arith, leb-false n got e, all, is))
+
+pub both_taken : (old mid : Option (List ℕ)) (bytes got now : List ℕ) → now ≡ bytes ++ got → Consumes old mid got → Consumes (behind bytes old) mid now
+both_taken old mid bytes got now is took = subst (λ (b : List ℕ). Consumes (behind bytes old) mid b) (sym is) (consumes_more (behind bytes old) old mid bytes got (behind_taken bytes old) took)
+
+-- ---- an item of no known kind
+
+module _ (versions : Versions) (order : Order) (start n field : ℕ) (old new : Option (List ℕ)) (bytes got : List ℕ) (begun : HasKind versions order start n field bytes false) (took : Consumes old new got) (abbreviations : List ℕ) where
+  all_begins : Begins order start (bytes ++ got) begun.format n (begun.rest ++ got)
+  all_begins = begins_more order start bytes begun.format n begun.rest got begun.begins
+
+  both : Consumes (behind bytes old) new (bytes ++ got)
+  both = consumes_more (behind bytes old) old new bytes got (behind_taken bytes old) took
+
+  all_show : ShowsKind versions order n (begun.rest ++ got) false
+  all_show = shows_more versions order n begun.rest got false begun.shows
+
+  pub other_inside : length bytes ≤ field + n
+  other_inside = omega (arith, begun.field_is, begun.inside, begins_size order start bytes begun.format n begun.rest begun.begins)
+
+  pub other_taken : (now : List ℕ) → now ≡ bytes ++ got → length now ≡ field + n → TakesItem versions order abbreviations start (behind bytes old) new (Other now)
+  other_taken now is size =
+      let enough : n ≤ length (begun.rest ++ got) = omega (arith, size, ap length is, begun.field_is, begins_size order start (bytes ++ got) begun.format n (begun.rest ++ got) all_begins) in
+      let whole : take (length_size begun.format + n) (bytes ++ got) ≡ bytes ++ got = take_all (length_size begun.format + n) (bytes ++ got) (omega (arith, size, ap length is, begun.field_is)) in
+      subst (λ (b : List ℕ). TakesItem versions order abbreviations start (behind bytes old) new (Other b)) (sym is) (record {
+        fits = subst (λ (b : List ℕ). ItemFits versions order start (Other b)) whole (other_there versions order start (bytes ++ got) begun.format n (begun.rest ++ got) all_begins all_show enough);
+        place = tt;
+        consumed = both;
+      })
+
+  pub other_ended : length (bytes ++ got) < field + n → IsAtEnd new → TakesNoItem versions order abbreviations start (behind bytes old) new (fault_at (start + field) Truncated)
+  other_ended less end =
+      let all : List ℕ = (bytes ++ got) ++ left_of new in
+      let is : bytes ++ got ≡ all = sym (append-nil (bytes ++ got)) ∙ ap (λ (x : List ℕ). (bytes ++ got) ++ x) (sym (left_at_end new end)) in
+      let there : Begins order start all begun.format n (begun.rest ++ got) = subst (λ (x : List ℕ). Begins order start x begun.format n (begun.rest ++ got)) is all_begins in
+      let short : length (begun.rest ++ got) < n = omega (arith, less, begun.field_is, begins_size order start (bytes ++ got) begun.format n (begun.rest ++ got) all_begins) in
+      let at : start + length_size begun.format ≡ start + field = omega (arith, begun.field_is) in (
+        all,
+        takes_of (behind bytes old) new (bytes ++ got) both,
+        (
+          begins_some order start all begun.format n (begun.rest ++ got) there,
+          subst (λ (q : ℕ). ItemFails versions order abbreviations start all Info q Truncated) at (other_cut versions order abbreviations start all begun.format n (begun.rest ++ got) there all_show short),
+        ),
+      )
+
+-- ---- an item of a known kind
+
+-- a fault of a unit that stands alone is the item's, moved
+pub item_error : (versions : Versions) (order : Order) (abbreviations : List ℕ) (start : ℕ) (all : List ℕ) (f : TheFault) → IsKnown versions order start all → 0 < length all → FailsUnder versions order abbreviations all f.section f.offset f.reason
+    → IsItemError versions order abbreviations start all (reads.Fault (moved start f))
+item_error versions order abbreviations start all f known some fails = (some, by f.section f.offset f.reason fails)
+  where
+    by : (s : SectionId) (offset : ℕ) (reason : Reason) → FailsUnder versions order abbreviations all s offset reason → ItemFails versions order abbreviations start all s (moved_offset s start offset) reason
+    by Info offset reason h = fault_there versions order abbreviations start all offset reason known h
+    by Abbrev offset reason h = (known, h)
+
+-- a header has more than what shows the kind
+fields_many : (order : Order) (format : Format) (k : Kind) (a o : ℕ) → 3 < length ((fields order format).spell (record { kind = k; address_size = a; abbrev_offset = o }))
+fields_many order format = by
+  where
+    five : (type a : ℕ) (x body : List ℕ) → body ≡ fixed_bytes order 2 5 ++ (fixed_bytes order 1 type ++ (fixed_bytes order 1 a ++ x)) → 3 < length body
+    five type a x body e =
+        omega (
+          arith,
+          ap length e,
+          length-append (fixed_bytes order 2 5) (fixed_bytes order 1 type ++ (fixed_bytes order 1 a ++ x)),
+          length-append (fixed_bytes order 1 type) (fixed_bytes order 1 a ++ x),
+          length-append (fixed_bytes order 1 a) x,
+          length-fixed order 2 5,
+          length-fixed order 1 type,
+          length-fixed order 1 a,
+        )
+
+    four : (w o : ℕ) (x body : List ℕ) → 2 ≤ w → body ≡ fixed_bytes order 2 4 ++ (fixed_bytes order w o ++ x) → 3 < length body
+    four w o x body le e = omega (arith, le, ap length e, length-append (fixed_bytes order 2 4) (fixed_bytes order w o ++ x), length-append (fixed_bytes order w o) x, length-fixed order 2 4, length-fixed order w o)
+
+    of_four : (f : Format) (a o : ℕ) → 3 < length ((fields order f).spell (record { kind = Four; address_size = a; abbrev_offset = o }))
+    of_four Dwarf32 a o = four 4 o _ _ (omega arith) refl
+    of_four Dwarf64 a o = four 8 o _ _ (omega arith) refl
+
+    by : (k : Kind) (a o : ℕ) → 3 < length ((fields order format).spell (record { kind = k; address_size = a; abbrev_offset = o }))
+    by Compile a o = five 1 a _ _ refl
+    by Partial a o = five 3 a _ _ refl
+    by (TypeUnit s t) a o = five 2 a _ _ refl
+    by (Skeleton id) a o = five 4 a _ _ refl
+    by Four a o = of_four format a o
+
+module _ (versions : Versions) (order : Order) (start n field : ℕ) (bytes : List ℕ) (begun : HasKind versions order start n field bytes true) where
+  pub known_begins : (all : List ℕ) → StartsWith bytes all → IsKnown versions order start all
+  known_begins all (more, is) = (
+    begun.format,
+    n,
+    begun.rest ++ more,
+    subst (λ (x : List ℕ). Begins order start x begun.format n (begun.rest ++ more)) (sym is) (begins_more order start bytes begun.format n begun.rest more begun.begins),
+    shows_more versions order n begun.rest more true begun.shows,
+  )
+
+  pub known_some : (all : List ℕ) → StartsWith bytes all → 0 < length all
+  known_some all (more, is) = omega (arith, ap length is, length-append bytes more, begins_some order start bytes begun.format n begun.rest begun.begins)
+
+  -- the feed of its header
+
+  pub known_inside : InUnit order bytes (length bytes)
+  known_inside =
+      let size = initial-size order 0 begun.format n in
+      inr (
+        (begun.format, n),
+        record { rest = begun.rest; fits = fits_alone order start begun.format n begun.begins.fits; split = begun.begins.split; is_size = size; within = omega (arith, initial_within order 0 begun.format n, size) },
+        omega (arith, begins_size order start bytes begun.format n begun.rest begun.begins, begun.inside),
+      )
+
+  few_bytes : length bytes ≤ 15
+  few_bytes = omega (arith, begins_size order start bytes begun.format n begun.rest begun.begins, begun.few, most begun.format)
+    where
+      most : (f : Format) → length_size f ≤ 12
+      most Dwarf32 = omega arith
+      most Dwarf64 = omega arith
+
+  abbrev fresh : HeadFeed
+  fresh = record { order = order; versions = versions; state = Reading [] }
+
+  answers_of : (feed new : HeadFeed) (k : ℕ) (a b : Progress (Header × ℕ)) → feed ≡ fresh → a ≡ b → FeedsHead feed bytes k a new → FeedsHead fresh bytes k b new
+  answers_of feed new k a b is same says = subst (λ (x : Progress (Header × ℕ)). FeedsHead fresh bytes k x new) same (subst (λ (x : HeadFeed). FeedsHead x bytes k a new) is says)
+
+  -- it wants more
+  pub fed_more : (feed new : HeadFeed) (k : ℕ) (a : Progress (Header × ℕ)) → feed ≡ fresh → a ≡ More → FeedsHead feed bytes k a new → new ≡ record { order = order; versions = versions; state = Reading bytes }
+  fed_more feed new k a is same says =
+      let h = answers_of feed new k a More is same says in
+      ap (λ (o : Order). record { order = o; versions = new.versions; state = new.state }) h.order_is
+      ∙ ap (λ (v : Versions). record { order = order; versions = v; state = new.state }) h.versions_is
+      ∙ ap (λ (s : HeadState). record { order = order; versions = versions; state = s }) (by new.state h.answers)
+    where
+      by : (s : HeadState) → Answers versions order (Reading []) bytes k More s → s ≡ Reading bytes
+      by (Reading now) h = ap (λ (x : List ℕ). Reading x) h.1
+      by (Refused f) h = absurd h
+      by Finished h = absurd h
+
+  -- it has a fault
+  head_fault : (k : ℕ) (f : TheFault) (s : HeadState) → Answers versions order (Reading []) bytes k (Fault f) s → HeaderFaultUnder versions order (take k bytes) f × (f.reason ≢ Truncated)
+  head_fault k f (Reading now) h = absurd h
+  head_fault k f (Refused g) h = (h.2, h.3)
+  head_fault k f Finished h = absurd h
+
+  pub fed_near : (feed new : HeadFeed) (k : ℕ) (a : Progress (Header × ℕ)) (f : TheFault) → feed ≡ fresh → a ≡ Fault f → FeedsHead feed bytes k a new → f.offset ≤ 2 ^ 63
+  fed_near feed new k a f is same says =
+      let h = head_fault k f new.state (answers_of feed new k a (Fault f) is same says).answers in
+      omega (arith, header_inside versions order (take k bytes) f.offset f.reason h.0.1, length-take k bytes, few_bytes)
+
+  pub fed_fault_there : (feed new : HeadFeed) (k : ℕ) (a : Progress (Header × ℕ)) (f : TheFault) → feed ≡ fresh → a ≡ Fault f → FeedsHead feed bytes k a new → (abbreviations : List ℕ) (old : Option (List ℕ))
+      → TakesNoItem versions order abbreviations start (behind bytes old) old (reads.Fault (moved start f))
+  fed_fault_there feed new k a f is same says abbreviations old =
+      let h = head_fault k f new.state (answers_of feed new k a (Fault f) is same says).answers in
+      let all : List ℕ = bytes ++ left_of old in
+      let split : take k bytes ++ (drop k bytes ++ left_of old) ≡ all = sym (append_assoc (take k bytes) (drop k bytes) (left_of old)) ∙ ap (λ (x : List ℕ). x ++ left_of old) (take-append-drop k bytes) in
+      let breaks : HeaderBreaksUnder versions order all f.offset f.reason = subst (λ (x : List ℕ). HeaderBreaksUnder versions order x f.offset f.reason) split (header_breaks_stay versions order (take k bytes) (drop k bytes ++ left_of old) f.offset f.reason h.1 h.0.1) in
+      let fails : FailsUnder versions order abbreviations all f.section f.offset f.reason = subst (λ (s : SectionId). FailsUnder versions order abbreviations all s f.offset f.reason) (sym h.0.0) (inl breaks) in (
+        all,
+        takes_of (behind bytes old) old bytes (behind_taken bytes old),
+        item_error versions order abbreviations start all f (known_begins all (left_of old, refl)) (known_some all (left_of old, refl)) fails,
+      )
+
+  -- it can't have the whole header
+  pub not_done : (feed new : HeadFeed) (k : ℕ) (a : Progress (Header × ℕ)) (x : Header × ℕ) → feed ≡ fresh → a ≡ Done x → FeedsHead feed bytes k a new → ⊥
+  not_done feed new k a x is same says = by new.state (answers_of feed new k a (Done x) is same says).answers
+    where
+      of_header : IsHeader versions order (take k bytes) x.0 x.1 → ⊥
+      of_header i =
+          let h : Header = x.0 in
+          let own : List ℕ = (fields h.order h.format).spell (fields_of h) in
+          let len : Order → List ℕ = λ o. (length_field o).spell (h.format, x.1) in
+          let tail : List ℕ = drop k bytes in
+          let split : len h.order ++ (own ++ tail) ≡ bytes = sym (append_assoc (len h.order) own tail) ∙ ap (λ (y : List ℕ). y ++ tail) (sym i.all) ∙ take-append-drop k bytes in
+          let split_here : len order ++ (own ++ tail) ≡ bytes = subst (λ (o : Order). len o ++ (own ++ tail) ≡ bytes) i.order_is split in
+          let alone : (initial_length order 0).Fits (h.format, x.1) = subst (λ (o : Order). (initial_length o 0).Fits (h.format, x.1)) i.order_is i.fits.length_fits in
+          let one = same_length order (h.format, x.1) (begun.format, n) (own ++ tail) begun.rest alone (fits_alone order start begun.format n begun.begins.fits) (split_here ∙ begun.begins.split) in
+          omega (arith, ap length one.1, length-append own tail, begun.few, fields_many h.order h.format h.kind h.address_size h.abbrev_offset)
+
+      by : (s : HeadState) → Answers versions order (Reading []) bytes k (Done x) s → ⊥
+      by (Reading now) h = h
+      by (Refused f) h = h
+      by Finished h = of_header h.1
+
+  pub not_spent : (feed new : HeadFeed) (k : ℕ) (a : Progress (Header × ℕ)) → feed ≡ fresh → a ≡ Spent → FeedsHead feed bytes k a new → ⊥
+  not_spent feed new k a is same says = by new.state (answers_of feed new k a Spent is same says).answers
+    where
+      by : (s : HeadState) → Answers versions order (Reading []) bytes k Spent s → ⊥
+      by (Reading now) h = h
+      by (Refused f) h = h
+      by Finished h = h
+
+  pub not_memory : (feed new : HeadFeed) (k : ℕ) (a : Progress (Header × ℕ)) → feed ≡ fresh → a ≡ NoMemory → FeedsHead feed bytes k a new → ⊥
+  not_memory feed new k a is same says = by new.state (answers_of feed new k a NoMemory is same says).answers
+    where
+      by : (s : HeadState) → Answers versions order (Reading []) bytes k NoMemory s → ⊥
+      by (Reading now) h = h
+      by (Refused f) h = h
+      by Finished h = h
+
+  -- ---- the unit
+
+  module _ (abbreviations : List ℕ) (old new : Option (List ℕ)) where
+    pub known_taken : (u : WholeUnit) → TakesUnitUnder versions abbreviations order (behind bytes old) new u → StartsWith bytes (bytes_of u) → TakesItem versions order abbreviations start (behind bytes old) new (Known u)
+    known_taken u (all, had, at, took) front =
+        let known = known_begins (bytes_of u) front in record {
+          fits = known_there versions order start (bytes_of u) known.0 known.1 known.2 u (length (bytes_of u)) known.3
+              (record { order_is = at.front.order_is; accepted = at.front.accepted; fits = at.front.fits; rest = []; split = sym (append-nil (bytes_of u)); is_size = refl });
+          place = at.table_at;
+          consumed = took;
+        }
+
+    pub known_error : (e : ReadError) → TakesNoUnitBehind versions abbreviations order bytes old new e → TakesNoItem versions order abbreviations start (behind bytes old) new (moved_error start e)
+    known_error (reads.Fault f) (all, takes, is, inside, front) = (all, takes, item_error versions order abbreviations start all f (known_begins all front) (known_some all front) is)
+    known_error reads.NoMemory (all, takes, is, inside, front) = (all, takes, tt)
+    known_error (reads.Io kind) (all, takes, is, inside, front) = (all, takes, tt)
+
+-- a moved error is of the same kind
+pub moved_kept : (X Y : Type 0) (start : ℕ) (old mid new : Option (List ℕ)) (e m : ReadError) → m ≡ moved_error start e → mid ≡ old → KeptSome {X = X} mid new (Err e) → KeptSome {X = Y} old new (Err m)
+moved_kept X Y start old mid new e m is same h = subst (λ (x : ReadError). KeptSome {X = Y} old new (Err x)) (sym is) (by e (subst (λ (o : Option (List ℕ)). KeptSome {X = X} o new (Err e)) same h))
+  where
+    by : (x : ReadError) → KeptSome {X = X} old new (Err x) → KeptSome {X = Y} old new (Err (moved_error start x))
+    by (reads.Fault f) k = tt
+    by reads.NoMemory k = k
+    by (reads.Io kind) k = tt

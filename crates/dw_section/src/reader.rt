@@ -1,0 +1,269 @@
+//! Reading a section from a reader.
+ghost use Rattle.std.specs.Prelude.{◌≡◌, ◌<◌, ◌≤◌, ◌^◌, List, ℕ, true, false, None, IfOk, IfErr};
+ghost use Rattle.dw_leb.specs.declared.errors.SectionId.TheVariants.{Info};
+ghost use Rattle.dw_leb.specs.Watch.{inner_of, fault_of, reader_fault, KeptSome};
+ghost use Rattle.dw_header.specs.declared.versions.Versions.TheVariants.{Five};
+ghost use Rattle.dw_unit.specs.UnitView.{FaultWithin};
+ghost use Rattle.dw_feed.specs.Feed.{behind};
+ghost use Rattle.dw_section.specs.ItemView.{item_of};
+ghost use Rattle.dw_section.specs.Reads.{TakesSection, TakesNoSection, TakesItem, TakesNext, TakesNoItem, HasLength, HasKind, moved, moved_error, fault_at};
+
+use crate::item::Item;
+use crate::kind::shows_known;
+use crate::section::Section;
+use dw_abbrev::Tables;
+use dw_feed::{HeadFeed, Progress, field_bytes, read_unit_behind, read_up_to};
+use dw_leb::{Fault, Order, ReadError, Reason, SectionId, Watched, read_length};
+use dw_unit::Versions;
+use std::alloc::Global;
+use std::io::Read;
+
+/// The most bytes behind an initial length that show of which kind an item is: a version and a unit type.
+const MARKS: u64 = 3;
+
+/// The section `.debug_info` that is all of what the reader has left, with units of version 5 (section 7.5), in
+/// whatever pieces its bytes come. At `Ok` nothing is left unread. `tables` are those of the section
+/// `.debug_abbrev` that belongs to it.
+///
+/// Items of other versions and unit types are kept as their bytes. The bytes of a unit go into the feeds as they
+/// come: none is kept beside the unit's tree.
+///
+/// A fault is the first one of the section. Its offset counts from the section's first byte, or from the first
+/// byte of `.debug_abbrev` where it is a table's. `Truncated` comes only where the reader has no more: a short
+/// read is no end, and a read of 0 bytes is. `Io` is returned exactly where the reader failed, with the kind
+/// that `fault()` then returns. `NoMemory` is returned where a growth was refused, and only where at least a
+/// byte was taken.
+///
+/// Memory grows by the bytes that came, never by a length that was only announced.
+pub fn read_section<R: Read>(
+    alloc: Global,
+    order: Order,
+    tables: &mut Tables<'_>,
+    reader: &mut Watched<R>,
+) -> Result<Section, ReadError>
+    requires { fault_of reader.old ≡ None }
+    ensures found { IfOk result (TakesSection Five order tables.old
+        (R.remaining (inner_of reader.old))
+        (R.remaining (inner_of reader.new))) }
+    ensures broken { IfErr result (TakesNoSection Five order tables.old
+        (R.remaining (inner_of reader.old))
+        (R.remaining (inner_of reader.new))) }
+    ensures memory { KeptSome (R.remaining (inner_of reader.old)) (R.remaining (inner_of reader.new)) result }
+    ensures tables { tables.new ≡ tables.old }
+    ensures fault { fault_of reader.new ≡ reader_fault result }
+{
+    read_section_as(alloc, order, Versions::Five, tables, reader)
+}
+
+/// The section `.debug_info` that is all of what the reader has left, with units of these versions, as
+/// `read_section` gives it for version 5.
+pub fn read_section_as<R: Read>(
+    alloc: Global,
+    order: Order,
+    versions: Versions,
+    tables: &mut Tables<'_>,
+    reader: &mut Watched<R>,
+) -> Result<Section, ReadError>
+    requires { fault_of reader.old ≡ None }
+    ensures found { IfOk result (TakesSection versions order tables.old
+        (R.remaining (inner_of reader.old))
+        (R.remaining (inner_of reader.new))) }
+    ensures broken { IfErr result (TakesNoSection versions order tables.old
+        (R.remaining (inner_of reader.old))
+        (R.remaining (inner_of reader.new))) }
+    ensures memory { KeptSome (R.remaining (inner_of reader.old)) (R.remaining (inner_of reader.new)) result }
+    ensures tables { tables.new ≡ tables.old }
+    ensures fault { fault_of reader.new ≡ reader_fault result }
+{
+    let mut section = Section::new_as(alloc, order, versions);
+    loop {
+        let start = Start {
+            order,
+            versions,
+            offset: section.size(),
+        };
+        match next_item(alloc, start, tables, reader)? {
+            Some(item) => {
+                if section.keep(item).is_err() {
+                    return Err(ReadError::NoMemory);
+                }
+            }
+            None => return Ok(section),
+        }
+    }
+}
+
+/// Where an item begins, and what is read there.
+#[derive(Clone, Copy)]
+struct Start {
+    order: Order,
+    versions: Versions,
+    /// Counted from the section's first byte.
+    offset: u64,
+}
+
+/// The item that begins there, and at the front of what the reader has left; None where that is nothing.
+fn next_item<R: Read>(
+    alloc: Global,
+    start: Start,
+    tables: &mut Tables<'_>,
+    reader: &mut Watched<R>,
+) -> Result<Option<Item>, ReadError>
+    requires { fault_of reader.old ≡ None }
+    ensures found { IfOk result (TakesNext start.versions start.order tables.old start.offset
+        (R.remaining (inner_of reader.old))
+        (R.remaining (inner_of reader.new))) }
+    ensures broken { IfErr result (TakesNoItem start.versions start.order tables.old start.offset
+        (R.remaining (inner_of reader.old))
+        (R.remaining (inner_of reader.new))) }
+    ensures memory { KeptSome (R.remaining (inner_of reader.old)) (R.remaining (inner_of reader.new)) result }
+    ensures tables { tables.new ≡ tables.old }
+    ensures fault { fault_of reader.new ≡ reader_fault result }
+{
+    let bytes = field_bytes(alloc, reader)?;
+    if bytes.as_slice().is_empty() {
+        return Ok(None);
+    }
+    match read_length(start.order, start.offset, bytes.as_slice()) {
+        Ok((_, n)) => {
+            let item = item_behind(alloc, start, n, bytes, tables, reader)?;
+            Ok(Some(item))
+        }
+        Err(reason) => Err(fault_at(start.offset, reason)),
+    }
+}
+
+/// A fault in the section's own bytes, where they are no unit's.
+fn fault_at(offset: u64, reason: Reason) -> ReadError
+    ensures { result ≡ fault_at offset reason }
+{
+    ReadError::Fault(Fault {
+        section: SectionId::Info,
+        offset,
+        reason,
+    })
+}
+
+/// The item of which these bytes, its length field, were taken, with `n` bytes behind them.
+fn item_behind<R: Read>(
+    alloc: Global,
+    start: Start,
+    n: u64,
+    bytes: Vec<u8>,
+    tables: &mut Tables<'_>,
+    reader: &mut Watched<R>,
+) -> Result<Item, ReadError>
+    requires clear { fault_of reader.old ≡ None }
+    requires begun { HasLength start.order start.offset n bytes.items }
+    ensures found { IfOk result (λ x. TakesItem start.versions start.order tables.old start.offset
+        (behind bytes.items (R.remaining (inner_of reader.old)))
+        (R.remaining (inner_of reader.new)) (item_of x)) }
+    ensures broken { IfErr result (TakesNoItem start.versions start.order tables.old start.offset
+        (behind bytes.items (R.remaining (inner_of reader.old)))
+        (R.remaining (inner_of reader.new))) }
+    ensures memory { KeptSome (behind bytes.items (R.remaining (inner_of reader.old))) (R.remaining (inner_of reader.new)) result }
+    ensures tables { tables.new ≡ tables.old }
+    ensures fault { fault_of reader.new ≡ reader_fault result }
+{
+    let mut taken = bytes;
+    let field = taken.as_slice().len();
+    read_up_to(reader, n.min(MARKS), &mut taken)?;
+    match shows_known(start.versions, start.order, n, &taken.as_slice()[field..]) {
+        Ok(true) => known_item(alloc, start, taken.as_slice(), tables, reader),
+        Ok(false) => other_item(start, field, n, taken, reader),
+        Err(e) => Err(fault_at(start.offset + field as u64 + e.offset as u64, e.reason)),
+    }
+}
+
+/// The item of a known kind of which these bytes were taken.
+fn known_item<R: Read>(
+    alloc: Global,
+    start: Start,
+    taken: &[u8],
+    tables: &mut Tables<'_>,
+    reader: &mut Watched<R>,
+) -> Result<Item, ReadError>
+    requires clear { fault_of reader.old ≡ None }
+    requires begun { (n : ℕ) × (field : ℕ) × HasKind start.versions start.order start.offset n field taken.now true }
+    ensures found { IfOk result (λ x. TakesItem start.versions start.order tables.old start.offset
+        (behind taken.now (R.remaining (inner_of reader.old)))
+        (R.remaining (inner_of reader.new)) (item_of x)) }
+    ensures broken { IfErr result (TakesNoItem start.versions start.order tables.old start.offset
+        (behind taken.now (R.remaining (inner_of reader.old)))
+        (R.remaining (inner_of reader.new))) }
+    ensures memory { KeptSome (behind taken.now (R.remaining (inner_of reader.old))) (R.remaining (inner_of reader.new)) result }
+    ensures tables { tables.new ≡ tables.old }
+    ensures fault { fault_of reader.new ≡ reader_fault result }
+{
+    let mut feed = HeadFeed::new_as(start.order, start.versions);
+    let (_, answer) = feed.feed(taken);
+    match answer {
+        Progress::More => {}
+        Progress::Fault(fault) => return Err(ReadError::Fault(moved(start.offset, fault))),
+        Progress::Done(_) | Progress::NoMemory | Progress::Spent => unreachable!(),
+    }
+    match read_unit_behind(alloc, feed, tables, reader) {
+        Ok(unit) => Ok(Item::Known(unit)),
+        Err(error) => Err(moved_error(start.offset, error)),
+    }
+}
+
+/// The item of no known kind of which these bytes were taken: its length field of so many bytes, and some of the
+/// `n` behind it.
+fn other_item<R: Read>(
+    start: Start,
+    field: usize,
+    n: u64,
+    bytes: Vec<u8>,
+    reader: &mut Watched<R>,
+) -> Result<Item, ReadError>
+    requires clear { fault_of reader.old ≡ None }
+    requires begun { HasKind start.versions start.order start.offset n field bytes.items false }
+    ensures found { (abbreviations : List ℕ) → IfOk result (λ x. TakesItem start.versions start.order abbreviations start.offset
+        (behind bytes.items (R.remaining (inner_of reader.old)))
+        (R.remaining (inner_of reader.new)) (item_of x)) }
+    ensures broken { (abbreviations : List ℕ) → IfErr result (TakesNoItem start.versions start.order abbreviations start.offset
+        (behind bytes.items (R.remaining (inner_of reader.old)))
+        (R.remaining (inner_of reader.new))) }
+    ensures memory { KeptSome (behind bytes.items (R.remaining (inner_of reader.old))) (R.remaining (inner_of reader.new)) result }
+    ensures fault { fault_of reader.new ≡ reader_fault result }
+{
+    let size = field as u64 + n;
+    let mut taken = bytes;
+    let most = size - taken.as_slice().len() as u64;
+    read_up_to(reader, most, &mut taken)?;
+    if (taken.as_slice().len() as u64) < size {
+        return Err(fault_at(start.offset + field as u64, Reason::Truncated));
+    }
+    Ok(Item::Other(taken))
+}
+
+/// The fault of a unit that stands alone, where the unit begins at this start of the section. A table's isn't
+/// moved.
+fn moved(start: u64, fault: Fault) -> Fault
+    requires near { fault.section ≡ Info → fault.offset ≤ 2 ^ 63 }
+    requires start { start < 2 ^ 63 }
+    ensures { result ≡ moved start fault }
+{
+    match fault.section {
+        SectionId::Info => Fault {
+            section: SectionId::Info,
+            offset: start + fault.offset,
+            reason: fault.reason,
+        },
+        SectionId::Abbrev => fault,
+    }
+}
+
+/// The error of reading a unit that stands alone, where the unit begins at this start of the section.
+fn moved_error(start: u64, error: ReadError) -> ReadError
+    requires near { FaultWithin (2 ^ 63) error }
+    requires start { start < 2 ^ 63 }
+    ensures { result ≡ moved_error start error }
+{
+    match error {
+        ReadError::Fault(fault) => ReadError::Fault(moved(start, fault)),
+        ReadError::NoMemory => ReadError::NoMemory,
+        ReadError::Io(kind) => ReadError::Io(kind),
+    }
+}
