@@ -1,7 +1,7 @@
 #!/usr/bin/env bash
-# Tries what a caller must not be able to write: misuse/an_entry_outlives_its_unit.txt and
-# misuse/an_entry_outlives_its_section.txt have to be refused as a borrow that still stands, and their sound
-# counterparts have to pass.
+# Tries what a caller must not be able to write: misuse/an_entry_outlives_its_unit.txt,
+# misuse/an_entry_outlives_its_section.txt and misuse/a_text_outlives_its_strings.txt have to be refused as a
+# borrow that still stands, and their sound counterparts have to pass.
 #
 # Usage: scripts/misuse.sh
 #
@@ -15,9 +15,11 @@ scratch=$(mktemp -d)
 trap 'rm -rf "$scratch"' EXIT
 mkdir "$scratch/src"
 
-libraries=(dw_leb dw_form dw_abbrev dw_header dw_tree dw_unit dw_feed dw_section)
-words=(--extern "std=$kit/rlibs/std.rlib" -L "dependency=$kit/rlibs" --extern "dw_unit=$PWD/crates/dw_unit/out/rlib/dw_unit.rlib"
-    --extern "dw_section=$PWD/crates/dw_section/out/rlib/dw_section.rlib")
+libraries=(dw_leb dw_form dw_abbrev dw_header dw_tree dw_unit dw_feed dw_section dw_strings)
+words=(--extern "std=$kit/rlibs/std.rlib" -L "dependency=$kit/rlibs")
+for library in dw_leb dw_unit dw_section dw_strings; do
+    words+=(--extern "$library=$PWD/crates/$library/out/rlib/$library.rlib")
+done
 for library in "${libraries[@]}"; do
     if [ ! -d "crates/$library/out/rlib/$library.rlib" ]; then
         echo "misuse: proving $library, which no run has built"
@@ -32,18 +34,19 @@ check() {
     (cd "$scratch" && "$kit/bin/rattle" check --crate-name misuse src/lib.rt "${words[@]}") > "$scratch/answer" 2>&1
 }
 
-for owner in unit section; do
-    echo "misuse: checking a caller that uses an entry while its $owner is there"
-    if ! check "an_entry_within_its_$owner"; then
+for pair in "an_entry unit" "an_entry section" "a_text strings"; do
+    read -r lent owner <<< "$pair"
+    echo "misuse: checking a caller that uses ${lent/_/ } before it drops its $owner"
+    if ! check "${lent}_within_its_$owner"; then
         cat "$scratch/answer"
         echo "misuse: the sound counterpart was refused" >&2
         exit 1
     fi
-    echo "misuse: checking a caller that uses an entry when its $owner is gone"
-    if check "an_entry_outlives_its_$owner" || ! grep -q "borrow-e0505.*\`$owner\`" "$scratch/answer"; then
+    echo "misuse: checking a caller that uses ${lent/_/ } after it drops its $owner"
+    if check "${lent}_outlives_its_$owner" || ! grep -q "borrow-e0505.*\`$owner\`" "$scratch/answer"; then
         cat "$scratch/answer"
-        echo "misuse: an entry that outlives its $owner was not refused as such" >&2
+        echo "misuse: ${lent/_/ } that outlives its $owner was not refused as such" >&2
         exit 1
     fi
 done
-echo "misuse: an entry that outlives its unit or its section is refused, the sound counterparts pass"
+echo "misuse: an entry or a text that outlives what it was lent from is refused, the sound counterparts pass"

@@ -1,0 +1,73 @@
+-- What a text form names, and why one names nothing (sections 7.5.5 and 7.26).
+use Rattle.std.specs.Prelude.{ℕ, ◌+◌, ◌*◌, List, [], ◌∷◌, length, take, drop, Option, Some, None, Result, Ok, Err, nat_le, ◌==◌, if◌then◌else◌}
+use Rattle.dw_leb.specs.declared.order.Order.{Order}
+use Rattle.dw_leb.specs.Number.{offset_size}
+use Rattle.dw_leb.specs.ReadNumber.{undigits, ordered, before_zero}
+use Rattle.dw_form.specs.Form.{Value, at_number}
+use Rattle.dw_form.specs.Lent.{number_in, text_in}
+use Rattle.dw_header.specs.Header.{Header}
+use Rattle.dw_unit.specs.Unit.{WholeUnit}
+use Rattle.dw_section.specs.StringBase.{base_of}
+use Rattle.dw_strings.specs.declared.fault.StrFault.{StrFault}
+use Rattle.dw_strings.specs.declared.fault.StrFault.TheVariants.{NotText, PastSection, NoZero, NoBase, PastOffsets, Supplementary}
+use Rattle.dw_strings.specs.declared.form.StoredIn.{StoredIn}
+use Rattle.dw_strings.specs.declared.form.StoredIn.TheVariants.{Str, LineStr, StrOffsets, Elsewhere}
+
+-- the bytes of .debug_str, .debug_line_str and .debug_str_offsets
+pub record StringSections : Type 0 where
+  pub str : List ℕ
+  pub line_str : List ℕ
+  pub str_offsets : List ℕ
+
+abbrev pub Named : Type 0
+Named = Result (List ℕ) StrFault
+
+-- ---- at an offset
+
+abbrev pub unless_ended : Option (List ℕ) → Named
+unless_ended None = Err NoZero
+unless_ended (Some bytes) = Ok bytes
+
+-- the bytes from an offset to before the first zero
+abbrev pub text_at : List ℕ → ℕ → Named
+text_at section offset = if nat_le (length section) offset then Err PastSection else unless_ended (before_zero (drop offset section))
+
+-- ---- by an index
+
+-- the number of so many bytes that begins at a place, if all of them lie there
+abbrev pub number_at : Order → ℕ → List ℕ → ℕ → Option ℕ
+number_at order size bytes place = if nat_le (place + size) (length bytes) then Some (undigits 256 (ordered order (take size (drop place bytes)))) else None
+
+abbrev pub at_entry : List ℕ → Option ℕ → Named
+at_entry str None = Err PastOffsets
+at_entry str (Some offset) = text_at str offset
+
+-- the entries of a unit begin at its base, and are offsets of its format in its byte order; a place is a whole number without bound
+abbrev pub by_index : StringSections → Header → Option ℕ → ℕ → Named
+by_index s h None index = Err NoBase
+by_index s h (Some base) index = at_entry s.str (number_at h.order (offset_size h.format) s.str_offsets (base + index * offset_size h.format))
+
+-- ---- by a value
+
+-- the forms of texts that a number names: strp; line_strp; strx, strx1 to strx4; strp_sup, GNU_strp_alt
+abbrev pub stored_forms : List (ℕ × StoredIn)
+stored_forms = (0x0e, Str) ∷ (0x1f, LineStr) ∷ (0x1a, StrOffsets) ∷ (0x25, StrOffsets) ∷ (0x26, StrOffsets) ∷ (0x27, StrOffsets) ∷ (0x28, StrOffsets) ∷ (0x1d, Elsewhere) ∷ (0x1f21, Elsewhere) ∷ []
+
+abbrev pub stored : StringSections → WholeUnit → ℕ → Option StoredIn → Named
+stored s u v None = Err NotText
+stored s u v (Some Str) = text_at s.str v
+stored s u v (Some LineStr) = text_at s.line_str v
+stored s u v (Some StrOffsets) = by_index s u.header (base_of u) v
+stored s u v (Some Elsewhere) = Err Supplementary
+
+abbrev pub by_number : StringSections → WholeUnit → ℕ → Option ℕ → Named
+by_number s u form None = Err NotText
+by_number s u form (Some v) = stored s u v (at_number form stored_forms)
+
+abbrev pub own_text : Option (List ℕ) → Named
+own_text None = Err NotText
+own_text (Some bytes) = Ok bytes
+
+-- what a value under a form names in a unit; one of the form string is its own text
+abbrev pub named_text : StringSections → WholeUnit → ℕ → Value → Named
+named_text s u form value = if form == 0x08 then own_text (text_in value) else by_number s u form (number_in value)
