@@ -11,7 +11,7 @@ use Rattle.clap.specs.Takes.{is_given}
 use Rattle.clap.specs.Faults.{bundle_step_fault, defaults_fault, check_fault, level_fault, flag_word_fault, flags_fault, long_fault, option_fault, other_fault, positional_fault, react_fault, settle_fault, short_fault, step_fault, turn_fault, use_fault, walk_fault, word_fault}
 use Rattle.clap.specs.Simple.{Shape, built_leaf, filled, help_rule, inherited, marked_built, with_index, with_leaf_noted}
 use Rattle.clap.specs.declared.error.kind.ErrorKind.TheVariants as kind
-use Rattle.dw_line.specs.Line.{HasPaths, big_flag, path_option, program, subcommand}
+use Rattle.dw_line.specs.Line.{HasPaths, finder, flag, optional_path, path_option, word, program, subcommand}
 use Rattle.clap.specs.declared.parser.matches.ValueSource.{ValueSource}
 use Rattle.clap.specs.declared.builder.value_parser.Reading.{Reading}
 
@@ -307,20 +307,36 @@ module _ (s : Shape) (good : AllGood s.rules) (words : List Text) (whole : level
 abbrev pub built_sub : Text → Shape
 built_sub name = built_leaf (inherited (with_leaf_noted (marked_built program.top)) (subcommand name).top)
 
+-- and `find`
+abbrev pub built_find : Shape
+built_find = built_leaf (inherited (with_leaf_noted (marked_built program.top)) finder.top)
+
 good_path : (name : Text) (i : ℕ) → Good (with_index i (filled (path_option name)))
 good_path name i again [] rows e f = let bad : kind.InvalidValue ∷ [] ≡ [] = e in cc
 good_path name i again (v ∷ vs) rows e f = full-with name _ _ (v ∷ vs) (without name rows) (omega arith) (full-without name rows f)
 
-good_big : (i : ℕ) → Good (with_index i (filled big_flag))
-good_big i again [] rows e f = full-with (codes "big") _ _ (codes "true" ∷ []) (without (codes "big") rows) (omega arith) (full-without (codes "big") rows f)
-good_big i again (v ∷ vs) rows e f = full-with (codes "big") _ _ (v ∷ vs) (without (codes "big") rows) (omega arith) (full-without (codes "big") rows f)
+good_optional : (name : Text) (i : ℕ) → Good (with_index i (filled (optional_path name)))
+good_optional name i again [] rows e f = let bad : kind.InvalidValue ∷ [] ≡ [] = e in cc
+good_optional name i again (v ∷ vs) rows e f = full-with name _ _ (v ∷ vs) (without name rows) (omega arith) (full-without name rows f)
+
+good_word : (name : Text) (i : ℕ) → Good (with_index i (filled (word name)))
+good_word name i again [] rows e f = let bad : kind.InvalidValue ∷ [] ≡ [] = e in cc
+good_word name i again (v ∷ vs) rows e f = full-with name _ _ (v ∷ vs) (without name rows) (omega arith) (full-without name rows f)
+
+good_flag : (name : Text) (i : ℕ) → Good (with_index i (filled (flag name)))
+good_flag name i again [] rows e f = full-with name _ _ (codes "true" ∷ []) (without name rows) (omega arith) (full-without name rows f)
+good_flag name i again (v ∷ vs) rows e f = full-with name _ _ (v ∷ vs) (without name rows) (omega arith) (full-without name rows f)
 
 good_help : (i : ℕ) → Good (with_index i (filled help_rule))
 good_help i again [] rows e f = f
 good_help i again (v ∷ vs) rows e f = f
 
+all_good_words : AllGood built_find.rules
+all_good_words =
+    (good_path (codes "info") 1, (good_path (codes "abbrev") 1, (good_optional (codes "str") 1, (good_optional (codes "line-str") 1, (good_optional (codes "str-offsets") 1, (good_flag (codes "big") 1, (good_flag (codes "v4") 1, (good_word (codes "name") 1, (good_help 2, tt)))))))))
+
 all_good : (name : Text) → AllGood (built_sub name).rules
-all_good name = (good_path (codes "info") 1, (good_path (codes "abbrev") 1, (good_big 1, (good_help 1, tt))))
+all_good name = (good_path (codes "info") 1, (good_path (codes "abbrev") 1, (good_optional (codes "str") 1, (good_optional (codes "line-str") 1, (good_optional (codes "str-offsets") 1, (good_flag (codes "big") 1, (good_flag (codes "v4") 1, (good_help 1, tt))))))))
 
 pub has_paths : (name : Text) (words : List Text) → level_fault (built_sub name) [] nothing_held words false [] ≡ [] → HasPaths (rows_after (built_sub name).rules [] words)
 has_paths name words whole =
@@ -334,3 +350,20 @@ has_paths name words whole =
       info = given_value (codes "info") rows full (not_false _ (left_false wants_info _ none));
       abbreviations = given_value (codes "abbrev") rows full (not_false _ (left_false wants_abbrev _ (right_false wants_info _ none)));
     }
+
+pub find_has : (words : List Text) → level_fault built_find [] nothing_held words false [] ≡ []
+    → HasPaths (rows_after built_find.rules [] words) × (is_some (first_of (codes "name") (rows_after built_find.rules [] words)) ≡ true)
+find_has words whole =
+    let rows : List Row = rows_after built_find.rules [] words in
+    let full : Full rows = all_full built_find all_good_words words whole in
+    let wants_info : Bool = not (is_given (codes "info") rows) in
+    let wants_abbrev : Bool = not (is_given (codes "abbrev") rows) in
+    let wants_name : Bool = not (is_given (codes "name") rows) in
+    let none : (wants_info || (wants_abbrev || (wants_name || false))) ≡ false = none_wanted _ (checked built_find all_good_words words whole) in
+    let later = right_false wants_info _ none in (
+      record {
+        info = given_value (codes "info") rows full (not_false _ (left_false wants_info _ none));
+        abbreviations = given_value (codes "abbrev") rows full (not_false _ (left_false wants_abbrev _ later));
+      },
+      given_value (codes "name") rows full (not_false _ (left_false wants_name _ (right_false wants_abbrev _ later))),
+    )

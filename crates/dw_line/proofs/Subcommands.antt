@@ -10,12 +10,12 @@ use Rattle.clap.specs.Simple.{argument_words, built, built_leaf, entered, help_s
 use Rattle.std.specs.Str.{bytes_eq}
 use Rattle.std.proofs.lemmas.Slice.Eq.{bytes_eq-Decides}
 use Rattle.dw_line.proofs.Helpless.{IsNotHelp, walk_stops}
-use Rattle.dw_line.specs.Line.{HasPaths, IsName, Meets, program, refusals}
-use Rattle.dw_line.proofs.Filled.{built_sub, first_none, has_paths, second_none}
+use Rattle.dw_line.specs.Line.{HasPaths, HasWord, IsName, Meets, program, refusals}
+use Rattle.dw_line.proofs.Filled.{built_sub, built_find, first_none, has_paths, find_has, second_none}
 
--- the subcommand has its paths on words that it takes
-abbrev GivesPaths : Shape → Type 0
-GivesPaths s = (words : List Text) → level_fault s [] nothing_held words false [] ≡ [] → HasPaths (rows_after s.rules [] words)
+-- the subcommand has its paths, and its word, on words that it takes
+abbrev Gives : Shape → Type 0
+Gives s = (words : List Text) → level_fault s [] nothing_held words false [] ≡ [] → HasPaths (rows_after s.rules [] words) × HasWord s.name (rows_after s.rules [] words)
 
 -- why the words after a subcommand aren't taken
 abbrev faults_of : List Shape → Text × List Text → Kinds
@@ -35,23 +35,29 @@ is_help word e = go (bytes_eq (codes "help") word) refl
     go false is = let bad : false ≡ true = rw is at e in cc
 
 -- one of the commands answers, and it is not the help that the parser adds
-one_of_two : (s t : Shape) (p : Text × List Text) (found : Option (Text × List Row))
-    → found ≡ option_map (λ u. rows_at u p.1) (find (λ u. answers_to p.0 (label_of u)) (s ∷ t ∷ built_help ∷ []))
-    → is_some found ≡ true → faults_of (s ∷ t ∷ built_help ∷ []) p ≡ [] → IsNotHelp (Some p) → IsName s.name → IsName t.name → GivesPaths s → GivesPaths t → Meets found
-one_of_two s t p found is some taken helpless first second paths more_paths =
-    go (answers_to p.0 (label_of s)) (answers_to p.0 (label_of t)) (answers_to p.0 (label_of built_help)) refl refl refl
+one_of_three : (s t u : Shape) (p : Text × List Text) (found : Option (Text × List Row))
+    → found ≡ option_map (λ x. rows_at x p.1) (find (λ x. answers_to p.0 (label_of x)) (s ∷ t ∷ u ∷ built_help ∷ []))
+    → is_some found ≡ true → faults_of (s ∷ t ∷ u ∷ built_help ∷ []) p ≡ [] → IsNotHelp (Some p) → IsName s.name → IsName t.name → IsName u.name → Gives s → Gives t → Gives u → Meets found
+one_of_three s t u p found is some taken helpless first second third of_first of_second of_third =
+    go (answers_to p.0 (label_of s)) (answers_to p.0 (label_of t)) (answers_to p.0 (label_of u)) (answers_to p.0 (label_of built_help)) refl refl refl refl
   where
-    go : (a b d : Bool) → answers_to p.0 (label_of s) ≡ a → answers_to p.0 (label_of t) ≡ b → answers_to p.0 (label_of built_help) ≡ d → Meets found
-    go true b d e f g = record { name = s.name; rows = (rows_at s p.1).1; matched = is ∙ rw e refl; known = first; paths = paths p.1 (rw e at taken) }
-    go false true d e f g = record { name = t.name; rows = (rows_at t p.1).1; matched = is ∙ rw (e, f) refl; known = second; paths = more_paths p.1 (rw (e, f) at taken) }
-    go false false true e f g = absurd (true≢false (sym (is_help p.0 g) ∙ helpless))
-    go false false false e f g = let none : found ≡ None = is ∙ rw (e, f, g) refl in absurd (true≢false (sym some ∙ ap is_some none))
+    go : (a b c d : Bool) → answers_to p.0 (label_of s) ≡ a → answers_to p.0 (label_of t) ≡ b → answers_to p.0 (label_of u) ≡ c → answers_to p.0 (label_of built_help) ≡ d → Meets found
+    go true b c d e f g h = let has = of_first p.1 (rw e at taken) in record { name = s.name; rows = (rows_at s p.1).1; matched = is ∙ rw e refl; known = first; paths = has.0; word = has.1 }
+    go false true c d e f g h = let has = of_second p.1 (rw (e, f) at taken) in record { name = t.name; rows = (rows_at t p.1).1; matched = is ∙ rw (e, f) refl; known = second; paths = has.0; word = has.1 }
+    go false false true d e f g h = let has = of_third p.1 (rw (e, f, g) at taken) in record { name = u.name; rows = (rows_at u p.1).1; matched = is ∙ rw (e, f, g) refl; known = third; paths = has.0; word = has.1 }
+    go false false false true e f g h = absurd (true≢false (sym (is_help p.0 h) ∙ helpless))
+    go false false false false e f g h = let none : found ≡ None = is ∙ rw (e, f, g, h) refl in absurd (true≢false (sym some ∙ ap is_some none))
+
+-- another subcommand wants no word
+gives_paths : (name : Text) → bytes_eq name (codes "find") ≡ false → Gives (built_sub name)
+gives_paths name other words whole = (has_paths name words whole, λ is. absurd (true≢false (sym (ap (λ (t : Text). bytes_eq t (codes "find")) is) ∙ other)))
 
 entered_one : (stop : Option (Text × List Text)) (found : Option (Text × List Row)) → found ≡ entered (built program) stop
     → is_some found ≡ true → entered_fault (built program) stop ≡ [] → IsNotHelp stop → Meets found
 entered_one None found is some taken helpless = absurd (true≢false (sym some ∙ ap is_some is))
 entered_one (Some p) found is some taken helpless =
-    one_of_two (built_sub (codes "show")) (built_sub (codes "copy")) p found is some taken helpless (inl refl) (inr refl) (has_paths (codes "show")) (has_paths (codes "copy"))
+    one_of_three (built_sub (codes "show")) built_find (built_sub (codes "copy")) p found is some taken helpless (inl refl) (inr (inl refl)) (inr (inr refl))
+    (gives_paths (codes "show") refl) (λ words whole. let has = find_has words whole in (has.0, λ e. has.1)) (gives_paths (codes "copy") refl)
 
 -- a subcommand that was met is one of the program's, and has its paths
 pub meets : (words : List Text) (found : Option (Text × List Row)) → found ≡ subcommand_of program words → is_some found ≡ true → refusals words ≡ [] → Meets found

@@ -6,19 +6,20 @@ ghost use Rattle.clap.specs.declared.builder.command.Command.TheViews.{out-Comma
 ghost use Rattle.clap.specs.declared.error.kind.ErrorKind.TheVariants.{ValueValidation};
 ghost use Rattle.std.specs.declared.io.ErrorKind.TheVariants.{OutOfMemory};
 ghost use Rattle.dw_line.specs.declared.outcome.LineError.TheVariants.{Memory};
-ghost use Rattle.dw_line.specs.Line.{IsMistake, IsName, Meets, IsLineError, Says, SaysBy, big_flag, name_of, order_by, path_option, program, refusals, subcommand};
+ghost use Rattle.dw_line.specs.Line.{IsMistake, IsName, IsCommand, HasWord, Meets, IsLineError, Says, SaysBy, finder, flag, is_set, optional_path, order_by, path_option, program, refusals, showing_program, subcommand, versions_by, word, with_both_flags, with_entry_sections, with_text_sections};
 
 use crate::outcome::{Line, LineError};
 use clap::error::ErrorKind;
 use clap::{Arg, ArgAction, ArgMatches};
+use dw_header::Versions;
 use dw_leb::Order;
 use dw_tool::command::Command;
 use std::alloc::{AllocError, Global};
 use std::io;
 
-/// Reads the words after the program's name: one of the subcommands `show` and `copy`, each with
-/// `--info FILE`, `--abbrev FILE` and the flag `--big`. Options come after the subcommand, each
-/// once.
+/// Reads the words after the program's name: one of the subcommands `show`, `find NAME` and `copy`, each with
+/// `--info FILE` and `--abbrev FILE`, with `--str FILE`, `--line-str FILE`, `--str-offsets FILE` and the
+/// flags `--big` and `--v4` where they are wanted. Options come after the subcommand, each once.
 ///
 /// Errors: `Parse` where the words aren't taken or ask for help, `Memory` where a growth was
 /// refused.
@@ -75,15 +76,35 @@ fn parser<'a>(alloc: Global) -> Result<clap::Command<'a>, AllocError>
     ensures shape { IfOk result (λ r. app_of r ≡ program) }
     ensures globals { IfOk result (λ r. (out-Command r).has_globals ≡ false) }
 {
-    let show = subcommand_parser(alloc, "show", "Writes the entries as text")?;
     let copy = subcommand_parser(alloc, "copy", "Writes the bytes of .debug_info back")?;
+    showing_parser(alloc)?.subcommand(copy)
+}
+
+// The subcommands that write text.
+fn showing_parser<'a>(alloc: Global) -> Result<clap::Command<'a>, AllocError>
+    ensures shape { IfOk result (λ r. app_of r ≡ showing_program) }
+    ensures globals { IfOk result (λ r. (out-Command r).has_globals ≡ false) }
+{
+    let show = subcommand_parser(alloc, "show", "Writes the entries as text")?;
+    let find = find_parser(alloc)?;
     clap::Command::new(alloc, "dwarf")
         .bin_name("dwarf")?
         .about("Reads and writes DWARF 5 debugging entries")
         .no_binary_name(true)
         .subcommand_required(true)
         .subcommand(show)?
-        .subcommand(copy)
+        .subcommand(find)
+}
+
+fn find_parser<'a>(alloc: Global) -> Result<clap::Command<'a>, AllocError>
+    ensures shape { IfOk result (λ r. app_of r ≡ finder) }
+    ensures globals { IfOk result (λ r. (out-Command r).has_globals ≡ false) }
+{
+    subcommand_parser(alloc, "find", "Writes where the entries of a name begin")?.arg(word_argument(
+        alloc,
+        "name",
+        "The name of the entries",
+    ))
 }
 
 fn subcommand_parser<'a>(
@@ -94,26 +115,91 @@ fn subcommand_parser<'a>(
     ensures shape { IfOk result (λ r. app_of r ≡ subcommand name.entry.now) }
     ensures globals { IfOk result (λ r. (out-Command r).has_globals ≡ false) }
 {
-    let big = Arg::new(alloc, "big")
-        .long("big")
-        .action(ArgAction::SetTrue)
-        .help("The sections are big-endian");
-    clap::Command::new(alloc, name)
-        .about(about)
-        .arg(path_argument(alloc, "info", "The file that holds .debug_info"))?
-        .arg(path_argument(alloc, "abbrev", "The file that holds .debug_abbrev"))?
-        .arg(big)
+    let command = clap::Command::new(alloc, name).about(about);
+    let command = with_texts(alloc, with_entries(alloc, command)?)?;
+    let offsets = path_argument(
+        alloc,
+        "str-offsets",
+        "The file that holds .debug_str_offsets",
+    );
+    with_flags(alloc, command.arg(offsets)?)
+}
+
+fn with_entries<'a>(
+    alloc: Global,
+    command: clap::Command<'a>,
+) -> Result<clap::Command<'a>, AllocError>
+    requires { (out-Command command).has_globals ≡ false }
+    ensures shape { IfOk result (λ r. app_of r ≡ with_entry_sections (app_of command.entry)) }
+    ensures globals { IfOk result (λ r. (out-Command r).has_globals ≡ false) }
+{
+    command
+        .arg(required_path(alloc, "info", "The file that holds .debug_info"))?
+        .arg(required_path(alloc, "abbrev", "The file that holds .debug_abbrev"))
+}
+
+fn with_texts<'a>(
+    alloc: Global,
+    command: clap::Command<'a>,
+) -> Result<clap::Command<'a>, AllocError>
+    requires { (out-Command command).has_globals ≡ false }
+    ensures shape { IfOk result (λ r. app_of r ≡ with_text_sections (app_of command.entry)) }
+    ensures globals { IfOk result (λ r. (out-Command r).has_globals ≡ false) }
+{
+    command
+        .arg(path_argument(alloc, "str", "The file that holds .debug_str"))?
+        .arg(path_argument(alloc, "line-str", "The file that holds .debug_line_str"))
+}
+
+fn with_flags<'a>(
+    alloc: Global,
+    command: clap::Command<'a>,
+) -> Result<clap::Command<'a>, AllocError>
+    requires { (out-Command command).has_globals ≡ false }
+    ensures shape { IfOk result (λ r. app_of r ≡ with_both_flags (app_of command.entry)) }
+    ensures globals { IfOk result (λ r. (out-Command r).has_globals ≡ false) }
+{
+    command
+        .arg(flag_argument(alloc, "big", "The sections are big-endian"))?
+        .arg(flag_argument(alloc, "v4", "Units of version 4 are read too"))
 }
 
 fn path_argument<'a>(alloc: Global, name: &'a str, help: &'a str) -> Arg<'a>
-    ensures rule { rule_of result ≡ path_option name.entry.now }
+    ensures rule { rule_of result ≡ optional_path name.entry.now }
     ensures local { result.global ≡ false }
 {
     Arg::new(alloc, name)
         .long(name)
         .value_name("FILE")
+        .action(ArgAction::Set)
+        .help(help)
+}
+
+fn required_path<'a>(alloc: Global, name: &'a str, help: &'a str) -> Arg<'a>
+    ensures rule { rule_of result ≡ path_option name.entry.now }
+    ensures local { result.global ≡ false }
+{
+    path_argument(alloc, name, help).required(true)
+}
+
+fn word_argument<'a>(alloc: Global, name: &'a str, help: &'a str) -> Arg<'a>
+    ensures rule { rule_of result ≡ word name.entry.now }
+    ensures local { result.global ≡ false }
+{
+    Arg::new(alloc, name)
+        .value_name("NAME")
         .required(true)
         .action(ArgAction::Set)
+        .help(help)
+}
+
+fn flag_argument<'a>(alloc: Global, name: &'a str, help: &'a str) -> Arg<'a>
+    ensures rule { rule_of result ≡ flag name.entry.now }
+    ensures local { result.global ≡ false }
+{
+    Arg::new(alloc, name)
+        .long(name)
+        .action(ArgAction::SetTrue)
         .help(help)
 }
 
@@ -125,14 +211,18 @@ fn read<'a>(matches: &ArgMatches<'a>) -> Line<'a>
         unreachable!()
     };
     Line {
-        command: command_named(name),
+        command: command_named(name, options),
         order: order_told(options.get_str("big")),
-        info: path_told(options, "info"),
-        abbrev: path_told(options, "abbrev"),
+        versions: versions_told(options.get_str("v4")),
+        info: word_told(options, "info"),
+        abbrev: word_told(options, "abbrev"),
+        str: options.get_str("str"),
+        line_str: options.get_str("line-str"),
+        str_offsets: options.get_str("str-offsets"),
     }
 }
 
-fn path_told<'a>(options: &ArgMatches<'a>, name: &str) -> &'a str
+fn word_told<'a>(options: &ArgMatches<'a>, name: &str) -> &'a str
     requires { is_some (first_of name.now (rows_of (found_of options.now))) ≡ true }
     ensures { first_of name.now (rows_of (found_of options.now)) ≡ Some result.now }
 {
@@ -142,23 +232,46 @@ fn path_told<'a>(options: &ArgMatches<'a>, name: &str) -> &'a str
     }
 }
 
-fn command_named(name: &str) -> Command
-    requires { IsName name.now }
-    ensures { name_of result ≡ name.now }
+fn command_named<'a>(name: &str, options: &ArgMatches<'a>) -> Command<'a>
+    requires known { IsName name.now }
+    requires word { HasWord name.now (rows_of (found_of options.now)) }
+    ensures { IsCommand name.now (rows_of (found_of options.now)) result }
 {
     if name == "show" {
         Command::Show
+    } else if name == "find" {
+        Command::Find(word_told(options, "name").as_bytes())
     } else {
         Command::Copy
     }
 }
 
-// A flag that was given has the value `true`.
 fn order_told(flag: Option<&str>) -> Order
     ensures { result ≡ order_by (option_map (λ text. text.now) flag.entry) }
 {
+    if is_given(flag) {
+        Order::Big
+    } else {
+        Order::Little
+    }
+}
+
+fn versions_told(flag: Option<&str>) -> Versions
+    ensures { result ≡ versions_by (option_map (λ text. text.now) flag.entry) }
+{
+    if is_given(flag) {
+        Versions::FourAndFive
+    } else {
+        Versions::Five
+    }
+}
+
+// A flag that was given has the value `true`.
+fn is_given(flag: Option<&str>) -> bool
+    ensures { result ≡ is_set (option_map (λ text. text.now) flag.entry) }
+{
     match flag {
-        Some(value) if value == "true" => Order::Big,
-        _ => Order::Little,
+        Some(value) => value == "true",
+        None => false,
     }
 }

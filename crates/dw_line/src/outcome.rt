@@ -6,6 +6,7 @@ ghost use Rattle.clap.specs.declared.error.kind.ErrorKind.TheVariants.{DisplayHe
 ghost use Rattle.dw_line.specs.declared.outcome.LineError.TheVariants.{Memory};
 
 use clap::error::ErrorKind;
+use dw_header::Versions;
 use dw_leb::Order;
 use dw_tool::command::Command;
 use dw_tool::failure::Failure;
@@ -17,13 +18,21 @@ use thiserror::Error;
 #[derive(Clone, Copy, Debug, PartialEq, Eq)]
 pub struct Line<'a> {
     /// The subcommand.
-    pub command: Command,
+    pub command: Command<'a>,
     /// The byte order of the sections: big-endian under `--big`.
     pub order: Order,
+    /// The versions of the units that are read: 4 and 5 under `--v4`, and 5 alone without.
+    pub versions: Versions,
     /// The path of the file that holds `.debug_info`.
     pub info: &'a str,
     /// The path of the file that holds `.debug_abbrev`.
     pub abbrev: &'a str,
+    /// The path of the file that holds `.debug_str`, where one is named.
+    pub str: Option<&'a str>,
+    /// The path of the file that holds `.debug_line_str`, where one is named.
+    pub line_str: Option<&'a str>,
+    /// The path of the file that holds `.debug_str_offsets`, where one is named.
+    pub str_offsets: Option<&'a str>,
 }
 
 /// Why the words are no command line.

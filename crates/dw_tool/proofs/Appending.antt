@@ -54,6 +54,10 @@ pub stopped_after : {W X Y Z : Type 0} {v : Y} {e : WriteError} (contents : W �
     → IsErrAnd r (λ f. f ≡ e) → Puts contents old mid a (Ok v) → Puts {X = Z} contents mid new b (Err e) → Puts contents old new (a ++ (b ++ c)) r
 stopped_after contents r old mid a b c new is h k = puts_after contents r old mid a (b ++ c) new h (puts_stopped contents r mid b c new is k)
 
+-- the same text, whatever the call that put it answers besides
+pub puts_as : {W X Y : Type 0} {u : X} {v : Y} (contents : W → Option (List ℕ)) (old new : Output W) (text : List ℕ) → Puts contents old new text (Ok u) → Puts contents old new text (Ok v)
+puts_as contents old new text h = record { passes = h.passes; fault = h.fault; same = h.same }
+
 -- ---- one piece
 
 -- the buffer is written, and then the piece
@@ -82,6 +86,11 @@ wrote_stopped contents (Err f) w old new text same empty is h =
     let after : Option (List ℕ) = contents (inner_of (writer_of new)) in
     subst (λ (v : Watched _). AppendsFront (contents (inner_of v)) after text) same
     (subst (λ (t : List ℕ). AppendsFront (contents (inner_of (writer_of old))) after (t ++ text)) empty h.passes)
+
+-- an error is passed on
+pub wrote_passed : {X : Type 0} (e : WriteError) (r : Result X WriteError) (old new : Option (List ℕ)) (text : List ℕ) → IsErrAnd r (λ f. f ≡ e) → AppendsFront old new text → Wrote old new text r
+wrote_passed e (Ok x) old new text is h = absurd is
+wrote_passed e (Err f) old new text is h = h
 
 -- ---- a text for each element
 
@@ -215,11 +224,11 @@ pub record Reaches {W : Type 0} (contents : W → Option (List ℕ)) (old new : 
   pub puts : Puts {X = Unit {0}} contents old new front (Ok tt)
 
 -- one piece more
-pub reaches_more : {W : Type 0} {u : Unit {0}} (contents : W → Option (List ℕ)) (old mid new : Output W) (a rest text : List ℕ) → Reaches contents old mid (a ++ rest) text → Puts contents mid new a (Ok u) → Reaches contents old new rest text
+pub reaches_more : {W X : Type 0} {u : X} (contents : W → Option (List ℕ)) (old mid new : Output W) (a rest text : List ℕ) → Reaches contents old mid (a ++ rest) text → Puts contents mid new a (Ok u) → Reaches contents old new rest text
 reaches_more contents old mid new a rest text h k = record {
   front = h.front ++ a;
   is_text = h.is_text ∙ sym (append_assoc h.front a rest);
-  puts = puts_after contents (Ok tt) old mid h.front a new h.puts k;
+  puts = puts_after contents (Ok tt) old mid h.front a new h.puts (puts_as contents mid new a k);
 }
 
 -- the next piece is only begun
@@ -227,3 +236,8 @@ pub reaches_stopped : {W X Y : Type 0} {e : WriteError} (contents : W → Option
     → IsErrAnd r (λ f. f ≡ e) → Reaches contents old mid (a ++ rest) text → Puts {X = Y} contents mid new a (Err e) → Puts contents old new text r
 reaches_stopped contents r old mid new a rest text is h k =
     subst (λ (t : List ℕ). Puts contents old new t r) (sym h.is_text) (stopped_after contents r old mid h.front a rest new is h.puts k)
+
+-- nothing is to come
+pub reaches_end : {W X : Type 0} {v : X} (contents : W → Option (List ℕ)) (old new : Output W) (text : List ℕ) → Reaches contents old new [] text → Puts contents old new text (Ok v)
+reaches_end {v = v} contents old new text h =
+    subst (λ (t : List ℕ). Puts contents old new t (Ok v)) (sym (append-nil h.front) ∙ sym h.is_text) (puts_as contents old new h.front h.puts)

@@ -1,2 +1,4 @@
 pub mod Appending
-pub mod Running
+pub mod Placed
+pub mod Finding
+mod ShowRows

@@ -1,8 +1,9 @@
 pub mod Names
 pub mod Text
 pub mod Show
+pub mod Find
+pub mod Place
 pub mod Status
 pub mod Failure
 pub mod Run
-pub mod Input
 pub mod Output

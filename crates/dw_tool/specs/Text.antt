@@ -7,6 +7,13 @@ use Rattle.dw_tool.specs.Names.{attribute_names, name_in, tag_names}
 abbrev pub hexadecimal : ℕ → List ℕ
 hexadecimal number = codes "0x" ++ digits 16 false number
 
+-- a number behind its label
+abbrev pub labelled : List ℕ → ℕ → List ℕ
+labelled label number = label ++ hexadecimal number
+
+abbrev pub labelled_decimal : List ℕ → ℕ → List ℕ
+labelled_decimal label number = label ++ decimal number
+
 -- the byte in two lower-case hexadecimal digits
 abbrev pub two_digits : ℕ → List ℕ
 two_digits byte = digit_glyph false (byte / 16) ∷ digit_glyph false (byte % 16) ∷ []

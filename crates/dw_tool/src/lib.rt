@@ -2,8 +2,9 @@
 #![tactic(auto)]
 
 pub mod command;
+pub mod entries;
 pub mod failure;
-mod input;
+pub mod find;
 pub mod names;
 pub mod output;
 pub mod run;

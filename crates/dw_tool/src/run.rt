@@ -1,137 +1,129 @@
 //! What the program does with the sections.
-ghost use Rattle.std.specs.Prelude.{◌≡◌, None, Some, IfOk, IfErr};
+ghost use Rattle.std.specs.Prelude.{◌≡◌, IfOk, None};
 ghost use Rattle.dw_leb.specs.Watch.{inner_of, fault_of, writer_fault, Wrote};
-ghost use Rattle.dw_unit.specs.Unit.{bytes_of};
-ghost use Rattle.dw_tool.specs.Run.{IsSection, TookBytes, Runs, IsRunError, output, section_bytes};
-ghost use Rattle.dw_tool.specs.Show.{unit_text};
+ghost use Rattle.dw_strings.specs.TextView.{sections_of};
+ghost use Rattle.dw_tool.specs.Find.{found_text};
+ghost use Rattle.dw_tool.specs.Run.{TookBytes, Runs, found_status, output, status_of};
+ghost use Rattle.dw_tool.specs.Show.{section_text};
 ghost use Rattle.dw_tool.specs.Status.{run_reader_fault, run_writer_fault};
 
 use crate::command::Command;
-use crate::input::read_all;
+use crate::find::push_found;
 use crate::output::Output;
-use crate::show::push_unit;
+use crate::show::push_section;
 use crate::status::{Status, ToolError};
 use dw_abbrev::Tables;
-use dw_leb::{Fault, Order, Reason, SectionId, Watched, WriteError};
-use dw_unit::{Unit, read_unit, write_unit};
+use dw_leb::{Order, Watched, WriteError};
+use dw_section::{Section, read_section_as, write_section};
+use dw_strings::Strings;
+use dw_unit::Versions;
 use std::alloc::Global;
 use std::io::{Read, Write};
 
-/// The sections that a run reads, and their byte order.
+/// The sections that a run reads, and how they are read.
 #[derive(Drop)]
 pub struct Inputs<'a, R> {
     /// The byte order of the fixed numbers in both sections.
     pub order: Order,
+    /// The versions of the units that are read. Items of others are kept as their bytes.
+    pub versions: Versions,
     /// The reader of `.debug_info`.
     pub info: &'a mut Watched<R>,
     /// The bytes of `.debug_abbrev`.
     pub abbrev: &'a [u8],
+    /// The sections of the texts that attributes name.
+    pub strings: Strings<'a>,
 }
 
-/// Reads all of `.debug_info` from `inputs.info`, and writes what the command makes of it: the text
-/// of its unit, or its bytes. An empty section gives nothing. Nothing is written before the whole
-/// section was read, and nothing at all where it is refused.
+/// Reads all of `.debug_info` from `inputs.info`, and writes what the command makes of it: the text of the
+/// section, a line for each entry of a name, or its bytes. Nothing is written before the whole section was read,
+/// and nothing at all where it is refused.
 ///
-/// Errors: `Fault` with the first fault, `Read` and `Write` where the reader or the writer failed,
-/// `Memory` where a growth was refused. A run over an empty section needs no growth, and none is due
+/// The answer is `Bad` where an entry of a name was to be found and there is none, and else `Good`.
+///
+/// Errors: `Fault` with the first fault of the section, `Read` and `Write` where the reader or the writer
+/// failed, `Memory` where a growth was refused. A run over an empty section needs no growth, and none is due
 /// once writing has begun. After `Write` a prefix of the output was written.
 pub fn run<R: Read, W: Write>(
     alloc: Global,
-    command: Command,
+    command: Command<'_>,
     inputs: Inputs<'_, R>,
     writer: &mut Watched<W>,
 ) -> Result<Status, ToolError>
     requires reader { fault_of inputs.info.now ≡ None }
     requires writer { fault_of writer.old ≡ None }
-    ensures runs { Runs command inputs.entry.order inputs.entry.abbrev.now
+    ensures runs { Runs command.entry (sections_of inputs.entry.strings) inputs.entry.versions inputs.entry.order inputs.entry.abbrev.now
         (R.remaining (inner_of inputs.entry.info.now))
-        (R.remaining (inner_of inputs.exit.1.0.now))
+        (R.remaining (inner_of inputs.exit.1.1.0.now))
         (W.contents (inner_of writer.old))
         (W.contents (inner_of writer.new))
         result }
     ensures memory { TookBytes
         (R.remaining (inner_of inputs.entry.info.now))
-        (R.remaining (inner_of inputs.exit.1.0.now))
+        (R.remaining (inner_of inputs.exit.1.1.0.now))
         result }
-    ensures read { fault_of inputs.exit.1.0.now ≡ run_reader_fault result }
+    ensures read { fault_of inputs.exit.1.1.0.now ≡ run_reader_fault result }
     ensures write { fault_of writer.new ≡ run_writer_fault result }
 {
     let Inputs {
         order,
+        versions,
         info,
         abbrev,
+        strings,
     } = inputs;
-    let bytes = read_all(alloc, info)?;
-    let section = read_section(alloc, order, abbrev, bytes.as_slice())?;
-    write_section(command, &section, writer)?;
-    Ok(Status::Good)
+    let mut tables = Tables::new(alloc, abbrev);
+    let section = read_section_as(alloc, order, versions, &mut tables, info)?;
+    Ok(write_output(command, &section, &strings, writer)?)
 }
 
-/// What is in a section `.debug_info`: nothing, or one unit that fills it. A fault is the first
-/// one; bytes after a unit are `NotYet`.
-///
-/// Errors: `Fault`, or `Memory` where a growth was refused. An empty section has neither.
-pub fn read_section(
-    alloc: Global,
-    order: Order,
-    abbreviations: &[u8],
-    info: &[u8],
-) -> Result<Option<Unit>, ToolError>
-    ensures found { IfOk result (IsSection abbreviations.now order info.now) }
-    ensures broken { IfErr result (IsRunError abbreviations.now order info.now) }
-{
-    if info.is_empty() {
-        return Ok(None);
-    }
-    let mut tables = Tables::new(alloc, abbreviations);
-    let (unit, size) = read_unit(alloc, order, &mut tables, info)?;
-    if size < info.len() {
-        return Err(ToolError::Fault(Fault {
-            section: SectionId::Info,
-            offset: size as u64,
-            reason: Reason::NotYet,
-        }));
-    }
-    Ok(Some(unit))
-}
-
-/// Writes what the command makes of what is in a section.
-fn write_section<W: Write>(
-    command: Command,
-    section: &Option<Unit>,
+/// Writes what the command makes of a section.
+fn write_output<W: Write>(
+    command: Command<'_>,
+    section: &Section,
+    strings: &Strings<'_>,
     writer: &mut Watched<W>,
-) -> Result<(), WriteError>
+) -> Result<Status, WriteError>
     requires { fault_of writer.old ≡ None }
-    ensures written { Wrote (W.contents (inner_of writer.old)) (W.contents (inner_of writer.new)) (output command (section_bytes section.now) section.now) result }
-    ensures fault { fault_of writer.new ≡ writer_fault result }
-{
-    match section {
-        Some(unit) => write_one(command, unit, writer),
-        None => Ok(()),
-    }
-}
-
-fn write_one<W: Write>(
-    command: Command,
-    unit: &Unit,
-    writer: &mut Watched<W>,
-) -> Result<(), WriteError>
-    requires { fault_of writer.old ≡ None }
-    ensures written { Wrote (W.contents (inner_of writer.old)) (W.contents (inner_of writer.new)) (output command (bytes_of unit.now) (Some unit.now)) result }
+    ensures written { Wrote (W.contents (inner_of writer.old)) (W.contents (inner_of writer.new)) (output command.entry (sections_of strings.now) section.now) result }
+    ensures status { IfOk result (λ status. status ≡ status_of command.entry (output command.entry (sections_of strings.now) section.now)) }
     ensures fault { fault_of writer.new ≡ writer_fault result }
 {
     match command {
-        Command::Show => show(unit, writer),
-        Command::Copy => write_unit(unit, writer),
+        Command::Show => show(section, strings, writer)?,
+        Command::Find(name) => return find(section, strings, name, writer),
+        Command::Copy => write_section(section, writer)?,
     }
+    Ok(Status::Good)
 }
 
-fn show<W: Write>(unit: &Unit, writer: &mut Watched<W>) -> Result<(), WriteError>
+fn show<W: Write>(
+    section: &Section,
+    strings: &Strings<'_>,
+    writer: &mut Watched<W>,
+) -> Result<(), WriteError>
     requires { fault_of writer.old ≡ None }
-    ensures written { Wrote (W.contents (inner_of writer.old)) (W.contents (inner_of writer.new)) (unit_text unit.now) result }
+    ensures written { Wrote (W.contents (inner_of writer.old)) (W.contents (inner_of writer.new)) (section_text (sections_of strings.now) section.now) result }
     ensures fault { fault_of writer.new ≡ writer_fault result }
 {
     let mut out = Output::new(writer);
-    push_unit(&mut out, unit)?;
+    push_section(&mut out, section, strings)?;
     out.flush()
+}
+
+fn find<W: Write>(
+    section: &Section,
+    strings: &Strings<'_>,
+    name: &[u8],
+    writer: &mut Watched<W>,
+) -> Result<Status, WriteError>
+    requires { fault_of writer.old ≡ None }
+    ensures written { Wrote (W.contents (inner_of writer.old)) (W.contents (inner_of writer.new)) (found_text (sections_of strings.now) name.now section.now) result }
+    ensures status { IfOk result (λ status. status ≡ found_status (found_text (sections_of strings.now) name.now section.now)) }
+    ensures fault { fault_of writer.new ≡ writer_fault result }
+{
+    let mut out = Output::new(writer);
+    let found = push_found(&mut out, section, strings, name)?;
+    out.flush()?;
+    Ok(if found { Status::Good } else { Status::Bad })
 }

@@ -1,80 +1,108 @@
-//! The text of a unit: a line for its header, one for each entry, and one for each attribute. Each call
-//! answers the writer's fault where it fails, as `Output::append` does.
-ghost use Rattle.std.specs.Prelude.{◌≡◌, ◌++◌, codes, decimal};
-ghost use Rattle.dw_form.specs.Lent.{attribute_of, value_of};
-ghost use Rattle.dw_tree.specs.Lent.{attr_of};
-ghost use Rattle.dw_tool.specs.Show.{added_text, attribute_line, attribute_lines, entries_text, entry_line, entry_text, format_text, header_line, header_sizes, kind_text, labelled, labelled_decimal, unit_text, value_text};
+//! The text of a section: a line for the header of each unit, and what stands below it; a line for each other
+//! item. Each call answers the writer's fault where it fails, as `Output::append` does.
+ghost use Rattle.std.specs.Prelude.{◌≡◌, ◌++◌, Some, codes, slice_get};
+ghost use Rattle.dw_section.specs.ItemView.{item_of};
+ghost use Rattle.dw_strings.specs.TextView.{sections_of};
 ghost use Rattle.dw_tool.specs.Output.{Puts, IsClear};
+ghost use Rattle.dw_tool.specs.Place.{IsPlace};
+ghost use Rattle.dw_tool.specs.Show.{added_text, format_text, header_line, header_sizes, item_text, kind_text, other_line, section_text, unit_text};
+ghost use Rattle.dw_tool.specs.Text.{labelled};
 
+use crate::entries::{Place, push_entries};
 use crate::output::Output;
-use crate::text::{
-    push_attribute, push_block, push_decimal, push_hexadecimal, push_quoted, push_signed, push_tag,
-};
-use dw_form::Value;
+use crate::text::{push_labelled, push_labelled_decimal};
 use dw_leb::{Format, WriteError};
-use dw_unit::{AttrRef, Attrs, Entries, EntryRef, Header, Kind, Unit};
+use dw_section::{Item, Section};
+use dw_strings::Strings;
+use dw_unit::{Header, Kind, Unit};
 use std::io::Write;
 
-/// Appends the text of a unit that begins its section: the line of its header, and its entries.
-pub fn push_unit<W: Write>(out: &mut Output<'_, W>, unit: &Unit) -> Result<(), WriteError>
-    requires { IsClear out.old }
-    ensures { Puts W.contents out.old out.new (unit_text unit.now) result }
-{
-    push_header(out, unit.header(), unit.size())?;
-    push_entries(out, unit.entries())
-}
-
-/// Appends the texts of entries, one after the other.
-pub fn push_entries<W: Write>(
+/// Appends the text of a section: of its items, one after the other. Of a unit that are the line of its header
+/// and its entries with their attributes, of another item one line. Offsets count from the section's first
+/// byte. The texts that attributes name are those of `strings`.
+pub fn push_section<W: Write>(
     out: &mut Output<'_, W>,
-    entries: Entries<'_>,
+    section: &Section,
+    strings: &Strings<'_>,
 ) -> Result<(), WriteError>
     requires { IsClear out.old }
-    ensures { Puts W.contents out.old out.new (entries_text entries.entry) result }
+    ensures { Puts W.contents out.old out.new (section_text (sections_of strings.now) section.now) result }
 {
-    for entry in entries {
-        push_entry(out, &entry)?;
+    let mut number = 0;
+    let mut left = section.items();
+    while let Some((item, others)) = left.split_first() {
+        push_item(out, section, strings, number, item)?;
+        number += 1;
+        left = others;
     }
     Ok(())
 }
 
-/// Appends the line of an entry, and one for each of its attributes, in their order.
-pub fn push_entry<W: Write>(out: &mut Output<'_, W>, entry: &EntryRef<'_>) -> Result<(), WriteError>
-    requires { IsClear out.old }
-    ensures { Puts W.contents out.old out.new (entry_text entry.now) result }
+/// Appends the text of an item, which is the one of this number in the section.
+fn push_item<W: Write>(
+    out: &mut Output<'_, W>,
+    section: &Section,
+    strings: &Strings<'_>,
+    number: usize,
+    item: &Item,
+) -> Result<(), WriteError>
+    requires clear { IsClear out.old }
+    requires there { slice_get section.now.items number ≡ Some (item_of item.now) }
+    ensures { Puts W.contents out.old out.new (item_text (sections_of strings.now) section.now.items number (item_of item.now)) result }
 {
-    push_entry_line(out, entry)?;
-    push_attributes(out, entry.attrs())
-}
-
-/// Appends the value as text. A number is written in hexadecimal digits, or in decimal ones where
-/// it has a sign; a block as by `push_block`, a text as by `push_quoted`, a flag as `present`.
-pub fn push_value<W: Write>(out: &mut Output<'_, W>, value: &Value<'_>) -> Result<(), WriteError>
-    requires { IsClear out.old }
-    ensures { Puts W.contents out.old out.new (value_text (value_of value.now)) result }
-{
-    match value {
-        Value::Num(number) => push_hexadecimal(out, *number as u128),
-        Value::Wide(number) => push_hexadecimal(out, *number),
-        Value::Uleb(number) => push_hexadecimal(out, number.value as u128),
-        Value::Sleb(number) => push_signed(out, number.value),
-        Value::Block { bytes, .. } => push_block(out, bytes),
-        Value::Text(bytes) => push_quoted(out, bytes),
-        Value::Present => out.append(b"present"),
-        Value::Implicit(number) => push_signed(out, number.value),
+    let Some(start) = section.start(number) else {
+        unreachable!()
+    };
+    match item {
+        Item::Known(unit) => {
+            let place = Place {
+                section,
+                strings,
+                item: number,
+                start,
+            };
+            push_unit(out, &place, unit)
+        }
+        Item::Other(_) => push_other(out, start, item.size()),
     }
 }
 
-// The line of a unit's header, the unit being the first of its section.
+/// Appends the text of a unit: the line of its header, and its entries.
+fn push_unit<W: Write>(
+    out: &mut Output<'_, W>,
+    place: &Place<'_>,
+    unit: &Unit,
+) -> Result<(), WriteError>
+    requires clear { IsClear out.old }
+    requires place { IsPlace place.now }
+    ensures { Puts W.contents out.old out.new (unit_text (sections_of place.now.strings.now) place.now.section.now.items place.now.item unit.now) result }
+{
+    push_header(out, place.start, unit.header(), unit.size())?;
+    push_entries(out, place, unit.entries())
+}
+
+/// Appends the line of an item that isn't read.
+fn push_other<W: Write>(out: &mut Output<'_, W>, start: u64, size: u64) -> Result<(), WriteError>
+    requires { IsClear out.old }
+    ensures { Puts W.contents out.old out.new (other_line start size) result }
+{
+    push_labelled(out, b"other ", start)?;
+    push_labelled_decimal(out, b" size ", size)?;
+    out.append(b"\n")
+}
+
+/// Appends the line of the header of a unit that starts here.
 fn push_header<W: Write>(
     out: &mut Output<'_, W>,
+    start: u64,
     header: Header,
     size: u64,
 ) -> Result<(), WriteError>
     requires { IsClear out.old }
-    ensures { Puts W.contents out.old out.new (header_line header size) result }
+    ensures { Puts W.contents out.old out.new (header_line start header size) result }
 {
-    out.append(b"unit 0x0 ")?;
+    push_labelled(out, b"unit ", start)?;
+    out.append(b" ")?;
     push_kind(out, header.kind())?;
     push_format(out, header.format())?;
     push_sizes(out, header, size)?;
@@ -143,70 +171,4 @@ fn push_type<W: Write>(
 {
     push_labelled(out, b" signature ", signature)?;
     push_labelled(out, b" type ", type_offset)
-}
-
-fn push_labelled<W: Write>(
-    out: &mut Output<'_, W>,
-    label: &[u8],
-    number: u64,
-) -> Result<(), WriteError>
-    requires { IsClear out.old }
-    ensures { Puts W.contents out.old out.new (labelled label.now number) result }
-{
-    out.append(label)?;
-    push_hexadecimal(out, number as u128)
-}
-
-fn push_labelled_decimal<W: Write>(
-    out: &mut Output<'_, W>,
-    label: &[u8],
-    number: u64,
-) -> Result<(), WriteError>
-    requires { IsClear out.old }
-    ensures { Puts W.contents out.old out.new (labelled_decimal label.now number) result }
-{
-    out.append(label)?;
-    push_decimal(out, number)
-}
-
-fn push_entry_line<W: Write>(
-    out: &mut Output<'_, W>,
-    entry: &EntryRef<'_>,
-) -> Result<(), WriteError>
-    requires { IsClear out.old }
-    ensures { Puts W.contents out.old out.new (entry_line entry.now) result }
-{
-    push_labelled_decimal(out, b"<", entry.depth())?;
-    push_labelled(out, b"> ", entry.offset())?;
-    out.append(b" ")?;
-    push_tag(out, entry.tag())?;
-    out.append(b"\n")
-}
-
-fn push_attributes<W: Write>(
-    out: &mut Output<'_, W>,
-    attributes: Attrs<'_>,
-) -> Result<(), WriteError>
-    requires { IsClear out.old }
-    ensures { Puts W.contents out.old out.new (attribute_lines attributes.entry) result }
-{
-    let mut left = attributes;
-    while let Some(attribute) = left.next() {
-        push_attribute_line(out, &attribute)?;
-    }
-    Ok(())
-}
-
-fn push_attribute_line<W: Write>(
-    out: &mut Output<'_, W>,
-    attribute: &AttrRef<'_>,
-) -> Result<(), WriteError>
-    requires { IsClear out.old }
-    ensures { Puts W.contents out.old out.new (attribute_line (attr_of attribute.now)) result }
-{
-    out.append(b"  ")?;
-    push_attribute(out, attribute.name)?;
-    out.append(b" ")?;
-    push_value(out, &attribute.attr.value)?;
-    out.append(b"\n")
 }

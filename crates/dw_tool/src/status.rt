@@ -42,7 +42,7 @@ pub enum ToolError {
     /// The sections are refused: the first fault.
     #[error("{0}")]
     Fault(Fault),
-    /// The request is refused. `show` and `copy` refuse none.
+    /// The request is refused. `show`, `find` and `copy` refuse none.
     #[error("refused {0}")]
     Refused(Refused),
     /// The reader of `.debug_info` failed.

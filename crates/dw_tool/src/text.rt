@@ -3,7 +3,7 @@
 ghost use Rattle.std.specs.Prelude.{◌≡◌, ◌<◌, ◌≤◌, ◌+◌, ◌++◌, ℕ, codes, decimal, drop, false, unwrap_or, option_map};
 ghost use Rattle.std.specs.Fmt.{digit_glyph, signed_decimal};
 ghost use Rattle.dw_tool.specs.Output.{Puts, IsClear};
-ghost use Rattle.dw_tool.specs.Text.{attribute_text, block, each, escaped, hexadecimal, quoted, spaced_digits, tag_text, two_digits};
+ghost use Rattle.dw_tool.specs.Text.{attribute_text, block, each, escaped, hexadecimal, labelled, labelled_decimal, quoted, spaced_digits, tag_text, two_digits};
 
 use crate::names::{attribute_name, tag_name};
 use crate::output::Output;
@@ -29,6 +29,32 @@ pub fn push_decimal<W: Write>(out: &mut Output<'_, W>, number: u64) -> Result<()
     ensures { Puts W.contents out.old out.new (decimal number) result }
 {
     out.append(Buffer::new().format(number).as_bytes())
+}
+
+/// Appends the label and the number, as by `push_hexadecimal`.
+pub(crate) fn push_labelled<W: Write>(
+    out: &mut Output<'_, W>,
+    label: &[u8],
+    number: u64,
+) -> Result<(), WriteError>
+    requires { IsClear out.old }
+    ensures { Puts W.contents out.old out.new (labelled label.now number) result }
+{
+    out.append(label)?;
+    push_hexadecimal(out, number as u128)
+}
+
+/// Appends the label and the number, as by `push_decimal`.
+pub(crate) fn push_labelled_decimal<W: Write>(
+    out: &mut Output<'_, W>,
+    label: &[u8],
+    number: u64,
+) -> Result<(), WriteError>
+    requires { IsClear out.old }
+    ensures { Puts W.contents out.old out.new (labelled_decimal label.now number) result }
+{
+    out.append(label)?;
+    push_decimal(out, number)
 }
 
 /// Appends the value in decimal digits, after a `-` where it is negative.

@@ -15,8 +15,12 @@ mod large;
 #[cfg(test)]
 mod lines;
 #[cfg(test)]
+mod named;
+#[cfg(test)]
 mod outputs;
 #[cfg(test)]
 mod runs;
+#[cfg(test)]
+mod sections;
 #[cfg(test)]
 mod texts;

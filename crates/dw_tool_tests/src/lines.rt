@@ -3,6 +3,7 @@ use dw_leb::Order;
 use dw_line::line::line;
 use dw_line::outcome::{Line, LineError};
 use dw_tool::command::Command;
+use dw_unit::Versions;
 use std::alloc::Global;
 use std::test::Fail;
 
@@ -14,20 +15,48 @@ fn reads_a_line(rt: HostRuntime) {
             == Some(Line {
                 command: Command::Show,
                 order: Order::Little,
+                versions: Versions::Five,
                 info: "a",
                 abbrev: "b",
+                str: None,
+                line_str: None,
+                str_offsets: None,
             })
     );
-    let copied = line(rt.alloc(), &["copy", "--abbrev=b", "--big", "--info=a"]).ok();
+    let copied = line(
+        rt.alloc(),
+        &[
+            "copy",
+            "--abbrev=b",
+            "--str-offsets=e",
+            "--big",
+            "--info=a",
+            "--line-str=d",
+            "--v4",
+            "--str=c",
+        ],
+    )
+    .ok();
     assert!(rt;
         copied
             == Some(Line {
                 command: Command::Copy,
                 order: Order::Big,
+                versions: Versions::FourAndFive,
                 info: "a",
                 abbrev: "b",
+                str: Some("c"),
+                line_str: Some("d"),
+                str_offsets: Some("e"),
             })
     );
+}
+
+#[test]
+fn reads_a_name(rt: HostRuntime) {
+    let words = ["find", "--info", "a", "main", "--abbrev", "b"];
+    let found = line(rt.alloc(), &words).ok();
+    assert!(rt; found.map(|it| it.command) == Some(Command::Find(b"main")));
 }
 
 #[test]
@@ -38,8 +67,12 @@ fn takes_an_empty_path_and_a_lone_hyphen(rt: HostRuntime) {
             == Some(Line {
                 command: Command::Show,
                 order: Order::Little,
+                versions: Versions::Five,
                 info: "",
                 abbrev: "-",
+                str: None,
+                line_str: None,
+                str_offsets: None,
             })
     );
 }
@@ -86,6 +119,13 @@ fn refuses_other_words(rt: HostRuntime) {
     assert!(rt; is_mistake(alloc, &["--big", "show", "--info", "a", "--abbrev", "b"]));
     assert!(rt; is_mistake(alloc, &["show", "--info", "a", "--abbrev", "b", "word"]));
     assert!(rt; is_mistake(alloc, &["show", "--info", "a", "--abbrev", "b", "-"]));
+    assert!(rt; is_mistake(alloc, &["find", "--info", "a", "--abbrev", "b"]));
+    assert!(rt;
+        is_mistake(
+            alloc,
+            &["find", "--info", "a", "--abbrev", "b", "one", "two"]
+        )
+    );
     assert!(rt; is_mistake(alloc, &["help", "word"]));
 }
 

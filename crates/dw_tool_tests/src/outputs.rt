@@ -1,12 +1,14 @@
 //! Texts that are longer than the buffer through which they are written.
 ghost use Rattle.dw_tool.specs.Output.{IsClear};
 
+use crate::common::no_strings;
 use dw_leb::devices::Stepped;
 use dw_leb::{Order, Watched, WriteError};
 use dw_tool::command::Command;
 use dw_tool::output::Output;
 use dw_tool::run::{Inputs, run};
 use dw_tool::status::{Status, ToolError};
+use dw_unit::Versions;
 use std::alloc::{AllocError, Global};
 use std::io::{ErrorKind, Write};
 use std::test::Fail;
@@ -53,10 +55,13 @@ fn text(alloc: Global, name: u16, children: u16) -> Result<String, AllocError> {
 fn shows(alloc: Global, info: &[u8], text: &[u8]) -> bool {
     let mut reader = Watched::new(info);
     let mut writer = Watched::new(Stepped::new(Vec::new(alloc), 1_000));
+    let strings = no_strings();
     let inputs = Inputs {
         order: Order::Little,
+        versions: Versions::Five,
         info: &mut reader,
         abbrev: &TABLE,
+        strings,
     };
     let answer = run(alloc, Command::Show, inputs, &mut writer);
     answer == Ok(Status::Good) && writer.into_inner().inner().as_slice() == text
@@ -68,10 +73,13 @@ fn stops(alloc: Global, info: &[u8], text: &[u8]) -> bool {
     let mut reader = Watched::new(info);
     let failing = Stepped::failing(Vec::new(alloc), 1_000, 7, ErrorKind::StorageFull);
     let mut writer = Watched::new(failing);
+    let strings = no_strings();
     let inputs = Inputs {
         order: Order::Little,
+        versions: Versions::Five,
         info: &mut reader,
         abbrev: &TABLE,
+        strings,
     };
     let answer = run(alloc, Command::Show, inputs, &mut writer);
     let stopped = writer.into_inner();

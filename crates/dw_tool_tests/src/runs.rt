@@ -1,9 +1,11 @@
 //! What runs write, where all is well, where the sections are refused, and where a device fails.
+use crate::common::no_strings;
 use dw_leb::devices::Stepped;
 use dw_leb::{Fault, Order, Reason, SectionId, Watched};
 use dw_tool::command::Command;
 use dw_tool::run::{Inputs, run};
 use dw_tool::status::{Refused, Status, ToolError};
+use dw_unit::Versions;
 use std::alloc::Global;
 use std::io::ErrorKind;
 use std::test::Fail;
@@ -19,7 +21,7 @@ const UNIT_AND_MORE: [u8; 17] = [
 // What a run over the first bytes answers, and that it writes exactly this.
 fn runs(
     alloc: Global,
-    command: Command,
+    command: Command<'_>,
     info: &[u8],
     written: &[u8],
 ) -> Result<Result<Status, ToolError>, Fail> {
@@ -29,17 +31,20 @@ fn runs(
 // The same over a section of abbreviations.
 fn runs_over(
     alloc: Global,
-    command: Command,
+    command: Command<'_>,
     abbrev: &[u8],
     info: &[u8],
     written: &[u8],
 ) -> Result<Result<Status, ToolError>, Fail> {
     let mut reader = Watched::new(Stepped::new(info, 4));
     let mut writer = Watched::new(Vec::new(alloc));
+    let strings = no_strings();
     let inputs = Inputs {
         order: Order::Little,
+        versions: Versions::Five,
         info: &mut reader,
         abbrev,
+        strings,
     };
     let result = run(alloc, command, inputs, &mut writer);
     if writer.into_inner().as_slice() == written {
@@ -72,7 +77,7 @@ fn runs_over_a_unit(rt: HostRuntime) -> Result<(), Fail> {
         let cut = runs(rt.alloc(), command, &UNIT_AND_MORE[..14], &[])?;
         assert!(rt; cut == refused(13, Reason::Truncated));
         let more = runs(rt.alloc(), command, &UNIT_AND_MORE, &[])?;
-        assert!(rt; more == refused(15, Reason::NotYet));
+        assert!(rt; more == refused(15, Reason::Truncated));
     }
     Ok(())
 }
@@ -249,10 +254,13 @@ fn tells_devices_that_fail(rt: HostRuntime) {
     for command in [Command::Show, Command::Copy] {
         let mut reader = Watched::new(Stepped::failing(unit, 4, 2, ErrorKind::TimedOut));
         let mut writer = Watched::new(Vec::new(alloc));
+        let strings = no_strings();
         let inputs = Inputs {
             order: Order::Little,
+            versions: Versions::Five,
             info: &mut reader,
             abbrev: &TABLE,
+            strings,
         };
         let unread = run(alloc, command, inputs, &mut writer);
         assert!(rt; unread == Err(ToolError::Read(ErrorKind::TimedOut)));
@@ -260,10 +268,13 @@ fn tells_devices_that_fail(rt: HostRuntime) {
 
         let mut reader = Watched::new(unit);
         let mut writer = Watched::new(Stepped::failing(Vec::new(alloc), 4, 1, ErrorKind::TimedOut));
+        let strings = no_strings();
         let inputs = Inputs {
             order: Order::Little,
+            versions: Versions::Five,
             info: &mut reader,
             abbrev: &TABLE,
+            strings,
         };
         let unwritten = run(alloc, command, inputs, &mut writer);
         assert!(rt; unwritten == Err(ToolError::Write(ErrorKind::TimedOut)));

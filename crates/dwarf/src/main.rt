@@ -10,13 +10,17 @@ ghost use Rattle.dw_tool.specs.Failure.{exit_status};
 use dw_leb::Watched;
 use dw_line::line::{line, unreadable};
 use dw_line::outcome::{Line, LineError};
+use dw_strings::Strings;
 use dw_tool::failure::{Failure, exit_status};
 use dw_tool::run::{Inputs, run};
 use dw_tool::status::Status;
-use std::io::{BufWriter, Write};
+use std::io::{BufReader, BufWriter, Write};
 use std::process::ExitCode;
 use std::rt::{Env, Files};
 use std::{env, fs, io};
+
+/// As many bytes of `.debug_info` are asked for at once.
+const PIECE: usize = 65_536;
 
 fn main(rt: HostRuntime) -> ExitCode {
     ExitCode::from(act(&rt))
@@ -49,16 +53,61 @@ fn act_on_words(rt: &(impl AllocGlobal + Files + Print + Eprint), words: &[Strin
     }
 }
 
+// The sections that are read whole, in this order.
+#[derive(Drop)]
+struct Sections {
+    abbrev: Vec<u8>,
+    str: Vec<u8>,
+    line_str: Vec<u8>,
+    str_offsets: Vec<u8>,
+}
+
+fn read_files<'a>(
+    rt: &(impl AllocGlobal + Files),
+    line: &Line<'a>,
+) -> Result<Sections, Failure<'a>> {
+    Ok(Sections {
+        abbrev: read_file(rt, line.abbrev)?,
+        str: read_optional(rt, line.str)?,
+        line_str: read_optional(rt, line.line_str)?,
+        str_offsets: read_optional(rt, line.str_offsets)?,
+    })
+}
+
+fn read_file<'a>(rt: &(impl AllocGlobal + Files), path: &'a str) -> Result<Vec<u8>, Failure<'a>> {
+    fs::read(rt, path).map_err(|e| Failure::of_file(path, e.kind()))
+}
+
+// A section of which no file is named is empty.
+fn read_optional<'a>(
+    rt: &(impl AllocGlobal + Files),
+    path: Option<&'a str>,
+) -> Result<Vec<u8>, Failure<'a>> {
+    match path {
+        Some(path) => read_file(rt, path),
+        None => Ok(Vec::new(rt.alloc())),
+    }
+}
+
 fn act_on<'a>(
     rt: &(impl AllocGlobal + Files + Print),
     line: &Line<'a>,
 ) -> Result<Status, Failure<'a>> {
-    let abbrev = fs::read(rt, line.abbrev).map_err(|e| Failure::of_file(line.abbrev, e.kind()))?;
+    let sections = read_files(rt, line)?;
     let info = fs::open(rt, line.info).map_err(|e| Failure::of_file(line.info, e.kind()))?;
+    let Ok(info) = BufReader::with_capacity(rt.alloc(), PIECE, info) else {
+        return Err(Failure::Memory);
+    };
     let inputs = Inputs {
         order: line.order,
+        versions: line.versions,
         info: &mut Watched::new(info),
-        abbrev: abbrev.as_slice(),
+        abbrev: sections.abbrev.as_slice(),
+        strings: Strings {
+            str: sections.str.as_slice(),
+            line_str: sections.line_str.as_slice(),
+            str_offsets: sections.str_offsets.as_slice(),
+        },
     };
     let output = BufWriter::new(rt.alloc(), io::writer(rt));
     let mut output = Watched::new(output.map_err(|e| Failure::of_output(e.kind()))?);

@@ -1,22 +1,23 @@
 use Rattle.std.proofs.Common.{rules}
 use Rattle.dw_leb.specs.Watch.{inner_of}
 use Rattle.dw_tool.specs.Output.{writer_of}
-use Rattle.dw_tool.specs.Show.{unit_text}
+use Rattle.dw_strings.specs.TextView.{sections_of}
+use Rattle.dw_tool.specs.Show.{section_text}
 use Rattle.dw_tool.proofs.Appending.{wrote_flushed, wrote_stopped}
 use Rattle.dw_tool.proofs.run.show.Goals as goal
 
 pub returns-clause-written : goal.returns-clause-written
 returns-clause-written g c =
     let wrote =
-    wrote_flushed g.W.Write.contents c.flush.result c.args.writer.now _ _ (unit_text c.args.unit.now) (g.W.Write.contents (inner_of (writer_of c.flush.new.self)))
-    c.new-out.ensures.writer c.new-out.ensures.buffer c.in_ok-push_unit.ensures c.flush.ensures.written
+    wrote_flushed g.W.Write.contents c.flush.result c.args.writer.now _ _ (section_text (sections_of c.args.strings.now) c.args.section.now) (g.W.Write.contents (inner_of (writer_of c.flush.new.self)))
+    c.new-out.ensures.writer c.new-out.ensures.buffer c.in_ok-push_section.ensures c.flush.ensures.written
     in
     search rules
 
-pub returns-in_err-push_unit-clause-written : goal.returns-in_err-push_unit-clause-written
-returns-in_err-push_unit-clause-written g c =
+pub returns-in_err-push_section-clause-written : goal.returns-in_err-push_section-clause-written
+returns-in_err-push_section-clause-written g c =
     let wrote =
-    wrote_stopped g.W.Write.contents c.from_residual.result c.args.writer.now _ _ (unit_text c.args.unit.now)
-    c.new-out.ensures.writer c.new-out.ensures.buffer c.from_residual.ensures.1 c.in_err-push_unit.ensures
+    wrote_stopped g.W.Write.contents c.from_residual.result c.args.writer.now _ _ (section_text (sections_of c.args.strings.now) c.args.section.now)
+    c.new-out.ensures.writer c.new-out.ensures.buffer c.from_residual.ensures.1 c.in_err-push_section.ensures
     in
     search rules

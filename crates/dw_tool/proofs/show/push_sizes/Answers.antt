@@ -1,5 +1,5 @@
 use Rattle.std.proofs.Common.{codes, ◌++◌}
-use Rattle.dw_tool.specs.Show.{labelled, labelled_decimal}
+use Rattle.dw_tool.specs.Text.{labelled, labelled_decimal}
 use Rattle.dw_tool.proofs.Appending.{puts_after, puts_stopped}
 use Rattle.dw_tool.proofs.show.push_sizes.Goals as goal
 

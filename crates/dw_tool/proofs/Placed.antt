@@ -1,0 +1,68 @@
+-- Where items of a section start, and what references name there.
+use Rattle.std.proofs.Common.{◌≡◌, ℕ, zero, suc, ◌+◌, List, [], ◌∷◌, length, take, drop, Option, Some, None, refl, sym, ap, subst, arith}
+use Rattle.std.specs.Prelude.{Ok, Err, IsSome, IfOk, slice_get}
+use Rattle.std.proofs.lemmas.List.{length-append}
+use Rattle.dw_tree.specs.Lent.{EntryAt, LentAttribute}
+use Rattle.dw_unit.specs.Unit.{WholeUnit}
+use Rattle.dw_section.specs.Item.{Item, Known, item_bytes}
+use Rattle.dw_section.specs.Section.{items_bytes}
+use Rattle.dw_section.specs.Reference.{Target, named}
+use Rattle.dw_section.specs.Lookup.{known_of, unit_at, starts_from, start_of, entry}
+use Rattle.dw_section.specs.Found.{InUnit, entry_in_unit}
+use Rattle.dw_tool.specs.Show.{start_at, target_if, target_of}
+
+-- ---- starts
+
+start_from : (xs : List Item) (start i q : ℕ) → slice_get (starts_from start xs) i ≡ Some q → q ≡ start + length (items_bytes (take i xs))
+start_from [] start i q e = absurd cc
+start_from (x ∷ xs) start zero q e = let same : start ≡ q = cc in omega (arith, same)
+start_from (x ∷ xs) start (suc i) q e = omega (arith, start_from xs (start + length (item_bytes x)) i q e, length-append (item_bytes x) (items_bytes (take i xs)))
+
+pub start_is : (items : List Item) (i q : ℕ) → start_of items i ≡ Some q → q ≡ start_at items i
+start_is items i q e = omega (arith, start_from items 0 i q e)
+
+starts_there : (xs : List Item) (start i : ℕ) (x : Item) → slice_get xs i ≡ Some x → IsSome (slice_get (starts_from start xs) i)
+starts_there [] start i x e = absurd cc
+starts_there (y ∷ xs) start zero x e = refl
+starts_there (y ∷ xs) start (suc i) x e = starts_there xs (start + length (item_bytes y)) i x e
+
+-- each item starts somewhere
+pub start_there : (items : List Item) (i : ℕ) (x : Item) → slice_get items i ≡ Some x → IsSome (start_of items i)
+start_there items i x e = starts_there items 0 i x e
+
+pub no_start : (items : List Item) (i : ℕ) (x : Item) → slice_get items i ≡ Some x → start_of items i ≡ None → ⊥
+no_start items i x e none = let some : IsSome {T = ℕ} None = subst (λ (o : Option ℕ). IsSome o) none (start_there items i x e) in absurd cc
+
+-- ---- items
+
+-- the first of those that are left
+pub first_left : (xs ys : List Item) (i : ℕ) (x : Item) → drop i xs ≡ x ∷ ys → slice_get xs i ≡ Some x
+first_left [] ys zero x e = absurd cc
+first_left [] ys (suc i) x e = absurd cc
+first_left (y ∷ xs) ys zero x e = let same : y ≡ x = cc in ap Some same
+first_left (y ∷ xs) ys (suc i) x e = first_left xs ys i x e
+
+-- the others
+pub others_left : (xs ys : List Item) (i : ℕ) (x : Item) → drop i xs ≡ x ∷ ys → drop (suc i) xs ≡ ys
+others_left [] ys zero x e = absurd cc
+others_left [] ys (suc i) x e = absurd cc
+others_left (y ∷ xs) ys zero x e = let same : xs ≡ ys = cc in same
+others_left (y ∷ xs) ys (suc i) x e = others_left xs ys i x e
+
+pub unit_there : (items : List Item) (i : ℕ) (u : WholeUnit) → slice_get items i ≡ Some (Known u) → IsSome (unit_at items i)
+unit_there items i u e = subst (λ (o : Option Item). IsSome (known_of o)) (sym e) refl
+
+-- ---- targets
+
+-- what an attribute of a unit names
+pub target_is : (items : List Item) (item : ℕ) (a : LentAttribute) (t : Target) → IsSome (unit_at items item) → ((u : WholeUnit) → unit_at items item ≡ Some u → t ≡ named items item u a.form a.attr.value) → t ≡ target_of items item a
+target_is items item a t some is = by (unit_at items item) refl some
+  where
+    by : (o : Option WholeUnit) → unit_at items item ≡ o → IsSome o → t ≡ target_if items item a o
+    by None e h = absurd cc
+    by (Some u) e h = is u e
+
+-- the item of an entry that is named starts somewhere
+pub target_starts : (items : List Item) (t : Target) → IfOk t (λ id. (e : EntryAt) × (entry items id ≡ Some e) × (e.offset ≡ id.offset)) → IfOk t (λ id. IsSome (start_of items id.item))
+target_starts items (Ok id) h = let there : InUnit items id h.0 = entry_in_unit items id h.0 h.1 in start_there items id.item (Known there.unit) there.known
+target_starts items (Err why) h = tt

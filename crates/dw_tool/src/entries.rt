@@ -1,0 +1,252 @@
+//! The texts of entries and of their attributes, in a section. Each call answers the writer's fault where it
+//! fails, as `Output::append` does.
+ghost use Rattle.std.specs.Prelude.{◌≡◌, ◌+◌, ◌++◌, IsSome, IfOk, codes};
+ghost use Rattle.dw_form.specs.Lent.{value_of};
+ghost use Rattle.dw_tree.specs.Lent.{attr_of};
+ghost use Rattle.dw_section.specs.Lookup.{start_of, unit_at};
+ghost use Rattle.dw_strings.specs.TextView.{sections_of};
+ghost use Rattle.dw_tool.specs.Output.{Puts, IsClear};
+ghost use Rattle.dw_tool.specs.Place.{IsPlace};
+ghost use Rattle.dw_tool.specs.Show.{attribute_line, attribute_lines, entries_text, entry_line, entry_text, no_text, placed_value, stored_text, target_text, unresolved, value_text};
+ghost use Rattle.dw_tool.specs.Text.{labelled, quoted};
+
+use crate::output::Output;
+use crate::text::{
+    push_attribute, push_block, push_hexadecimal, push_labelled_decimal, push_quoted, push_signed,
+    push_tag,
+};
+use dw_form::Value;
+use dw_leb::WriteError;
+use dw_leb::constants::form::DW_FORM_STRING;
+use dw_section::{EntryId, RefFault, Section};
+use dw_strings::{StrFault, Strings};
+use dw_unit::{AttrRef, Attrs, Entries, EntryRef};
+use std::io::Write;
+
+/// A unit in its section, beside the sections of texts.
+#[derive(Clone, Copy)]
+pub(crate) struct Place<'a> {
+    pub(crate) section: &'a Section,
+    pub(crate) strings: &'a Strings<'a>,
+    /// The number of the item that the unit is.
+    pub(crate) item: usize,
+    /// Where the unit starts, counted from the section's first byte.
+    pub(crate) start: u64,
+}
+
+/// Appends the texts of entries of a unit, one after the other.
+pub(crate) fn push_entries<W: Write>(
+    out: &mut Output<'_, W>,
+    place: &Place<'_>,
+    entries: Entries<'_>,
+) -> Result<(), WriteError>
+    requires clear { IsClear out.old }
+    requires place { IsPlace place.now }
+    ensures { Puts W.contents out.old out.new (entries_text (sections_of place.now.strings.now) place.now.section.now.items place.now.item entries.entry) result }
+{
+    for entry in entries {
+        push_entry(out, place, &entry)?;
+    }
+    Ok(())
+}
+
+/// Appends the line of an entry, and one for each of its attributes, in their order.
+fn push_entry<W: Write>(
+    out: &mut Output<'_, W>,
+    place: &Place<'_>,
+    entry: &EntryRef<'_>,
+) -> Result<(), WriteError>
+    requires clear { IsClear out.old }
+    requires place { IsPlace place.now }
+    ensures { Puts W.contents out.old out.new (entry_text (sections_of place.now.strings.now) place.now.section.now.items place.now.item entry.now) result }
+{
+    push_entry_line(out, place.start, entry)?;
+    let from = EntryId {
+        item: place.item,
+        offset: entry.offset(),
+    };
+    push_attributes(out, place.section, place.strings, from, entry.attrs())
+}
+
+/// Appends the line of an entry of a unit that starts here: its depth, its offset in the section, and its tag.
+fn push_entry_line<W: Write>(
+    out: &mut Output<'_, W>,
+    start: u64,
+    entry: &EntryRef<'_>,
+) -> Result<(), WriteError>
+    requires { IsClear out.old }
+    ensures { Puts W.contents out.old out.new (entry_line start entry.now) result }
+{
+    push_labelled_decimal(out, b"<", entry.depth())?;
+    push_offset(out, b"> ", start, entry.offset())?;
+    out.append(b" ")?;
+    push_tag(out, entry.tag())?;
+    out.append(b"\n")
+}
+
+/// Appends the label, and the offset in the section of what has this offset in a unit that starts here.
+fn push_offset<W: Write>(
+    out: &mut Output<'_, W>,
+    label: &[u8],
+    start: u64,
+    offset: u64,
+) -> Result<(), WriteError>
+    requires { IsClear out.old }
+    ensures { Puts W.contents out.old out.new (labelled label.now (start + offset)) result }
+{
+    out.append(label)?;
+    push_hexadecimal(out, start as u128 + offset as u128)
+}
+
+/// Appends the lines of attributes of an entry.
+fn push_attributes<W: Write>(
+    out: &mut Output<'_, W>,
+    section: &Section,
+    strings: &Strings<'_>,
+    from: EntryId,
+    attributes: Attrs<'_>,
+) -> Result<(), WriteError>
+    requires clear { IsClear out.old }
+    requires unit { IsSome (unit_at section.now.items from.item) }
+    ensures { Puts W.contents out.old out.new (attribute_lines (sections_of strings.now) section.now.items from.item attributes.entry) result }
+{
+    let mut left = attributes;
+    while let Some(attribute) = left.next() {
+        push_attribute_line(out, section, strings, from, &attribute)?;
+    }
+    Ok(())
+}
+
+/// Appends the line of an attribute of an entry: its name, and its value in its place.
+fn push_attribute_line<W: Write>(
+    out: &mut Output<'_, W>,
+    section: &Section,
+    strings: &Strings<'_>,
+    from: EntryId,
+    attribute: &AttrRef<'_>,
+) -> Result<(), WriteError>
+    requires clear { IsClear out.old }
+    requires unit { IsSome (unit_at section.now.items from.item) }
+    ensures { Puts W.contents out.old out.new (attribute_line (sections_of strings.now) section.now.items from.item (attr_of attribute.now)) result }
+{
+    out.append(b"  ")?;
+    push_attribute(out, attribute.name)?;
+    out.append(b" ")?;
+    push_placed_value(out, section, strings, from, attribute)?;
+    out.append(b"\n")
+}
+
+/// Appends the value of an attribute of an entry, and behind it what it names: an entry or a text.
+fn push_placed_value<W: Write>(
+    out: &mut Output<'_, W>,
+    section: &Section,
+    strings: &Strings<'_>,
+    from: EntryId,
+    attribute: &AttrRef<'_>,
+) -> Result<(), WriteError>
+    requires clear { IsClear out.old }
+    requires unit { IsSome (unit_at section.now.items from.item) }
+    ensures { Puts W.contents out.old out.new (placed_value (sections_of strings.now) section.now.items from.item (attr_of attribute.now)) result }
+{
+    push_value(out, &attribute.attr.value)?;
+    push_target(out, section, section.resolve(from, attribute))?;
+    push_stored_text(out, section, strings, from, attribute)
+}
+
+/// Appends the value as text. A number is written in hexadecimal digits, or in decimal ones where
+/// it has a sign; a block as by `push_block`, a text as by `push_quoted`, a flag as `present`.
+pub fn push_value<W: Write>(out: &mut Output<'_, W>, value: &Value<'_>) -> Result<(), WriteError>
+    requires { IsClear out.old }
+    ensures { Puts W.contents out.old out.new (value_text (value_of value.now)) result }
+{
+    match value {
+        Value::Num(number) => push_hexadecimal(out, *number as u128),
+        Value::Wide(number) => push_hexadecimal(out, *number),
+        Value::Uleb(number) => push_hexadecimal(out, number.value as u128),
+        Value::Sleb(number) => push_signed(out, number.value),
+        Value::Block { bytes, .. } => push_block(out, bytes),
+        Value::Text(bytes) => push_quoted(out, bytes),
+        Value::Present => out.append(b"present"),
+        Value::Implicit(number) => push_signed(out, number.value),
+    }
+}
+
+/// Appends an arrow and where the entry begins that is named, or why there is none; nothing behind what is no
+/// reference.
+fn push_target<W: Write>(
+    out: &mut Output<'_, W>,
+    section: &Section,
+    target: Result<EntryId, RefFault>,
+) -> Result<(), WriteError>
+    requires clear { IsClear out.old }
+    requires there { IfOk target (λ id. IsSome (start_of section.now.items id.item)) }
+    ensures { Puts W.contents out.old out.new (target_text section.now.items target) result }
+{
+    match target {
+        Ok(id) => match section.start(id.item) {
+            Some(start) => push_offset(out, b" -> ", start, id.offset),
+            None => unreachable!(),
+        },
+        Err(fault) => out.append(unresolved(fault).as_bytes()),
+    }
+}
+
+/// What stands behind a reference that names no entry; nothing behind what is no reference.
+fn unresolved(fault: RefFault) -> &'static str
+    ensures { result.now ≡ unresolved fault }
+{
+    match fault {
+        RefFault::NotReference => "",
+        RefFault::OutsideUnit => " -> OutsideUnit",
+        RefFault::OutsideSection => " -> OutsideSection",
+        RefFault::NotAnEntry => " -> NotAnEntry",
+        RefFault::InOther => " -> InOther",
+        RefFault::NoSignature => " -> NoSignature",
+        RefFault::BadTypeOffset => " -> BadTypeOffset",
+        RefFault::Supplementary => " -> Supplementary",
+    }
+}
+
+/// Appends the text that an attribute of an entry names by a number, or why there is none; nothing behind any other
+/// value.
+fn push_stored_text<W: Write>(
+    out: &mut Output<'_, W>,
+    section: &Section,
+    strings: &Strings<'_>,
+    from: EntryId,
+    attribute: &AttrRef<'_>,
+) -> Result<(), WriteError>
+    requires clear { IsClear out.old }
+    requires unit { IsSome (unit_at section.now.items from.item) }
+    ensures { Puts W.contents out.old out.new (stored_text (sections_of strings.now) section.now.items from.item (attr_of attribute.now)) result }
+{
+    if attribute.form == DW_FORM_STRING {
+        return Ok(());
+    }
+    match strings.text(section, from, attribute) {
+        Ok(text) => push_behind_space(out, text),
+        Err(fault) => out.append(no_text(fault).as_bytes()),
+    }
+}
+
+fn push_behind_space<W: Write>(out: &mut Output<'_, W>, text: &[u8]) -> Result<(), WriteError>
+    requires { IsClear out.old }
+    ensures { Puts W.contents out.old out.new (codes " " ++ quoted text.now) result }
+{
+    out.append(b" ")?;
+    push_quoted(out, text)
+}
+
+/// What stands behind a number that names no text; nothing behind what is no text.
+fn no_text(fault: StrFault) -> &'static str
+    ensures { result.now ≡ no_text fault }
+{
+    match fault {
+        StrFault::NotText => "",
+        StrFault::PastSection => " PastSection",
+        StrFault::NoZero => " NoZero",
+        StrFault::NoBase => " NoBase",
+        StrFault::PastOffsets => " PastOffsets",
+        StrFault::Supplementary => " Supplementary",
+    }
+}
