@@ -1,0 +1,4 @@
+mod InOrder
+pub mod Spent
+pub mod Typing
+mod TypeRows

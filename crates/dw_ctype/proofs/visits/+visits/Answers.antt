@@ -1,0 +1,40 @@
+use Rattle.std.proofs.Common.{◌≡◌, ◌+◌, ◌<◌, ℕ, Some, None, refl, sym, ap, ◌∙◌, arith}
+use Rattle.dw_tree.specs.Lent.{EntryAt, children_of}
+use Rattle.dw_ctype.specs.declared.typed.Typed.{Typed}
+use Rattle.dw_ctype.specs.Types.{type_of}
+use Rattle.dw_ctype.specs.Visits.{less, visits, parameter_visits}
+use Rattle.dw_ctype.proofs.Spent.{less_then, less_stops, visits_taken, parameter_first, parameter_passed}
+use Rattle.dw_ctype.proofs.visits.+visits.Goals as goal
+
+pub count_parameters-loop-child-init : goal.count_parameters-loop-child-init
+count_parameters-loop-child-init t c =
+    let one : EntryAt → ℕ = λ p. visits c.args.section.now.items c.args.depth (type_of c.args.section.now.items c.args.item p) in
+    let same : children_of c.args.function.now ≡ c.into_iter-child-iterator.result = cc in
+    ap (λ es. less (parameter_visits one es) c.args.left) same
+
+pub count_parameters-returns-in_err-rest : goal.count_parameters-returns-in_err-rest
+count_parameters-returns-in_err-rest t c =
+    let one : EntryAt → ℕ = λ p. visits c.args.section.now.items c.args.depth (type_of c.args.section.now.items c.args.item p) in
+    let e : EntryAt = c.in-Some.child in
+    let stops : less (one e) c.loop-child.rest ≡ None = ap (λ (x : Typed). less (visits c.args.section.now.items c.args.depth x) c.loop-child.rest) (sym c.type_of.ensures) ∙ sym c.in_err-rest.ensures in
+    c.from_residual.ensures
+    ∙ sym (c.loop-child.invariant ∙ ap (λ (n : ℕ). less n c.loop-child.rest) (parameter_first one e c.next.new.self _ c.in-Some.ensures.steps cc) ∙ less_stops (one e) (parameter_visits one c.next.new.self) c.loop-child.rest stops)
+
+pub count_parameters-loop-child-preserved-then-tag-eq-DW_TAG_FORMAL_PARAMETER :
+    goal.count_parameters-loop-child-preserved-then-tag-eq-DW_TAG_FORMAL_PARAMETER
+count_parameters-loop-child-preserved-then-tag-eq-DW_TAG_FORMAL_PARAMETER t c =
+    let one : EntryAt → ℕ = λ p. visits c.args.section.now.items c.args.depth (type_of c.args.section.now.items c.args.item p) in
+    let e : EntryAt = c.in-Some.child in
+    let taken : less (one e) c.loop-child.rest ≡ Some c.in_ok-rest.rest = ap (λ (x : Typed). less (visits c.args.section.now.items c.args.depth x) c.loop-child.rest) (sym c.type_of.ensures) ∙ sym c.in_ok-rest.ensures in
+    c.loop-child.invariant ∙ ap (λ (n : ℕ). less n c.loop-child.rest) (parameter_first one e c.next.new.self _ c.in-Some.ensures.steps cc) ∙ less_then (one e) (parameter_visits one c.next.new.self) c.loop-child.rest c.in_ok-rest.rest taken
+
+pub count_parameters-loop-child-preserved : goal.count_parameters-loop-child-preserved
+count_parameters-loop-child-preserved t c =
+    let one : EntryAt → ℕ = λ p. visits c.args.section.now.items c.args.depth (type_of c.args.section.now.items c.args.item p) in
+    c.loop-child.invariant ∙ ap (λ (n : ℕ). less n c.loop-child.rest) (parameter_passed one c.in-Some.child c.next.new.self _ c.in-Some.ensures.steps (λ h. c.if-tag-eq-DW_TAG_FORMAL_PARAMETER.false cc))
+
+pub count-returns : goal.count-returns
+count-returns t c =
+    let deep : 0 < c.args.depth = omega (arith, c.if-depth-eq0.false) in
+    let sum : c.args.left ≡ 1 + c.in_ok-rest.rest = omega (arith, c.in_ok-rest.ensures) in
+    c.count_type.ensures ∙ sym (visits_taken c.args.section.now.items c.args.depth c.args.typed _ c.args.left c.in_ok-rest.rest deep sum refl)

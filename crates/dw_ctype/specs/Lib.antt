@@ -1,0 +1,5 @@
+pub mod InOrder
+pub mod Names
+pub mod Types
+pub mod View
+pub mod Visits
