@@ -3,9 +3,8 @@
 
 Usage: scripts/compare.py PROGRAM FILE..
 
-PROGRAM is the built `dwarf` (crates/dwarf/out/dwarf). Each FILE is linked and little-endian. Its units of
-version 5 are shown one by one, as the program takes one unit. Compared are the level, the offset and the tag
-of each entry, the names of its attributes in their order, and each value that readelf tells as the number
+PROGRAM is the built `dwarf` (crates/dwarf/out/dwarf). Each FILE is linked and little-endian. Of its units of
+version 5, compared are the level, the offset and the tag of each entry, the names of its attributes in their order, and each value that readelf tells as the number
 that stands there. A name that the program prints as a number is passed over. The status is 0 where all agree,
 else 1.
 """
@@ -76,48 +75,30 @@ def by_readelf(file):
     return entries
 
 
-def units(info):
-    """The units of version 5 of a section, each with the offset at which it begins."""
-    at = 0
-    while at < len(info):
-        length, size = int.from_bytes(info[at : at + 4], "little"), 4
-        if length == 0xFFFFFFFF:
-            length, size = int.from_bytes(info[at + 4 : at + 12], "little"), 12
-        end = at + size + length
-        if info[at + size : at + size + 2] == b"\x05\x00":
-            yield at, info[at:end]
-        at = end
-
-
 def by_show(program, file):
     """The same as `dwarf show` tells them, and where the units lie."""
-    entries, places = [], []
     with tempfile.TemporaryDirectory() as room:
         if subprocess.run(["sh", SECTIONS, file, room]).returncode:
             sys.exit(1)
-        with open(f"{room}/debug_info", "rb") as it:
-            info = it.read()
-        for start, unit in units(info):
-            with open(f"{room}/unit", "wb") as it:
-                it.write(unit)
-            words = [program, "show", "--info", f"{room}/unit", "--abbrev", f"{room}/debug_abbrev"]
-            told = subprocess.run(words, stdout=subprocess.PIPE, check=True)
-            entries += shown(told.stdout.decode(), start)
-            places.append(range(start, start + len(unit)))
-    return entries, places
+        words = [program, "show", "--info", f"{room}/debug_info", "--abbrev", f"{room}/debug_abbrev"]
+        told = subprocess.run(words, stdout=subprocess.PIPE, check=True)
+    return shown(told.stdout.decode(errors="replace"))
 
 
-def shown(text, start):
-    """The entries in the text of a unit that begins at `start`."""
-    entries = []
-    for line in text.splitlines()[1:]:
+def shown(text):
+    """The entries in the text of a section, and where its units lie."""
+    entries, places = [], []
+    for line in text.splitlines():
+        unit = re.match(r"unit (0x[0-9a-f]+) \w+ \d+ size (\d+)", line)
         entry = re.match(r"<(\d+)> (0x[0-9a-f]+) (\w+)$", line)
-        if entry:
-            entries.append([(int(entry[1]), start + int(entry[2], 16), entry[3])])
-        else:
+        if unit:
+            places.append(range(int(unit[1], 16), int(unit[1], 16) + int(unit[2])))
+        elif entry:
+            entries.append([(int(entry[1]), int(entry[2], 16), entry[3])])
+        elif line.startswith("  "):
             name, _, value = line.strip().partition(" ")
-            entries[-1].append((name, number(value)))
-    return entries
+            entries[-1].append((name, number(value.partition(" -> ")[0])))
+    return entries, places
 
 
 def place_of(places, offset):

@@ -5,7 +5,7 @@ ghost use Rattle.dw_leb.specs.Watch.{fault_of, reader_fault};
 
 use crate::common::{FIFTEEN, NAMED, SIXTY_FOUR, TYPED, same};
 use dw_abbrev::Tables;
-use dw_feed::{read_unit_from, unit_bytes};
+use dw_feed::{field_bytes, read_unit_from, read_up_to};
 use dw_leb::devices::Stepped;
 use dw_leb::{Fault, Order, ReadError, Reason, SectionId, Watched};
 use dw_unit::Unit;
@@ -235,14 +235,16 @@ const ALMOST_FOUR_GIGABYTES: [u8; 15] = [
     0xef, 0xff, 0xff, 0xff, 0x05, 0, 0x01, 0x08, 0, 0, 0, 0, 0x01, 0x61, 0,
 ];
 
-/// No more room is made for the unit than for a piece of what comes.
+/// No more room is made for a count of bytes than for a piece of what comes.
 #[test]
 fn believes_no_announced_length(rt: HostRuntime) -> Result<(), Fail> {
     let bytes = ALMOST_FOUR_GIGABYTES.as_slice();
     let answer = refused(rt.alloc(), Order::Little, &NAMED, bytes);
     assert!(rt; answer == Some((15, Reason::Truncated, 0)));
     let mut reader = Watched::new(bytes);
-    let taken = unit_bytes(rt.alloc(), Order::Little, &mut reader)?;
+    let mut taken = field_bytes(rt.alloc(), &mut reader)?;
+    same(&rt, taken.as_slice(), &bytes[..4]);
+    read_up_to(&mut reader, 0xffff_ffef, &mut taken)?;
     same(&rt, taken.as_slice(), bytes);
     assert!(rt; taken.capacity() < 10_000);
     Ok(())

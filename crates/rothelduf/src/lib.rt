@@ -14,8 +14,12 @@
 //!   counts what a `BodyFeed` holds;
 //! - `Unit` hands out its entries (`EntryRef`) and their attributes (`AttrRef`), borrowed;
 //! - `UnitBuilder` makes a unit entry by entry, over a table of `TableBuilder`;
+//! - `read_section` returns the whole section that a reader has left, item by item, or its first fault;
+//!   `read_section_as` also reads units of version 4;
 //! - `Section` holds the units of a whole section: looked up by item, `EntryId` and offset; `Section::resolve`
 //!   names the entry that a reference means, or says by `RefFault` why there is none;
+//! - `Strings` holds the sections of texts: `Strings::text` lends the text that an attribute names, or says by
+//!   `StrFault` why there is none;
 //! - `write_unit` and `write_section` write what was read or built, each number in its own width.
 //!
 //! `constants` has the numbers of the standard by name.
@@ -29,7 +33,10 @@ pub use dw_form::{AttrValue, Ctx, Shape, Value};
 pub use dw_leb::{
     Fault, Format, Order, ReadError, Reason, SectionId, Sleb, Uleb, Watched, WriteError, constants,
 };
-pub use dw_section::{EntryId, Item, RefFault, Section, SectionRefusal, write_section};
+pub use dw_section::{
+    EntryId, Item, RefFault, Section, SectionRefusal, read_section, read_section_as, write_section,
+};
+pub use dw_strings::{StrFault, Strings};
 pub use dw_unit::{
     AttrRef, Attrs, Children, Draft, Entries, EntryRef, Header, Kind, Refusal, Unit, UnitBuilder,
     Versions, most_levels, read_header, read_header_as, write_unit,
