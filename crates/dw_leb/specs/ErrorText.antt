@@ -29,7 +29,6 @@ reason_name reasons.HalfPair = codes "HalfPair"
 reason_name reasons.DuplicateCode = codes "DuplicateCode"
 reason_name reasons.TooManyPairs = codes "TooManyPairs"
 reason_name reasons.LengthTooBig = codes "LengthTooBig"
-reason_name reasons.NotYet = codes "NotYet"
 
 -- a section without the `.debug_` of its name
 abbrev pub section_name : SectionId → List ℕ

@@ -1,7 +1,7 @@
 -- What a part of the grammar is: how a value is spelled, which values have a spelling, and where bytes break.
 use Rattle.std.specs.Prelude.{◌≡◌, ℕ, ◌+◌, ◌-◌, ◌≤◌, ◌⊎◌, List, [], ◌++◌, length, Option, Some, None, Bool, true, false}
 pub use Rattle.dw_leb.specs.declared.errors.Reason.{Reason}
-pub use Rattle.dw_leb.specs.declared.errors.Reason.TheVariants.{Truncated, PastUnit, ReservedLength, BadVersion, BadUnitType, BadAddressSize, LebTooLong, LebTooBig, NoRoot, UnknownCode, UnknownForm, BadIndirect, TooDeep, SecondRoot, AbbrevOffset, BadChildren, HalfPair, DuplicateCode, TooManyPairs, LengthTooBig, NotYet}
+pub use Rattle.dw_leb.specs.declared.errors.Reason.TheVariants.{Truncated, PastUnit, ReservedLength, BadVersion, BadUnitType, BadAddressSize, LebTooLong, LebTooBig, NoRoot, UnknownCode, UnknownForm, BadIndirect, TooDeep, SecondRoot, AbbrevOffset, BadChildren, HalfPair, DuplicateCode, TooManyPairs, LengthTooBig}
 
 -- A break of bytes: the bytes, how many of them the unit still has (lim), the offset of the broken field, and why.
 abbrev pub Breaks : Type 1

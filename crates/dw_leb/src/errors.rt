@@ -51,8 +51,6 @@ pub enum Reason {
     TooManyPairs,
     /// An initial length with which the unit's end would lie past 2^63 - 1.
     LengthTooBig,
-    /// Right by the standard, but not read by this version yet.
-    NotYet,
 }
 
 impl Reason {
@@ -80,7 +78,6 @@ impl Reason {
             Reason::DuplicateCode => "DuplicateCode",
             Reason::TooManyPairs => "TooManyPairs",
             Reason::LengthTooBig => "LengthTooBig",
-            Reason::NotYet => "NotYet",
         }
     }
 }

@@ -234,7 +234,6 @@ fn numbers_of_reasons(rt: HostRuntime) {
         (Reason::DuplicateCode, 18),
         (Reason::TooManyPairs, 19),
         (Reason::LengthTooBig, 20),
-        (Reason::NotYet, 21),
     ] {
         assert_eq!(rt; reason as u8, number, "of {reason:?}");
     }
