@@ -12,3 +12,5 @@ pub mod HeadLent
 pub mod HeadFront
 pub mod HeadSize
 pub mod FormMoments
+pub mod Renumber
+pub mod Renumbered

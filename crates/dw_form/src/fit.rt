@@ -74,7 +74,7 @@ fn is_of_shape(shape: Shape, implicit: Option<Sleb>, value: &Value<'_>) -> bool
 }
 
 /// Whether a number fits so many bytes.
-fn is_below(x: u128, n: u8) -> bool
+pub(crate) fn is_below(x: u128, n: u8) -> bool
     requires { IsFixedSize n }
     ensures { result ≡ nat_lt x (256 ^ n) }
 {
