@@ -183,7 +183,7 @@ module _ (a : Inside) (i : IsTree a) (at : ℕ) (r : Row) (q : EntryRow (tree_at
   abbrev behind : List ℕ
   behind = drop r.first a.heads.items
 
-  pairs_here : map pair_of ps ≡ pairs_at a.table.value r.code
+  pub pairs_here : map pair_of ps ≡ pairs_at a.table.value r.code
   pairs_here = pairs ∙ ap declared_pairs (sym known)
 
   pairs_are : map pair_of ps ≡ declared_pairs (declared a.table.value (code_of node).value)

@@ -33,7 +33,7 @@ module _ (k : Ctx) (t : Table) where
   entry_some : (code : Unsigned) (vs : List Attribute) → uleb.Fits code → 0 < length (row_bytes k t (leaf_row code vs))
   entry_some code vs fits = omega (arith, uleb_some code fits, length-append (uleb.spell code) ((values k (declared_pairs (declared t code.value))).spell vs))
 
-  row_some : (x : Token) → TokenFits k t x → 0 < length (row_bytes k t x)
+  pub row_some : (x : Token) → TokenFits k t x → 0 < length (row_bytes k t x)
   row_some (leaf_row code vs) fits = entry_some code vs fits.0.code_fits
   row_some (branch_row code vs) fits = entry_some code vs fits.0.code_fits
   row_some (null_row w) fits = uleb_some (zero_of w) fits

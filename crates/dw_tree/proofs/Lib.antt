@@ -17,3 +17,7 @@ pub mod Spelled
 pub mod WriteLemmas
 pub mod Written
 pub mod FindRows
+pub mod Plain
+pub mod Patches
+pub mod Putting
+pub mod PutNumber

@@ -25,3 +25,5 @@ pub mod Emptiness
 pub mod PoolBytes
 pub mod Sizes
 pub mod RowBytes
+pub mod Put
+pub mod Patch

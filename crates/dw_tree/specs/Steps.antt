@@ -1,5 +1,5 @@
 -- A tree that grows, as contracts see it, and what each call does to it.
-use Rattle.std.specs.Prelude.{ℕ, ◌+◌, ◌==◌, List, [], ◌∷◌, ◌++◌, length, take, drop, slice_get, Option, Some, None, Bool, true, false, option_map}
+use Rattle.std.specs.Prelude.{◌≡◌, ℕ, ◌+◌, ◌==◌, List, [], ◌∷◌, ◌++◌, length, take, drop, slice_get, Option, Some, None, Bool, true, false, option_map}
 use Rattle.std.proofs.Common.{refl}
 use Rattle.std.specs.Coded.{Coded, code_by, coded×, coded_ℕ}
 use Rattle.dw_leb.specs.Number.{Unsigned, uleb}
@@ -7,6 +7,7 @@ use Rattle.dw_form.specs.declared.shape.Ctx.{Ctx}
 use Rattle.dw_form.specs.Form.{Attribute, attribute}
 use Rattle.dw_form.specs.StoredView.{text_or_block}
 use Rattle.dw_form.specs.HeadFront.{front_bytes}
+use Rattle.dw_form.specs.HeadSize.{is_plain}
 use Rattle.dw_abbrev.specs.Table.{Pair, Declaration, Table, declared}
 use Rattle.dw_tree.specs.Tree.{Tree, leaf, Forest, none, more, values, declared_pairs}
 use Rattle.dw_tree.specs.Row.{rows_bytes}
@@ -138,6 +139,15 @@ next_bytes k t (Some r) v = first_bytes k (next_pairs t r) v
 -- of these bytes those before its content; all of them, where it has none
 abbrev pub next_front : Ctx → Table → Option UnfinishedEntry → Attribute → List ℕ
 next_front k t o v = front_bytes v (next_bytes k t o v)
+
+-- these bytes spell a value as the next one, and it is no text or block
+pub record IsPlainNext (k : Ctx) (t : Table) (o : Option UnfinishedEntry) (v : Attribute) (bytes : List ℕ) : Type 0 where
+  pub fits : NextFits k t o v
+  pub plain : is_plain v.value ≡ true
+  pub spelled : bytes ≡ next_bytes k t o v
+
+abbrev pub SpellsPlain : Ctx → Table → Option UnfinishedEntry → List ℕ → Type 0
+SpellsPlain k t o bytes = (v : Attribute) × IsPlainNext k t o v bytes
 
 -- ---- a whole tree
 

@@ -134,7 +134,7 @@ fn spelled_size(_ctx: Ctx, _form: u64, value: &AttrValue<'_>, own: usize) -> u64
 }
 
 /// The form in effect where the declaration gives one and the value may name another.
-fn form_of(form: Uleb, via: Option<Uleb>) -> u64
+pub(crate) fn form_of(form: Uleb, via: Option<Uleb>) -> u64
     ensures { result ≡ form_in form.value (option_map uleb_of via) }
 {
     match via {

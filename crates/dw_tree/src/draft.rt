@@ -2,7 +2,7 @@
 ghost use Rattle.std.specs.Prelude.{◌≡◌, ◌≢◌, ◌+◌, ◌<◌, ◌≤◌, ◌^◌, ◌-◌, ◌*◌, [], length, map, option_map, IfOk, IfSome, None, Some, is_some, IsSome, OnOk, OnErr, vec_len, vec_capacity};
 ghost use Rattle.dw_leb.specs.Number.{uleb};
 ghost use Rattle.dw_leb.specs.View.{uleb_of};
-ghost use Rattle.dw_form.specs.Form.{IsContext};
+ghost use Rattle.dw_form.specs.Form.{IsContext, Attribute};
 ghost use Rattle.dw_form.specs.Lent.{attribute_of};
 ghost use Rattle.dw_abbrev.specs.PairView.{pair_of};
 ghost use Rattle.dw_abbrev.specs.Table.{declared, zero_of};
@@ -15,7 +15,7 @@ ghost use Rattle.dw_tree.specs.RowHeads.{heads_in};
 ghost use Rattle.dw_tree.specs.Emptiness.{is_bare};
 ghost use Rattle.dw_tree.specs.declared.row.RowKind.TheVariants.{Null};
 ghost use Rattle.dw_tree.specs.Completed.{row_with, settled_rows, settled_open, settled_unfinished};
-ghost use Rattle.dw_tree.specs.Steps.{begun_at, with_value, partial_in, partial_attribute, started, extended, ended, closed_at, undone, end_of, NextFits, next_bytes, next_front, next_pair, next_pairs, finished};
+ghost use Rattle.dw_tree.specs.Steps.{begun_at, with_value, partial_in, partial_attribute, started, extended, ended, closed_at, undone, end_of, NextFits, IsPlainNext, SpellsPlain, next_bytes, next_front, next_pair, next_pairs, finished};
 
 use crate::row::{PartialValue, Row, RowKind, Unfinished};
 use crate::tree::EntryTree;
@@ -133,6 +133,28 @@ impl TreeDraft {
         if let Some(unfinished) = self.unfinished {
             put_head(value, front, &mut self.heads, &mut self.pool)?;
             self.here += size;
+            let given = unfinished.given + 1;
+            let unfinished = Unfinished {
+                given,
+                ..unfinished
+            };
+            self.unfinished = settle(&mut self.rows, &mut self.nested, unfinished);
+        }
+        Ok(())
+    }
+
+    /// The unfinished entry is given its next value, no text or block, by the bytes that spell it.
+    #[inline(always)]
+    pub fn plain_value(&mut self, spelling: &[u8]) -> Result<(), AllocError>
+        requires between { partial_in self.old.place.unfinished ≡ None }
+        requires spelled { SpellsPlain self.old.context self.old.table self.old.place.unfinished spelling.now }
+        requires near { end_of self.old + length spelling.now < 2 ^ 63 }
+        ensures ok { (v : Attribute) → IsPlainNext self.old.context self.old.table self.old.place.unfinished v spelling.now → OnOk result (self.new ≡ with_value v self.old) }
+        ensures err { OnErr result (self.new ≡ self.old) }
+    {
+        if let Some(unfinished) = self.unfinished {
+            self.heads.extend_from_slice(spelling)?;
+            self.here += spelling.len() as u64;
             let given = unfinished.given + 1;
             let unfinished = Unfinished {
                 given,

@@ -23,7 +23,7 @@ impl EntryTree {
 }
 
 /// The row that begins exactly at an offset, found by halving.
-fn row_at(rows: &[Row], offset: u64) -> Option<usize>
+pub(crate) fn row_at(rows: &[Row], offset: u64) -> Option<usize>
     requires { OffsetsGrow rows.now }
     ensures inside { IfSome result (λ i. i < length rows.now) }
     ensures found { IfSome result (λ i. (d : Row) → (slice_index_or rows.now i d).offset ≡ offset) }

@@ -7,6 +7,7 @@ mod draft;
 mod entry;
 mod find;
 mod preorder;
+mod put;
 mod row;
 mod tree;
 mod write;

@@ -43,6 +43,13 @@ impl Model for EntryTree {
 }
 
 impl EntryTree {
+    /// The abbreviation table with the declarations of its entries (section 7.5.3).
+    pub fn table(&self) -> &Table
+        ensures { result.now ≡ self.now.table }
+    {
+        &self.table
+    }
+
     /// The count of its rows: one for each entry, and one for each null that ends the children of an
     /// entry. A row is kept in 40 bytes.
     pub fn row_count(&self) -> usize

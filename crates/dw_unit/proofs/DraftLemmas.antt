@@ -94,7 +94,7 @@ within d n e = let h = leb-false (size_limit d.header.format) (drafted_size d + 
 pub not_long : (d : Drafted) (n : ℕ) → drafted_size d + n < size_limit d.header.format → passes_limit d n ≡ false
 not_long d n h = not_le (size_limit d.header.format) (drafted_size d + n) h
 
-limit_near : (f : Format) → size_limit f ≤ 2 ^ 63
+pub limit_near : (f : Format) → size_limit f ≤ 2 ^ 63
 limit_near Dwarf32 = omega arith
 limit_near Dwarf64 = omega arith
 

@@ -19,3 +19,4 @@ pub mod PutValues
 pub mod OpenLemmas
 pub mod Found
 pub mod Rising
+pub mod Edited

@@ -10,3 +10,4 @@ pub mod BodyView
 pub mod Draft
 pub mod Build
 pub mod Inside
+pub mod Put

@@ -1,6 +1,7 @@
 //! Units under construction, step by step (sections 2.3 and 7.5).
 ghost use Rattle.std.specs.Prelude.{◌≡◌, ◌≢◌, ◌≤◌, ◌<◌, ◌+◌, ◌↔◌, [], length, IsTrue, true, false, None, Some, is_some, IsSome, IfSome, option_map, map, IfOk, OnOk, OnErr};
 ghost use Rattle.dw_leb.specs.View.{uleb_of};
+ghost use Rattle.dw_form.specs.Form.{Attribute};
 ghost use Rattle.dw_form.specs.HeadFront.{front_bytes};
 ghost use Rattle.dw_form.specs.Lent.{attribute_of};
 ghost use Rattle.dw_abbrev.specs.Build.{is_width};
@@ -9,7 +10,7 @@ ghost use Rattle.dw_abbrev.specs.Table.{declared, zero_of};
 ghost use Rattle.dw_tree.specs.Tree.{nesting};
 ghost use Rattle.dw_tree.specs.PoolBytes.{held_in};
 ghost use Rattle.dw_tree.specs.Emptiness.{is_bare};
-ghost use Rattle.dw_tree.specs.Steps.{partial_in, NextFits, next_pair, next_pairs};
+ghost use Rattle.dw_tree.specs.Steps.{partial_in, NextFits, IsPlainNext, SpellsPlain, next_pair, next_pairs};
 ghost use Rattle.dw_header.specs.Header.{context_of};
 ghost use Rattle.dw_unit.specs.Unit.{UnitFits, bytes_of};
 ghost use Rattle.dw_header.specs.HeaderPlace.{header_size};
@@ -137,6 +138,20 @@ impl Draft {
     {
         let front = &spelling[..front_len(value, spelling.len())];
         self.put_value(value, front, spelling.len() as u64)
+    }
+
+    /// The unfinished entry is given its next value, no text or block, by the bytes that spell it
+    /// (section 7.5.5), by a caller that has read them. `AllocError` where a growth by the value is refused.
+    #[inline(always)]
+    pub fn plain_value(&mut self, spelling: &[u8]) -> Result<(), AllocError>
+        requires between { partial_in self.old.place.unfinished ≡ None }
+        requires spelled { SpellsPlain (context_of self.old.header) self.old.table self.old.place.unfinished spelling.now }
+        requires short { passes_limit self.old (length spelling.now) ≡ false }
+        ensures ok { (v : Attribute) → IsPlainNext (context_of self.old.header) self.old.table self.old.place.unfinished v spelling.now → OnOk result (self.new ≡ given v self.old) }
+        ensures size { OnOk result (drafted_size self.new ≡ drafted_size self.old + length spelling.now) }
+        ensures err { OnErr result (self.new ≡ self.old) }
+    {
+        self.tree.plain_value(spelling)
     }
 
     /// The same with the count of the value's bytes, and those that come before its own text or block.

@@ -9,6 +9,7 @@ mod draft;
 mod entries;
 mod given;
 pub mod laws;
+mod put;
 mod reader;
 mod refusal;
 mod unit;

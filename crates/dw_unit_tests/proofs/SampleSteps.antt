@@ -4,8 +4,8 @@ use Rattle.std.specs.Prelude.{IsSome, IfSome}
 use Rattle.dw_form.specs.Form.{attribute, shaped, shape}
 use Rattle.dw_tree.specs.Tree.{Forest, nesting}
 use Rattle.dw_tree.specs.Place.{Frame, Spot, nowhere, enter, leave_from}
-use Rattle.dw_tree.specs.Steps.{Growing, begun_at, partial_in, partial_attribute, started, extended, ended, closed_at, NextFits, next_bytes, next_front, finished}
-use Rattle.dw_unit_tests.specs.Samples.{two_codes, bare_code, little, wide, a_name, a_size, with_name}
+use Rattle.dw_tree.specs.Steps.{Growing, begun_at, with_value, partial_in, partial_attribute, started, extended, ended, closed_at, NextFits, IsPlainNext, next_bytes, next_front, finished}
+use Rattle.dw_unit_tests.specs.Samples.{two_codes, bare_code, little, wide, a_name, a_size, with_name, with_size}
 
 -- ---- the value of an entry that was just begun
 
@@ -28,17 +28,19 @@ module _ (g : Growing) (w : ℕ) (context : g.context ≡ little) (table : g.tab
   pub size_alone : partial_in (begun_at (wide 2 w) g).place.unfinished ≡ None
   size_alone = rw table refl
 
-  pub size_fits : NextFits g.context g.table (begun_at (wide 2 w) g).place.unfinished a_size
+  size_fits : NextFits g.context g.table (begun_at (wide 2 w) g).place.unfinished a_size
   unfolding attribute shaped shape
   size_fits = rw (context, table) (omega arith)
 
-  pub size_front : 4 ∷ [] ≡ next_front g.context g.table (begun_at (wide 2 w) g).place.unfinished a_size
+  size_bytes : 4 ∷ [] ≡ next_bytes g.context g.table (begun_at (wide 2 w) g).place.unfinished a_size
   unfolding attribute shaped shape
-  size_front = rw (context, table) refl
+  size_bytes = rw (context, table) refl
 
-  pub size_size : 1 ≡ length (next_bytes g.context g.table (begun_at (wide 2 w) g).place.unfinished a_size)
-  unfolding attribute shaped shape
-  size_size = rw (context, table) refl
+  pub size_next : IsPlainNext g.context g.table (begun_at (wide 2 w) g).place.unfinished a_size (4 ∷ [])
+  size_next = record { fits = size_fits; plain = refl; spelled = size_bytes }
+
+  pub size_given : with_value a_size (begun_at (wide 2 w) g) ≡ with_size w g
+  size_given = rw (context, table) refl
 
 -- ---- a name that comes in two pieces, of which the first is empty
 

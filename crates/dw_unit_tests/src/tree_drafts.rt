@@ -105,11 +105,7 @@ fn sized(draft: &mut TreeDraft, width: u8) -> Result<(), Fail>
     near(draft)?;
     draft.begin(in_width(2, width)?)?;
     near(draft)?;
-    let size = AttrValue {
-        via: None,
-        value: Value::Num(4),
-    };
-    draft.value(&size, &[4], 1)?;
+    draft.plain_value(&[4])?;
     Ok(())
 }
 

@@ -7,7 +7,7 @@ use Rattle.dw_tree.specs.Row.{Token, rows_of, rows_bytes, rest_of, head_of, tree
 use Rattle.dw_tree.specs.Place.{spot_after, open_rows}
 use Rattle.dw_tree.specs.RowHeads.{Account}
 use Rattle.dw_tree.specs.DraftView.{growing}
-use Rattle.dw_tree.specs.Flat.{tokens_at}
+use Rattle.dw_tree.specs.Flat.{tokens_at, RowsAre}
 use Rattle.dw_tree.specs.DraftInvariant.{HaveEnds, Stand, AreGiven, pairs_given, entry_with}
 use Rattle.dw_tree.specs.Steps.{Growing, TreeAt, whole_tree, finished, unfinished_bytes, end_of}
 use Rattle.dw_tree.proofs.Lists.{tokens_are_in, rows_are_read}
@@ -41,6 +41,7 @@ invariant_of-result c =
     let back : xs ≡ tokens_at k t rows a.heads.items a.pool.items = sym seen in
     record {
       context_fits = g.context_fits;
+      rows_are = subst (λ (ys : List Token). RowsAre k t 0 0 rows ys) back l.rows_are;
       rows_read = rows_are_read k t a.start rows a.heads.items a.pool.items a.nested.items a.unfinished a.here xs g.values l;
       one_tree = (seen ∙ w.1) ∙ ap rows_of root;
       ends = subst (λ (ys : List Token). HaveEnds rows ys []) back (subst (HaveEnds rows xs) (l.is_spelled.opened ∙ ap open_rows w.3) l.is_spelled.ends);
