@@ -44,3 +44,4 @@ pub mod ContentSteps
 pub mod NamedValues
 pub mod LengthFields
 pub mod EntrySteps
+pub mod PlainValues

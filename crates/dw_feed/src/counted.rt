@@ -1,12 +1,13 @@
 //! A unit under construction whose entries and values are counted.
 ghost use Rattle.std.specs.Prelude.{◌≡◌, ◌≢◌, ◌<◌, [], length, true, false, None, Some, IsSome, option_map, OnOk, OnErr};
 ghost use Rattle.dw_leb.specs.View.{uleb_of};
+ghost use Rattle.dw_form.specs.Form.{Attribute};
 ghost use Rattle.dw_form.specs.Lent.{attribute_of};
 ghost use Rattle.dw_abbrev.specs.Build.{is_width};
 ghost use Rattle.dw_abbrev.specs.Table.{declared};
 ghost use Rattle.dw_tree.specs.Tree.{nesting};
 ghost use Rattle.dw_tree.specs.Emptiness.{is_bare};
-ghost use Rattle.dw_tree.specs.Steps.{partial_in, NextFits};
+ghost use Rattle.dw_tree.specs.Steps.{partial_in, NextFits, IsPlainNext, SpellsPlain};
 ghost use Rattle.dw_header.specs.Header.{context_of};
 ghost use Rattle.dw_unit.specs.Draft.{empty, begun, given, started, extended, ended, closed, padded, finished, passes_limit, IsOnlyRoot, value_bytes, PartialFits, PartialShort};
 ghost use Rattle.dw_feed.specs.HeldSteps.{IsCounted};
@@ -105,6 +106,20 @@ impl Counted {
         ensures err { OnErr result (self.new ≡ self.old) }
     {
         self.draft.spelled_value(value, spelling)?;
+        self.values += 1;
+        Ok(())
+    }
+
+    /// The unfinished entry is given its next value, no text or block, by the bytes that spell it.
+    #[inline(always)]
+    pub(crate) fn plain_value(&mut self, spelling: &[u8]) -> Result<(), AllocError>
+        requires between { partial_in self.old.place.unfinished ≡ None }
+        requires spelled { SpellsPlain (context_of self.old.header) self.old.table self.old.place.unfinished spelling.now }
+        requires short { passes_limit self.old (length spelling.now) ≡ false }
+        ensures ok { (v : Attribute) → IsPlainNext (context_of self.old.header) self.old.table self.old.place.unfinished v spelling.now → OnOk result (self.new ≡ given v self.old) }
+        ensures err { OnErr result (self.new ≡ self.old) }
+    {
+        self.draft.plain_value(spelling)?;
         self.values += 1;
         Ok(())
     }

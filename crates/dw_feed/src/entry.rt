@@ -5,9 +5,10 @@ ghost use Rattle.dw_tree.specs.Steps.{next_pair, partial_in};
 ghost use Rattle.dw_feed.specs.FeedInvariant.{Keeps, context as context_in, left as left_of};
 ghost use Rattle.dw_feed.specs.FieldSteps.{Standing, HasPart};
 ghost use Rattle.dw_feed.specs.EntrySteps.{NoneKept, NextSays, TakesOn};
+ghost use Rattle.dw_feed.specs.PlainValues.{PlainAt};
 
 use crate::coming::Coming;
-use crate::value::value_at;
+use crate::value::{plain_size, value_at};
 use dw_abbrev::{Pair, Table};
 use dw_form::Ctx;
 
@@ -61,6 +62,39 @@ impl Coming {
     /// changed.
     #[inline(always)]
     fn next_value(&mut self, context: Ctx, pair: &Pair, bytes: &[u8], lim: u64) -> Option<usize>
+        requires next { next_pair self.old.table self.old.place.unfinished ≡ Some (pair_of pair.now) }
+        requires stands { Standing self.old }
+        requires none_kept { NoneKept self.old }
+        requires between { partial_in self.old.place.unfinished ≡ None }
+        requires context { context ≡ context_in self.old }
+        requires lim { lim ≡ left_of self.old }
+        ensures { NextSays self.old bytes.now result self.new }
+    {
+        match plain_size(context, pair, bytes, lim) {
+            Some(size) => self.next_plain(pair, bytes, size),
+            None => self.next_read(context, pair, bytes, lim),
+        }
+    }
+
+    /// The same of a value whose form told its size.
+    #[inline(always)]
+    fn next_plain(&mut self, _pair: &Pair, bytes: &[u8], size: usize) -> Option<usize>
+        requires next { next_pair self.old.table self.old.place.unfinished ≡ Some (pair_of _pair.now) }
+        requires stands { Standing self.old }
+        requires none_kept { NoneKept self.old }
+        requires between { partial_in self.old.place.unfinished ≡ None }
+        requires plain { PlainAt (context_in self.old) (pair_of _pair.now) bytes.now (left_of self.old) size }
+        requires room { size ≤ length bytes.now }
+        ensures { NextSays self.old bytes.now result self.new }
+    {
+        match self.draft.plain_value(&bytes[..size]) {
+            Ok(()) => Some(size),
+            Err(_) => None,
+        }
+    }
+
+    /// The same of any value.
+    fn next_read(&mut self, context: Ctx, pair: &Pair, bytes: &[u8], lim: u64) -> Option<usize>
         requires next { next_pair self.old.table self.old.place.unfinished ≡ Some (pair_of pair.now) }
         requires stands { Standing self.old }
         requires none_kept { NoneKept self.old }

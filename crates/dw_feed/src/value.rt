@@ -1,5 +1,5 @@
 //! Values at the place of a unit under construction, and the forms that indirect values name (section 7.5.3).
-ghost use Rattle.std.specs.Prelude.{◌≡◌, ◌≤◌, ◌++◌, length, drop, IfOk, None, Some};
+ghost use Rattle.std.specs.Prelude.{◌≡◌, ◌≤◌, ◌++◌, length, drop, IfOk, IfSome, None, Some};
 ghost use Rattle.dw_leb.specs.Part.{Taken, judged};
 ghost use Rattle.dw_leb.specs.Number.{uleb};
 ghost use Rattle.dw_leb.specs.View.{uleb_of};
@@ -9,11 +9,12 @@ ghost use Rattle.dw_form.specs.Form.{IsContext, attribute, bad_inner};
 ghost use Rattle.dw_form.specs.Lent.{attribute_of, lent_outcome};
 ghost use Rattle.dw_form.specs.ReadForm.{read_attribute};
 ghost use Rattle.dw_abbrev.specs.PairView.{pair_of};
+ghost use Rattle.dw_feed.specs.PlainValues.{PlainAt, told_size};
 
 use crate::code::number;
 use arrayvec::ArrayVec;
 use dw_abbrev::Pair;
-use dw_form::{AttrValue, Ctx, lend_value};
+use dw_form::{AttrValue, Ctx, Shape, lend_value};
 use dw_leb::constants::form::{DW_FORM_IMPLICIT_CONST, DW_FORM_INDIRECT};
 use dw_leb::{Reason, Uleb};
 
@@ -30,6 +31,39 @@ pub(crate) fn value_at<'a>(
     ensures room { IfOk result (λ x. (x.1 ≤ length b.now) × (x.1 ≤ lim)) }
 {
     lend_value(context, pair.form.value, pair.constant, b, lim)
+}
+
+/// How many bytes the value of this pair has, where its form alone tells (section 7.5.6).
+#[inline(always)]
+fn told_size(context: Ctx, pair: &Pair) -> Option<usize>
+    requires { IsContext context }
+    ensures { result ≡ told_size context (pair_of pair.now) }
+{
+    match Shape::of(pair.form.value, context.address_size, context.format)? {
+        Shape::Fixed(size) => Some(size as usize),
+        Shape::Present => Some(0),
+        Shape::Implicit => match pair.constant {
+            Some(_) => Some(0),
+            None => None,
+        },
+        _ => None,
+    }
+}
+
+/// How many bytes the value of this pair has, where its form alone tells, and it is at the front of `b`, of
+/// which `lim` bytes are left to the unit's end.
+#[inline(always)]
+pub(crate) fn plain_size(context: Ctx, pair: &Pair, b: &[u8], lim: u64) -> Option<usize>
+    requires { IsContext context }
+    ensures plain { IfSome result (PlainAt context (pair_of pair.now) b.now lim) }
+    ensures room { IfSome result (λ n. n ≤ length b.now) }
+{
+    let size = told_size(context, pair)?;
+    if size <= b.len() && size as u64 <= lim {
+        Some(size)
+    } else {
+        None
+    }
 }
 
 /// The form that an indirect value names, at the front of `b`, of which `lim` bytes are left to the unit's

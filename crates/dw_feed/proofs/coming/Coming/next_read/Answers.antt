@@ -17,8 +17,8 @@ use Rattle.dw_feed.specs.FeedInvariant.{context, left}
 use Rattle.dw_feed.specs.ValueSteps.{value_read}
 use Rattle.dw_feed.proofs.ValueRoom.{value_fits, value_spelled}
 use Rattle.dw_feed.proofs.EntryLemmas.{next_given, next_unchanged}
-use Rattle.dw_feed.proofs.coming.Coming.next_value.Goals.{in-Ok-spelled_value, in-Err-spelled_value}
-use Rattle.dw_feed.proofs.coming.Coming.next_value.Goals as goal
+use Rattle.dw_feed.proofs.coming.Coming.next_read.Goals.{in-Ok-spelled_value, in-Err-spelled_value}
+use Rattle.dw_feed.proofs.coming.Coming.next_read.Goals as goal
 
 pub spelled_value-requires-clause-fits : goal.spelled_value-requires-clause-fits
 spelled_value-requires-clause-fits c =
