@@ -21,7 +21,7 @@ use Rattle.dw_section.specs.Reference.{Target, named}
 use Rattle.dw_section.specs.Lookup.{unit_at, entry, find}
 use Rattle.dw_section.proofs.SectionRows.{fifteen, version_four, first_table}
 
-abbrev id : ℕ → ℕ → EntryId
+abbrev pub id : ℕ → ℕ → EntryId
 id item offset = record { item = item; offset = offset }
 
 -- the attribute of a name of the entry there
@@ -40,10 +40,10 @@ names (Fails s offset reason) i name = None
 
 -- ---- an address in the section
 
-abbrev two_tables : List ℕ
+abbrev pub two_tables : List ℕ
 two_tables = first_table ++ (0x01 ∷ 0x11 ∷ 0x00 ∷ 0x49 ∷ 0x10 ∷ 0x00 ∷ 0x00 ∷ 0x00 ∷ [])
 
-abbrev refers : ℕ → List ℕ
+abbrev pub refers : ℕ → List ℕ
 refers v = 0x0d ∷ 0x00 ∷ 0x00 ∷ 0x00 ∷ 0x05 ∷ 0x00 ∷ 0x01 ∷ 0x08 ∷ 0x08 ∷ 0x00 ∷ 0x00 ∷ 0x00 ∷ 0x01 ∷ v ∷ 0x00 ∷ 0x00 ∷ 0x00 ∷ []
 
 to_the_first : names (read_section Five Little two_tables (fifteen ++ refers 12)) (id 1 12) 0x49 ≡ Some (Ok (id 0 12))

@@ -17,3 +17,5 @@ pub mod FedItems
 pub mod Reads
 pub mod Found
 pub mod ReferenceLaws
+pub mod Sibling
+pub mod SetNumber

@@ -44,7 +44,7 @@ earlier_none : (o : Option TypeAt) → earlier o None ≡ o
 earlier_none None = refl
 earlier_none (Some t) = refl
 
-ids_earlier : (a b : Option TypeAt) → option_map id_of (earlier a b) ≡ first_id (option_map id_of a) (option_map id_of b)
+pub ids_earlier : (a b : Option TypeAt) → option_map id_of (earlier a b) ≡ first_id (option_map id_of a) (option_map id_of b)
 ids_earlier None b = refl
 ids_earlier (Some t) b = refl
 

@@ -12,6 +12,9 @@ mod reader;
 mod refusal;
 mod resolve;
 mod section;
+mod set;
+mod set_refusal;
+mod sibling;
 mod writer;
 
 pub use id::{EntryId, RefFault};
@@ -19,4 +22,6 @@ pub use item::Item;
 pub use reader::{read_section, read_section_as};
 pub use refusal::SectionRefusal;
 pub use section::Section;
+pub use set_refusal::SetRefusal;
+pub use sibling::is_right_sibling;
 pub use writer::write_section;

@@ -28,7 +28,7 @@ pub(crate) enum RefKind {
 
 impl RefKind {
     /// What the values of a form are, where they are references.
-    fn of(form: u64) -> Option<RefKind>
+    pub(crate) fn of(form: u64) -> Option<RefKind>
         ensures { result ≡ at_number form ref_forms }
     {
         match form {

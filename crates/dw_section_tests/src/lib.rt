@@ -4,6 +4,8 @@
 #[cfg(test)]
 mod common;
 #[cfg(test)]
+mod edits;
+#[cfg(test)]
 mod readers;
 #[cfg(test)]
 mod references;
