@@ -14,7 +14,7 @@ use Rattle.dw_ctype.specs.declared.typed.Typed.{Typed}
 use Rattle.dw_ctype.specs.declared.typed.Typed.TheVariants.{Missing, Bad, Entry}
 use Rattle.dw_ctype.specs.Names.{keyword, mark, qualifier}
 use Rattle.dw_ctype.specs.Types.{Source, kind_of, type_of, name_of, worded, bracketed, dimensions, dimensions_of, unless_empty, parameters, qualified, is_bracketed, under, under_type, say, say_kind, say_entry}
-use Rattle.dw_ctype.specs.InOrder.{is_empty, word_before, unless_cut, opening, closing, cut, kind_cut, entry_cut, left, qualified_left, kind_left, entry_left, right, kind_right, entry_right, in_order}
+use Rattle.dw_ctype.specs.InOrder.{is_empty, word_before, unless_cut, when, cut, kind_cut, entry_cut, left, qualified_left, kind_left, entry_left, right, kind_right, entry_right, in_order}
 
 -- a word and a declarator
 pub worded_in_order : (word x : List ℕ) → worded word x ≡ word_before word (is_empty x) ++ (x ++ [])
@@ -41,7 +41,7 @@ marked_some Pointer false x = refl
 marked_some Reference false x = refl
 marked_some RvalueReference false x = refl
 
-bracketed_is : (m : Mark) (bracket : Bool) (x : List ℕ) → bracketed bracket (mark m ++ x) ≡ (opening bracket ++ mark m) ++ (x ++ closing bracket)
+bracketed_is : (m : Mark) (bracket : Bool) (x : List ℕ) → bracketed bracket (mark m ++ x) ≡ (when bracket (codes "(") ++ mark m) ++ (x ++ when bracket (codes ")"))
 bracketed_is m true x = ap (λ (l : List ℕ). codes "(" ++ l) (append_assoc (mark m) x (codes ")")) ∙ sym (append_assoc (codes "(") (mark m) (x ++ codes ")"))
 bracketed_is m false x = ap (λ (l : List ℕ). mark m ++ l) (sym (append-nil x))
 
@@ -52,11 +52,11 @@ module _ (s : Source) (depth : ℕ) (deeper : (t : Typed) (x : List ℕ) → say
       ∙ ap (λ (e : Bool). left s depth t e ++ unless_cut (cut s.items depth t) ((x ++ more) ++ right s depth t)) some
       ∙ ap (λ (l : List ℕ). left s depth t false ++ unless_cut (cut s.items depth t) l) (append_assoc x more (right s depth t))
 
-  pub around_mark : (t : Typed) (m : Mark) (b : Bool) (x : List ℕ) → say s depth t (bracketed b (mark m ++ x)) ≡ (left s depth t false ++ unless_cut (cut s.items depth t) (opening b ++ mark m)) ++ unless_cut (cut s.items depth t) (x ++ (closing b ++ right s depth t))
+  pub around_mark : (t : Typed) (m : Mark) (b : Bool) (x : List ℕ) → say s depth t (bracketed b (mark m ++ x)) ≡ (left s depth t false ++ unless_cut (cut s.items depth t) (when b (codes "(") ++ mark m)) ++ unless_cut (cut s.items depth t) (x ++ (when b (codes ")") ++ right s depth t))
   around_mark t m b x = deeper t (bracketed b (mark m ++ x))
       ∙ ap (λ (e : Bool). left s depth t e ++ unless_cut (cut s.items depth t) (bracketed b (mark m ++ x) ++ right s depth t)) (marked_some m b x)
       ∙ ap (λ (l : List ℕ). left s depth t false ++ unless_cut (cut s.items depth t) (l ++ right s depth t)) (bracketed_is m b x)
-      ∙ around (cut s.items depth t) (left s depth t false) (opening b ++ mark m) x (closing b) (right s depth t)
+      ∙ around (cut s.items depth t) (left s depth t false) (when b (codes "(") ++ mark m) x (when b (codes ")")) (right s depth t)
 
   worded_some : (q : Qualifier) (x : List ℕ) → is_empty (worded (qualifier q) x) ≡ false
   worded_some Const x = refl

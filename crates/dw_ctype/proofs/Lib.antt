@@ -1,4 +1,9 @@
-mod InOrder
+mod KindRows
+pub mod Answering
+pub mod Appending
+pub mod InOrder
+pub mod Levels
+pub mod Pieces
 pub mod Spent
+pub mod TypeRows
 pub mod Typing
-mod TypeRows

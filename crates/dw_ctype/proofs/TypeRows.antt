@@ -20,27 +20,27 @@ use Rattle.dw_section.specs.declared.id.EntryId.{EntryId}
 use Rattle.dw_ctype.specs.Types.{Source, type_text}
 use Rattle.dw_ctype.specs.Visits.{entry_text_visits}
 
-abbrev source : List Item → Source
+abbrev pub source : List Item → Source
 source items = record { items = items; strings = record { str = []; line_str = []; str_offsets = [] } }
 
-abbrev id : ℕ → EntryId
+abbrev pub id : ℕ → EntryId
 id offset = record { item = 0; offset = offset }
 
-abbrev text_if : Source → EntryId → List ℕ → Option EntryAt → Option (List ℕ)
+abbrev pub text_if : Source → EntryId → List ℕ → Option EntryAt → Option (List ℕ)
 text_if s i name None = None
 text_if s i name (Some e) = Some (type_text s i e name)
 
 -- the text of the entry at an offset, with a name
-abbrev text_in : SectionAnswer → ℕ → List ℕ → Option (List ℕ)
+abbrev pub text_in : SectionAnswer → ℕ → List ℕ → Option (List ℕ)
 text_in (Items items) offset name = text_if (source items) (id offset) name (entry items (id offset))
 text_in (Fails section at reason) offset name = None
 
-abbrev visits_if : List Item → EntryId → Option EntryAt → Option ℕ
+abbrev pub visits_if : List Item → EntryId → Option EntryAt → Option ℕ
 visits_if items i None = None
 visits_if items i (Some e) = Some (entry_text_visits items i e)
 
 -- how many visits that text needs
-abbrev visits_in : SectionAnswer → ℕ → Option ℕ
+abbrev pub visits_in : SectionAnswer → ℕ → Option ℕ
 visits_in (Items items) offset = visits_if items (id offset) (entry items (id offset))
 visits_in (Fails section at reason) offset = None
 

@@ -1,3 +1,5 @@
+pub mod Answer
+pub mod Append
 pub mod InOrder
 pub mod Names
 pub mod Types

@@ -1,9 +1,15 @@
 //! Types in C notation: this project's own profile of how a declaration would be written in C.
 #![tactic(auto)]
 
+mod append;
+mod dimension;
 mod fault;
 mod kind;
+mod left;
+mod right;
+mod text;
 mod typed;
 mod visits;
 
 pub use fault::TypeError;
+pub use text::type_text;

@@ -11,6 +11,9 @@ use dw_section::{EntryId, Section};
 use dw_strings::Strings;
 use dw_unit::EntryRef;
 
+/// The most steps from a qualifier to its type.
+pub(crate) const MOST_STEPS: u8 = 64;
+
 /// What an entry's type is: what its first DW_AT_type resolves to.
 #[derive(Clone, Copy, Debug, PartialEq, Eq)]
 pub(crate) enum Typed {
@@ -83,4 +86,21 @@ pub(crate) fn under(section: &Section, item: usize, entry: &EntryRef<'_>, steps:
     };
     let target = section.entry(id)?;
     under(section, id.item, &target, steps - 1)
+}
+
+/// Whether the declarator of a type stands in brackets behind a mark: it is an array or a function, behind its
+/// qualifiers.
+pub(crate) fn is_bracketed(section: &Section, typed: Typed) -> bool
+    ensures { result ≡ definition.is_bracketed (definition.under_type (definition.under section.now.items 64) section.now.items typed) }
+{
+    let Typed::Entry(id) = typed else {
+        return false;
+    };
+    match section.entry(id) {
+        Some(entry) => matches!(
+            under(section, id.item, &entry, MOST_STEPS),
+            Some(Kind::Array | Kind::Function)
+        ),
+        None => false,
+    }
 }

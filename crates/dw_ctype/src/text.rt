@@ -1,0 +1,74 @@
+//! The text of an entry's type.
+ghost use Rattle.std.specs.Prelude.{◌≡◌, ◌++◌, List, ℕ, Ok, IfErr, IsSome, OnErr, OnOk, ◌-◌};
+ghost use Rattle.dw_section.specs.Lookup.{unit_at};
+ghost use Rattle.std.specs.Vec.{vec_len, vec_capacity};
+ghost use Rattle.dw_ctype.specs.Answer.{answer, IsRefusal};
+ghost use Rattle.dw_ctype.specs.Types as definition;
+ghost use Rattle.dw_ctype.specs.View.{source_of};
+
+use crate::fault::TypeError;
+use crate::right::say;
+use crate::typed::{Typed, type_of};
+use crate::visits::count;
+use dw_leb::constants::tag::{DW_TAG_FORMAL_PARAMETER, DW_TAG_MEMBER, DW_TAG_VARIABLE};
+use dw_section::{EntryId, Section};
+use dw_strings::Strings;
+use dw_unit::EntryRef;
+use std::alloc::Global;
+
+/// The most levels of a text: deeper down it is `...`.
+const MOST_LEVELS: u8 = 64;
+
+/// The most visits of types that a text may need.
+const MOST_VISITS: u16 = 1024;
+
+/// Appends the text of a type with a name, as a declaration would be written in C: of the type of a variable,
+/// a formal parameter or a member, and else of the entry itself. `strings` are the texts that names are in.
+/// The vector grows by its own allocator.
+///
+/// Errors: `NoEntry` exactly where no entry begins at the id; `TypeTooBig` exactly where there is one, and its
+/// text needs more than 1,024 visits of types (they are counted before anything is appended); `NoMemory` only
+/// where there is a text, and the vector has no room for it and isn't given more. After an error the vector
+/// has the bytes that it had.
+pub fn type_text<'a>(
+    _alloc: Global,
+    section: &'a Section,
+    strings: &Strings<'a>,
+    id: EntryId,
+    name: &[u8],
+    out: &mut Vec<u8>,
+) -> Result<(), TypeError>
+    ensures appended { OnOk result ((text : List ℕ) ×
+        ((answer (source_of section.now strings.now) id name.now ≡ Ok text) × (out.new.items ≡ out.old.items ++ text))) }
+    ensures refused { IfErr result (IsRefusal
+        (answer (source_of section.now strings.now) id name.now)
+        (vec_capacity out.old - vec_len out.old)) }
+    ensures unchanged { OnErr result (out.new.items ≡ out.old.items) }
+{
+    let Some(entry) = section.entry(id) else {
+        return Err(TypeError::NoEntry);
+    };
+    let typed = subject(section, id, &entry);
+    if count(section, typed, MOST_LEVELS, MOST_VISITS).is_none() {
+        return Err(TypeError::TypeTooBig);
+    }
+    let before = out.len();
+    if say(section, strings, typed, MOST_LEVELS, name, out).is_err() {
+        out.truncate(before);
+        return Err(TypeError::NoMemory);
+    }
+    Ok(())
+}
+
+/// The type of which the text of an entry is.
+fn subject(section: &Section, id: EntryId, entry: &EntryRef<'_>) -> Typed
+    requires { IsSome (unit_at section.now.items id.item) }
+    ensures { result ≡ definition.subject section.now.items id entry.now }
+{
+    match entry.tag() {
+        DW_TAG_VARIABLE | DW_TAG_FORMAL_PARAMETER | DW_TAG_MEMBER => type_of(
+            section, id.item, entry,
+        ),
+        _ => Typed::Entry(id),
+    }
+}
