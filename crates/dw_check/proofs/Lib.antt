@@ -1,0 +1,6 @@
+pub mod Behind
+pub mod Entries
+mod FindingRows
+pub mod Items
+pub mod Kept
+pub mod Marking

@@ -1,0 +1,13 @@
+//! What is wrong in a section, though it is read without a fault: references that name no entry, texts that can't be
+//! looked up, and more, each with its place.
+#![tactic(auto)]
+
+mod attribute;
+mod finding;
+mod marks;
+mod place;
+mod root;
+mod section;
+
+pub use finding::{Finding, FindingKind};
+pub use section::check;

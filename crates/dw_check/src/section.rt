@@ -1,0 +1,110 @@
+//! The findings of a section, of its units and of their entries.
+ghost use Rattle.std.specs.Prelude.{◌≡◌, ◌+◌, ◌<◌, ◌^◌, ◌++◌, [], ℕ, IfOk, IsSome, OnErr, OnOk};
+ghost use Rattle.dw_section.specs.Lookup.{unit_at};
+ghost use Rattle.dw_strings.specs.TextView.{sections_of};
+ghost use Rattle.dw_tree.specs.Lent.{attributes_of};
+ghost use Rattle.dw_check.specs.Findings as definition;
+ghost use Rattle.dw_check.specs.Marks.{AreMarked};
+ghost use Rattle.dw_check.specs.Place.{IsPlace, unit_in};
+
+use crate::attribute::check_attribute;
+use crate::finding::Finding;
+use crate::marks::mark;
+use crate::place::Place;
+use crate::root::check_root;
+use dw_section::{Item, Section};
+use dw_strings::Strings;
+use dw_unit::EntryRef;
+use indexmap::IndexMap;
+use std::alloc::{AllocError, Global};
+
+/// All that is wrong in a section, ordered by the entries' offsets, by the positions of their attributes, and by the
+/// numbers of the kinds. This checks for:
+///
+/// - references under another name than DW_AT_sibling that name no entry (`BadReference`);
+/// - a DW_AT_sibling that isn't the offset just behind the entry and all entries below it (`BadSibling`);
+/// - a root whose tag isn't one for the kind of its unit (`RootTag`);
+/// - a type unit at whose type offset no entry begins (`TypeOffset`);
+/// - texts that can't be looked up (`BadText`);
+/// - attributes whose name an earlier one of the entry has (`RepeatedName`).
+///
+/// What is in a supplementary file isn't looked up, and items that aren't read have no findings. `AllocError` is
+/// answered where a growth was refused; there is none in a section without units.
+pub fn check<'a>(
+    alloc: Global,
+    section: &'a Section,
+    strings: &'a Strings<'a>,
+) -> Result<Vec<Finding>, AllocError>
+    ensures found { IfOk result (λ found. found.items ≡ definition.findings (sections_of strings.now) section.now) }
+    ensures memory { OnErr result ((item : ℕ) × IsSome (unit_at section.now.items item)) }
+{
+    // The size tells the proof that no offset in the section passes 64 bits.
+    let _size = section.size();
+    let mut found = Vec::new(alloc);
+    let mut number = 0;
+    let mut start = 0;
+    let mut left = section.items();
+    while let Some((item, others)) = left.split_first() {
+        match item {
+            Item::Known(unit) => {
+                let place = Place {
+                    section,
+                    strings,
+                    item: number,
+                    start,
+                    unit,
+                };
+                check_unit(alloc, &mut found, &place)?;
+            }
+            Item::Other(_) => (),
+        }
+        number += 1;
+        start += item.size();
+        left = others;
+    }
+    Ok(found)
+}
+
+/// Adds the findings of a unit.
+fn check_unit(alloc: Global, found: &mut Vec<Finding>, place: &Place<'_>) -> Result<(), AllocError>
+    requires { IsPlace place.now }
+    ensures { OnOk result (found.new.items ≡ found.old.items ++ definition.unit_findings (unit_in place.now)) }
+{
+    check_root(found, place)?;
+    let table = place.unit.tree().table();
+    let mut kept = IndexMap::new(alloc);
+    for entry in place.unit.entries() {
+        let code = entry.code().value;
+        mark(alloc, &mut kept, table, code)?;
+        match kept.get(&code) {
+            Some(marks) => check_entry(found, place, &entry, marks)?,
+            None => unreachable!(),
+        }
+    }
+    Ok(())
+}
+
+/// Adds the findings of an entry. `marks` says of each of its attributes whether an earlier one has its name.
+fn check_entry(
+    found: &mut Vec<Finding>,
+    place: &Place<'_>,
+    entry: &EntryRef<'_>,
+    marks: &[bool],
+) -> Result<(), AllocError>
+    requires place { IsPlace place.now }
+    requires near { place.now.start + entry.now.offset < 2 ^ 64 }
+    requires marked { AreMarked [] (attributes_of entry.now) marks.now }
+    ensures { OnOk result (found.new.items ≡ found.old.items ++ definition.entry_findings (unit_in place.now) entry.now) }
+{
+    let mut position = 0;
+    let mut left = marks;
+    for attribute in entry.attrs() {
+        let Some((repeated, others)) = left.split_first() else {
+            unreachable!()
+        };
+        position += 1;
+        check_attribute(found, place, entry, position, &attribute, *repeated)?;
+        left = others;
+    }
+    Ok(())
+}

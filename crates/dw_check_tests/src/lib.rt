@@ -1,0 +1,5 @@
+//! Tests of what is found wrong in sections.
+#![tactic(auto)]
+
+#[cfg(test)]
+mod findings;
