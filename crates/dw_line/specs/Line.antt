@@ -93,6 +93,7 @@ program = with_subcommand showing_program (subcommand (codes "copy")).top
 abbrev pub IsCommand : Text → List Row → Command → Type 0
 IsCommand name rows command.Show = name ≡ codes "show"
 IsCommand name rows (command.Find wanted) = (name ≡ codes "find") × (first_of (codes "name") rows ≡ Some wanted.now)
+IsCommand name rows (command.TypeOf offset) = ⊥
 IsCommand name rows command.Copy = name ≡ codes "copy"
 
 abbrev pub IsName : Text → Type 0

@@ -124,6 +124,12 @@ each_whole {u = u} contents f xs i old mid new lt before h =
     subst (λ (t : List ℕ). Puts contents old new t (Ok u)) (sym (each_more f xs i lt) ∙ ap (λ (k : ℕ). each f (take k xs)) one)
     (puts_after contents (Ok u) old mid (each f (take i xs)) (f (get_or xs i 0)) new before h)
 
+-- bytes that are written as they are, and one more
+pub each_same : (f : ℕ → List ℕ) (xs : List ℕ) (i : ℕ) → i < length xs → each f (take i xs) ≡ take i xs → f (get_or xs i 0) ≡ get_or xs i 0 ∷ [] → each f (take (i + 1) xs) ≡ take (i + 1) xs
+each_same f xs i lt before own =
+    let one : suc i ≡ i + 1 = omega arith in
+    subst (λ (k : ℕ). each f (take k xs) ≡ take k xs) one (each_more f xs i lt ∙ (ap (λ (t : List ℕ). t ++ f (get_or xs i 0)) before ∙ (ap (λ (t : List ℕ). take i xs ++ t) own ∙ sym (take-suc xs i 0 lt))))
+
 -- ---- hexadecimal digits
 
 abbrev spell : ℕ → ℕ → List ℕ → List ℕ

@@ -2,3 +2,4 @@ pub mod Appending
 pub mod Placed
 pub mod Finding
 mod ShowRows
+pub mod Writing

@@ -1,5 +1,6 @@
 pub mod Names
 pub mod Text
+pub mod TypeOf
 pub mod Show
 pub mod Find
 pub mod Place

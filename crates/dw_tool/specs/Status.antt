@@ -5,14 +5,17 @@ use Rattle.dw_leb.specs.declared.errors.ReadError.{ReadError}
 use Rattle.dw_leb.specs.declared.errors.ReadError.TheVariants as reads
 use Rattle.dw_leb.specs.declared.errors.WriteError.{WriteError}
 use Rattle.dw_leb.specs.declared.errors.WriteError.TheVariants as writes
+use Rattle.dw_ctype.specs.declared.fault.TypeError.{TypeError}
+use Rattle.dw_ctype.specs.declared.fault.TypeError.TheVariants as types
 use Rattle.dw_tool.specs.declared.status.Refused.{Refused}
-use Rattle.dw_tool.specs.declared.status.Refused.TheVariants.{NoEntry}
+use Rattle.dw_tool.specs.declared.status.Refused.TheVariants.{NoEntry, TypeTooBig}
 use Rattle.dw_tool.specs.declared.status.ToolError.{ToolError}
 use Rattle.dw_tool.specs.declared.status.ToolError.TheVariants as tool
 
 -- the name of a refusal
 abbrev pub refused_name : Refused → List ℕ
 refused_name NoEntry = codes "NoEntry"
+refused_name TypeTooBig = codes "TypeTooBig"
 
 abbrev pub refused_read : ReadError → ToolError
 refused_read (reads.Fault f) = tool.Fault f
@@ -21,6 +24,11 @@ refused_read (reads.Io kind) = tool.Read kind
 
 abbrev pub refused_write : WriteError → ToolError
 refused_write (writes.Io kind) = tool.Write kind
+
+abbrev pub refused_type : TypeError → ToolError
+refused_type types.NoEntry = tool.Refused NoEntry
+refused_type types.TypeTooBig = tool.Refused TypeTooBig
+refused_type types.NoMemory = tool.Memory
 
 -- the reader's fault that a run tells
 abbrev pub run_reader_fault : {X : Type 0} → Result X ToolError → Option ErrorKind

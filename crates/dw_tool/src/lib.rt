@@ -11,3 +11,4 @@ pub mod run;
 pub mod show;
 pub mod status;
 pub mod text;
+pub mod type_of;

@@ -3,7 +3,7 @@ ghost use Rattle.std.specs.Prelude.{◌≡◌, IfOk, None};
 ghost use Rattle.dw_leb.specs.Watch.{inner_of, fault_of, writer_fault, Wrote};
 ghost use Rattle.dw_strings.specs.TextView.{sections_of};
 ghost use Rattle.dw_tool.specs.Find.{found_text};
-ghost use Rattle.dw_tool.specs.Run.{TookBytes, Runs, found_status, output, status_of};
+ghost use Rattle.dw_tool.specs.Run.{TookBytes, Runs, Writes, found_status, output};
 ghost use Rattle.dw_tool.specs.Show.{section_text};
 ghost use Rattle.dw_tool.specs.Status.{run_reader_fault, run_writer_fault};
 
@@ -12,8 +12,9 @@ use crate::find::push_found;
 use crate::output::Output;
 use crate::show::push_section;
 use crate::status::{Status, ToolError};
+use crate::type_of::type_line;
 use dw_abbrev::Tables;
-use dw_leb::{Order, Watched, WriteError};
+use dw_leb::{Order, Watched, WriteError, write_all};
 use dw_section::{Section, read_section_as, write_section};
 use dw_strings::Strings;
 use dw_unit::Versions;
@@ -36,14 +37,15 @@ pub struct Inputs<'a, R> {
 }
 
 /// Reads all of `.debug_info` from `inputs.info`, and writes what the command makes of it: the text of the
-/// section, a line for each entry of a name, or its bytes. Nothing is written before the whole section was read,
-/// and nothing at all where it is refused.
+/// section, a line for each entry of a name, the type of an entry, or its bytes. Nothing is written before the
+/// whole section was read, and nothing at all where it or the request is refused.
 ///
 /// The answer is `Bad` where an entry of a name was to be found and there is none, and else `Good`.
 ///
-/// Errors: `Fault` with the first fault of the section, `Read` and `Write` where the reader or the writer
-/// failed, `Memory` where a growth was refused. A run over an empty section needs no growth, and none is due
-/// once writing has begun. After `Write` a prefix of the output was written.
+/// Errors: `Fault` with the first fault of the section, `Refused` where no entry begins where one was asked for,
+/// or the text of its type is too big, `Read` and `Write` where the reader or the writer failed, `Memory` where a
+/// growth was refused. A run over an empty section needs no growth, and none is due once writing has begun. After
+/// `Write` a prefix of the output was written.
 pub fn run<R: Read, W: Write>(
     alloc: Global,
     command: Command<'_>,
@@ -74,24 +76,28 @@ pub fn run<R: Read, W: Write>(
     } = inputs;
     let mut tables = Tables::new(alloc, abbrev);
     let section = read_section_as(alloc, order, versions, &mut tables, info)?;
-    Ok(write_output(command, &section, &strings, writer)?)
+    write_output(alloc, command, &section, &strings, writer)
 }
 
 /// Writes what the command makes of a section.
 fn write_output<W: Write>(
+    alloc: Global,
     command: Command<'_>,
     section: &Section,
     strings: &Strings<'_>,
     writer: &mut Watched<W>,
-) -> Result<Status, WriteError>
+) -> Result<Status, ToolError>
     requires { fault_of writer.old ≡ None }
-    ensures written { Wrote (W.contents (inner_of writer.old)) (W.contents (inner_of writer.new)) (output command.entry (sections_of strings.now) section.now) result }
-    ensures status { IfOk result (λ status. status ≡ status_of command.entry (output command.entry (sections_of strings.now) section.now)) }
-    ensures fault { fault_of writer.new ≡ writer_fault result }
+    ensures written { Writes command.entry (output command.entry (sections_of strings.now) section.now) (W.contents (inner_of writer.old)) (W.contents (inner_of writer.new)) result }
+    ensures fault { fault_of writer.new ≡ run_writer_fault result }
 {
     match command {
         Command::Show => show(section, strings, writer)?,
-        Command::Find(name) => return find(section, strings, name, writer),
+        Command::Find(name) => return Ok(find(section, strings, name, writer)?),
+        Command::TypeOf(offset) => {
+            let line = type_line(alloc, section, strings, offset)?;
+            write_all(writer, line.as_slice())?;
+        }
         Command::Copy => write_section(section, writer)?,
     }
     Ok(Status::Good)

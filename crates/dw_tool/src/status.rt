@@ -1,8 +1,9 @@
 //! How a run ends.
 ghost use Rattle.std.specs.Prelude.{◌≡◌, Some};
-ghost use Rattle.dw_tool.specs.Status.{refused_name, refused_read, refused_write};
+ghost use Rattle.dw_tool.specs.Status.{refused_name, refused_read, refused_type, refused_write};
 ghost use Rattle.dw_tool.specs.declared.status.ToolError.TheVariants as tool;
 
+use dw_ctype::TypeError;
 use dw_leb::{Fault, ReadError, WriteError};
 use std::alloc::AllocError;
 use std::fmt;
@@ -23,6 +24,8 @@ pub enum Status {
 pub enum Refused {
     /// No entry begins at the offset that was given.
     NoEntry,
+    /// The text of the type needs too many visits of types.
+    TypeTooBig,
 }
 
 /// The text is the refusal's name, as `NoEntry`.
@@ -32,6 +35,7 @@ impl fmt::Display for Refused {
     fn fmt<W: fmt::Write>(&self, f: &mut fmt::Formatter<W>) -> fmt::Result {
         match self {
             Refused::NoEntry => f.write_str("NoEntry"),
+            Refused::TypeTooBig => f.write_str("TypeTooBig"),
         }
     }
 }
@@ -42,7 +46,7 @@ pub enum ToolError {
     /// The sections are refused: the first fault.
     #[error("{0}")]
     Fault(Fault),
-    /// The request is refused. `show`, `find` and `copy` refuse none.
+    /// The request is refused. Of the commands `type` alone refuses one.
     #[error("refused {0}")]
     Refused(Refused),
     /// The reader of `.debug_info` failed.
@@ -74,6 +78,18 @@ impl From<WriteError> for ToolError {
     fn from(error: WriteError) -> ToolError {
         match error {
             WriteError::Io(kind) => ToolError::Write(kind),
+        }
+    }
+}
+
+impl From<TypeError> for ToolError {
+    ghost from_gives = { λ e out. out ≡ refused_type e };
+
+    fn from(error: TypeError) -> ToolError {
+        match error {
+            TypeError::NoEntry => ToolError::Refused(Refused::NoEntry),
+            TypeError::TypeTooBig => ToolError::Refused(Refused::TypeTooBig),
+            TypeError::NoMemory => ToolError::Memory,
         }
     }
 }

@@ -1,6 +1,6 @@
 //! The texts of numbers, names and bytes, each appended to an output. Each call returns the writer's fault
 //! where there is one, as `Output::append` does.
-ghost use Rattle.std.specs.Prelude.{◌≡◌, ◌<◌, ◌≤◌, ◌+◌, ◌++◌, ℕ, codes, decimal, drop, false, unwrap_or, option_map};
+ghost use Rattle.std.specs.Prelude.{◌≡◌, ◌<◌, ◌≤◌, ◌+◌, ◌++◌, ◌∷◌, [], ℕ, IsTrue, codes, decimal, drop, false, unwrap_or, option_map};
 ghost use Rattle.std.specs.Fmt.{digit_glyph, signed_decimal};
 ghost use Rattle.dw_tool.specs.Output.{Puts, IsClear};
 ghost use Rattle.dw_tool.specs.Text.{attribute_text, block, each, escaped, hexadecimal, labelled, labelled_decimal, quoted, spaced_digits, tag_text, two_digits};
@@ -191,6 +191,38 @@ fn push_each_digits<W: Write>(out: &mut Output<'_, W>, bytes: &[u8]) -> Result<(
 }
 
 fn push_each_escaped<W: Write>(out: &mut Output<'_, W>, bytes: &[u8]) -> Result<(), WriteError>
+    requires { IsClear out.old }
+    ensures { Puts W.contents out.old out.new (each escaped bytes.now) result }
+{
+    if are_plain(bytes) {
+        return out.append(bytes);
+    }
+    push_one_by_one(out, bytes)
+}
+
+// Whether all bytes are written as they are, as those of nearly every name.
+fn are_plain(bytes: &[u8]) -> bool
+    ensures { IsTrue result → (each escaped bytes.now ≡ bytes.now) }
+{
+    for byte in bytes {
+        if !is_plain(*byte) {
+            return false;
+        }
+    }
+    true
+}
+
+fn is_plain(byte: u8) -> bool
+    ensures { IsTrue result → (escaped byte ≡ byte ∷ []) }
+{
+    match byte {
+        b'"' | b'\\' => false,
+        0x20..=0x7e => true,
+        _ => false,
+    }
+}
+
+fn push_one_by_one<W: Write>(out: &mut Output<'_, W>, bytes: &[u8]) -> Result<(), WriteError>
     requires { IsClear out.old }
     ensures { Puts W.contents out.old out.new (each escaped bytes.now) result }
 {

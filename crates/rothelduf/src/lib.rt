@@ -17,15 +17,20 @@
 //! - `read_section` returns the whole section that a reader has left, item by item, or its first fault;
 //!   `read_section_as` also reads units of version 4;
 //! - `Section` holds the units of a whole section: looked up by item, `EntryId` and offset; `Section::resolve`
-//!   names the entry that a reference means, or says by `RefFault` why there is none;
+//!   names the entry that a reference means, or says by `RefFault` why there is none; `Section::set_number` puts a
+//!   number in the place of that of an attribute, or says by `SetRefusal` why it doesn't;
 //! - `Strings` holds the sections of texts: `Strings::text` lends the text that an attribute names, or says by
 //!   `StrFault` why there is none;
+//! - `type_text` appends the type of an entry in C notation, or says by `TypeError` why it doesn't;
+//! - `check` lists what is wrong in a section that was read, as `Finding`s, each with its place and its `FindingKind`;
 //! - `write_unit` and `write_section` write what was read or built, each number in its own width.
 //!
 //! `constants` has the numbers of the standard by name.
 #![tactic(auto)]
 
 pub use dw_abbrev::{Decl, Pair, Table, TableBuilder, TableRefusal, Tables};
+pub use dw_check::{Finding, FindingKind, check};
+pub use dw_ctype::{TypeError, type_text};
 pub use dw_feed::{
     BodyFeed, HeadFeed, Held, Progress, read_unit, read_unit_as, read_unit_from, read_unit_from_as,
 };
@@ -34,7 +39,8 @@ pub use dw_leb::{
     Fault, Format, Order, ReadError, Reason, SectionId, Sleb, Uleb, Watched, WriteError, constants,
 };
 pub use dw_section::{
-    EntryId, Item, RefFault, Section, SectionRefusal, read_section, read_section_as, write_section,
+    EntryId, Item, RefFault, Section, SectionRefusal, SetRefusal, read_section, read_section_as,
+    write_section,
 };
 pub use dw_strings::{StrFault, Strings};
 pub use dw_unit::{

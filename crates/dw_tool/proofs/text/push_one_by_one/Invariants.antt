@@ -1,7 +1,7 @@
 use Rattle.std.proofs.Common.{Ok, take}
 use Rattle.dw_tool.specs.Output.{Puts}
 use Rattle.dw_tool.specs.Text.{each, escaped}
-use Rattle.dw_tool.proofs.text.push_each_escaped.Given as goal
+use Rattle.dw_tool.proofs.text.push_one_by_one.Given as goal
 
 -- the texts of the bytes before this one are there
 abbrev pub invariant-loop-byte : goal.invariant-loop-byte
