@@ -4,9 +4,9 @@
 Usage: scripts/compare.py PROGRAM FILE..
 
 PROGRAM is the built `dwarf` (crates/dwarf/out/dwarf). Each FILE is linked and little-endian. Of its units of
-version 5, compared are the level, the offset and the tag of each entry, the names of its attributes in their order, and each value that readelf tells as the number
-that stands there. A name that the program prints as a number is passed over. The status is 0 where all agree,
-else 1.
+version 5, compared are the level, the offset and the tag of each entry, the names of its attributes in their
+order, each value that readelf tells as the number that stands there, and each text that an attribute has or names.
+A name that the program prints as a number is passed over. The status is 0 where all agree, else 1.
 """
 
 import bisect
@@ -18,11 +18,19 @@ import tempfile
 
 SECTIONS = os.path.join(os.path.dirname(os.path.abspath(__file__)), "sections.sh")
 
+# The sections that the program is given, as its options name them.
+FILES = ["info", "abbrev", "str", "line-str", "str-offsets"]
+
 # How readelf writes a number that stands in the unit.
 NUMBER = re.compile(
     r"(?:\((?:indirect string, offset|indirect line string, offset|indexed string|index): (0x[0-9a-f]+|0)\)"
     r"|<(0x[0-9a-f]+)>|(0x[0-9a-f]+|-?[0-9]+)(?:\s+\(.*\))?\s*$)"
 )
+
+# How readelf writes a text that stands in another section, and how `dwarf show` writes any text.
+NAMED_TEXT = re.compile(r"\((?:indirect string, offset|indirect line string, offset|indexed string): (?:0x[0-9a-f]+|0)\): (.*)$")
+QUOTED = re.compile(r'(?:0x[0-9a-f]+ )?"(.*)"$')
+ESCAPED = re.compile(r"\\(?:x([0-9a-f]{2})|(.))")
 
 # The forms of references that count from their unit's first byte. readelf adds the unit's place to them.
 WITHIN_ITS_UNIT = {"DW_FORM_ref1", "DW_FORM_ref2", "DW_FORM_ref4", "DW_FORM_ref8", "DW_FORM_ref_udata"}
@@ -34,10 +42,22 @@ def number(text):
     return int(next(it for it in found.groups() if it is not None), 0) if found else None
 
 
+def named_text(value, form):
+    """The text that a value has or names as readelf tells it, or None."""
+    named = NAMED_TEXT.match(value)
+    return named[1] if named else value if form == "DW_FORM_string" else None
+
+
+def quoted_text(value):
+    """The same as `dwarf show` tells it: a byte that isn't printed is a character of its number."""
+    quoted = QUOTED.match(value)
+    return quoted and ESCAPED.sub(lambda it: chr(int(it[1], 16)) if it[1] else it[2], quoted[1])
+
+
 def dumped(what, file):
     """The lines that readelf writes of a section."""
     told = subprocess.run(["readelf", f"--debug-dump={what}", file], stdout=subprocess.PIPE, stderr=subprocess.DEVNULL, check=True)
-    return told.stdout.decode(errors="replace").splitlines()
+    return told.stdout.decode("latin-1").split("\n")
 
 
 def forms_by_readelf(file):
@@ -58,8 +78,8 @@ def forms_by_readelf(file):
 
 
 def by_readelf(file):
-    """The entries as lists of a heading and attributes, as readelf tells them. An attribute says whether its
-    form is one of a reference that counts from its unit."""
+    """The entries as lists of a heading and attributes, as readelf tells them. An attribute has a name, a number,
+    a text, and whether its form is one of a reference that counts from its unit."""
     forms, table, entries, left = forms_by_readelf(file), 0, [], iter(())
     for line in dumped("info", file):
         unit = re.match(r"   Abbrev Offset: +(0x[0-9a-f]+|0)", line)
@@ -71,7 +91,9 @@ def by_readelf(file):
             entries.append([(int(entry[1]) + 1, int(entry[2], 16), entry[4])])
             left = iter(forms.get((table, int(entry[3])), ()))
         elif attribute and entries:
-            entries[-1].append((attribute[1], number(attribute[2].strip()), next(left, "") in WITHIN_ITS_UNIT))
+            form = next(left, "")
+            text = named_text(attribute[2], form)
+            entries[-1].append((attribute[1], number(attribute[2].strip()), text, form in WITHIN_ITS_UNIT))
     return entries
 
 
@@ -80,9 +102,9 @@ def by_show(program, file):
     with tempfile.TemporaryDirectory() as room:
         if subprocess.run(["sh", SECTIONS, file, room]).returncode:
             sys.exit(1)
-        words = [program, "show", "--info", f"{room}/debug_info", "--abbrev", f"{room}/debug_abbrev"]
-        told = subprocess.run(words, stdout=subprocess.PIPE, check=True)
-    return shown(told.stdout.decode(errors="replace"))
+        words = [it for name in FILES for it in (f"--{name}", f"{room}/debug_{name.replace('-', '_')}")]
+        told = subprocess.run([program, "show", *words], stdout=subprocess.PIPE, check=True)
+    return shown(told.stdout.decode())
 
 
 def shown(text):
@@ -97,7 +119,7 @@ def shown(text):
             entries.append([(int(entry[1]), int(entry[2], 16), entry[3])])
         elif line.startswith("  "):
             name, _, value = line.strip().partition(" ")
-            entries[-1].append((name, number(value.partition(" -> ")[0])))
+            entries[-1].append((name, number(value.partition(" -> ")[0].partition(' "')[0]), quoted_text(value)))
     return entries, places
 
 
@@ -113,8 +135,8 @@ def same_name(ours, theirs):
 
 
 def differences(ours, theirs, places):
-    """What the two tell otherwise, and how many values were compared."""
-    lines, values = [], 0
+    """What the two tell otherwise, and how many numbers and texts were compared."""
+    lines, numbers, texts = [], 0, 0
     if len(ours) != len(theirs):
         lines.append(f"{len(ours)} entries, and {len(theirs)} by readelf")
     for (head, *attributes), (their_head, *their_attributes) in zip(ours, theirs):
@@ -122,14 +144,19 @@ def differences(ours, theirs, places):
         if not same or len(attributes) != len(their_attributes):
             lines.append(f"{head} with {len(attributes)} attributes, {their_head} with {len(their_attributes)} by readelf")
         start = place_of(places, head[1]).start
-        for (name, value), (their_name, their_value, refers) in zip(attributes, their_attributes):
+        for (name, value, text), (their_name, their_value, their_text, refers) in zip(attributes, their_attributes):
             if not same_name(name, their_name):
                 lines.append(f"{head}: {name}, {their_name} by readelf")
-            elif value is not None and their_value is not None:
-                values += 1
+                continue
+            if their_text is not None:
+                texts += 1
+                if text != their_text:
+                    lines.append(f"{head}: {name} {text!r}, {their_text!r} by readelf")
+            if value is not None and their_value is not None:
+                numbers += 1
                 if value + (start if refers else 0) != their_value:
                     lines.append(f"{head}: {name} {value:#x}, {their_value:#x} by readelf")
-    return lines, values
+    return lines, numbers, texts
 
 
 def main(program, files):
@@ -137,11 +164,11 @@ def main(program, files):
     for file in files:
         ours, places = by_show(program, file)
         theirs = [it for it in by_readelf(file) if places and place_of(places, it[0][1])]
-        lines, values = differences(ours, theirs, places)
+        lines, numbers, texts = differences(ours, theirs, places)
         for line in lines[:20]:
             print(f"{file}: {line}")
         attributes = sum(len(it) - 1 for it in ours)
-        counts = f"{len(places)} units, {len(ours)} entries, {attributes} attributes, {values} values compared"
+        counts = f"{len(places)} units, {len(ours)} entries, {attributes} attributes, {numbers} numbers and {texts} texts compared"
         print(f"{file}: {counts}, {len(lines)} differences")
         status = 1 if lines or not ours else status
     return status
