@@ -1,3 +1,4 @@
 pub mod Findings
+pub mod Kinds
 pub mod Marks
 pub mod Place

@@ -94,6 +94,8 @@ abbrev pub IsCommand : Text → List Row → Command → Type 0
 IsCommand name rows command.Show = name ≡ codes "show"
 IsCommand name rows (command.Find wanted) = (name ≡ codes "find") × (first_of (codes "name") rows ≡ Some wanted.now)
 IsCommand name rows (command.TypeOf offset) = ⊥
+IsCommand name rows command.Check = ⊥
+IsCommand name rows (command.SetNumber offset attribute value) = ⊥
 IsCommand name rows command.Copy = name ≡ codes "copy"
 
 abbrev pub IsName : Text → Type 0

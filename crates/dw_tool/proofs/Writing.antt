@@ -1,33 +1,36 @@
 -- What a run writes of a section that was read.
-use Rattle.std.proofs.Common.{◌≡◌, ◌<◌, ◌+◌, ℕ, suc, Bool, true, false, List, [], ◌∷◌, ◌++◌, length, Option, Some, None, Result, Ok, Err, inl, inr, refl, sym, subst, ap, length-append, arith}
-use Rattle.std.specs.Prelude.{codes, nat_le, nat_lt, if◌then◌else◌}
+use Rattle.std.proofs.Common.{◌≡◌, ◌<◌, ◌+◌, ℕ, suc, Bool, true, false, List, [], ◌∷◌, ◌++◌, length, Option, Some, None, Result, Ok, Err, refl, sym, subst, ap, ◌∙◌, length-append, arith}
+use Rattle.std.specs.Prelude.{◌==◌, IsSome, ℤ, codes, nat_le, nat_lt}
 use Rattle.std.specs.Io.KnownBytes.{Keeps}
 use Rattle.std.proofs.lemmas.Bool.{ltb-true}
-use Rattle.dw_leb.specs.declared.errors.WriteError.{WriteError}
-use Rattle.dw_leb.specs.declared.errors.WriteError.TheVariants as writes
 use Rattle.dw_leb.specs.declared.order.Order.{Order}
-use Rattle.dw_leb.specs.Watch.{Wrote}
 use Rattle.dw_header.specs.declared.versions.Versions.{Versions}
 use Rattle.dw_section.specs.declared.id.EntryId.{EntryId}
 use Rattle.dw_section.specs.Item.{Item, item_bytes}
-use Rattle.dw_section.specs.Lookup.{entry, find, ok_of}
+use Rattle.dw_section.specs.ItemPlace.{item_some}
+use Rattle.dw_section.specs.Lookup.{entry, find, ok_of, unit_at}
 use Rattle.dw_tree.specs.Lent.{EntryAt}
 use Rattle.dw_section.specs.Reference.{items_from, in_section}
-use Rattle.dw_section.specs.Section.{WholeSection, items_bytes}
+use Rattle.dw_section.specs.Section.{WholeSection, ItemsFit, items_bytes}
 use Rattle.dw_section.specs.Reads.{TakesSection}
 use Rattle.dw_strings.specs.Text.{StringSections}
+use Rattle.dw_check.specs.declared.finding.Finding.{Finding}
 use Rattle.dw_ctype.specs.declared.fault.TypeError.{TypeError}
 use Rattle.dw_ctype.specs.declared.fault.TypeError.TheVariants as types
 use Rattle.dw_ctype.specs.Answer.{answer_of}
 use Rattle.dw_ctype.specs.Types.{Source, type_text}
 use Rattle.dw_ctype.specs.Visits.{entry_text_visits}
 use Rattle.dw_tool.specs.declared.command.Command.{Command}
-use Rattle.dw_tool.specs.declared.command.Command.TheVariants.{Show, Find, TypeOf, Copy}
+use Rattle.dw_tool.specs.declared.command.Command.TheVariants.{Show, Find, TypeOf, Check, SetNumber, Copy}
+use Rattle.dw_tool.specs.declared.status.Refused.{Refused}
 use Rattle.dw_tool.specs.declared.status.Status.{Status}
+use Rattle.dw_tool.specs.declared.status.Status.TheVariants.{Bad}
 use Rattle.dw_tool.specs.declared.status.ToolError.{ToolError}
 use Rattle.dw_tool.specs.declared.status.ToolError.TheVariants as tool
-use Rattle.dw_tool.specs.Run.{Runs, TookBytes, Writes, output, status_of}
-use Rattle.dw_tool.specs.Status.{refused_type, refused_write}
+use Rattle.dw_tool.specs.Findings.{findings_text}
+use Rattle.dw_tool.specs.Run.{TookBytes, Writes, checked_status, told}
+use Rattle.dw_tool.specs.Set.{set_bytes}
+use Rattle.dw_tool.specs.Status.{refused_type}
 use Rattle.dw_tool.specs.TypeOf.{OrMemory, line_at, line_of, name_shown, type_line}
 
 -- ---- a section with an entry has bytes
@@ -52,8 +55,24 @@ line_some strings offset s text h = by (find s.items offset) refl
     by None e = let none = ap (line_at (record { items = s.items; strings = strings })) e in cc
     by (Some id) e = omega (arith, in_some 0 0 offset s.items id e)
 
+-- a section with a unit has some
+unit_some : (versions : Versions) (order : Order) (start i : ℕ) (items : List Item) → ItemsFit versions order start items → IsSome (unit_at items i) → 0 < length (items_bytes items)
+unit_some versions order start i [] fit h = absurd cc
+unit_some versions order start i (x ∷ xs) fit h = omega (arith, item_some versions order start x fit.0, length-append (item_bytes x) (items_bytes xs))
+
+-- ---- an answer with its error as one of a run
+
+told_ok : {X E : Type 0} (as_error : E → ToolError) (r : Result X E) (x : X) → told as_error r ≡ Ok x → r ≡ Ok x
+told_ok as_error (Ok y) x h = let same : y ≡ x = cc in ap Ok same
+told_ok as_error (Err why) x h = absurd cc
+
+-- ---- memory
+
 module _ (command : Command) (strings : StringSections) (versions : Versions) (order : Order) (abbreviations : List ℕ) (left left' held held' : Option (List ℕ)) (s : WholeSection) (takes : TakesSection versions order abbreviations left left' s) where
-  pub took : (r : Result Status ToolError) → Writes command (output command strings s) held held' r → TookBytes left left' r
+  bytes_taken : 0 < length (items_bytes s.items) → TookBytes {X = Status} left left' (Err tool.Memory)
+  bytes_taken some = (takes.all, subst (λ (bytes : List ℕ). 0 < length bytes) (sym takes.is.spelled) some, takes.consumed)
+
+  pub took : (r : Result Status ToolError) → Writes command strings s held held' r → TookBytes left left' r
   took (Ok status) w = tt
   took (Err (tool.Fault f)) w = tt
   took (Err (tool.Refused r)) w = tt
@@ -61,10 +80,12 @@ module _ (command : Command) (strings : StringSections) (versions : Versions) (o
   took (Err (tool.Write kind)) w = tt
   took (Err tool.Memory) w = by command w
     where
-      by : (c : Command) → Writes c (output c strings s) held held' (Err tool.Memory) → TookBytes {X = Status} left left' (Err tool.Memory)
+      by : (c : Command) → Writes c strings s held held' (Err tool.Memory) → TookBytes {X = Status} left left' (Err tool.Memory)
       by Show w = absurd w.2
       by (Find name) w = absurd w.2
-      by (TypeOf offset) w = (takes.all, subst (λ (bytes : List ℕ). 0 < length bytes) (sym takes.is.spelled) (line_some strings offset s w.0 w.1), takes.consumed)
+      by (TypeOf offset) w = bytes_taken (line_some strings offset s w.0 (told_ok refused_type (type_line strings offset s) w.0 w.1))
+      by Check w = bytes_taken (unit_some versions order 0 w.2.0 s.items takes.is.fit w.2.1)
+      by (SetNumber offset name value) w = absurd w.2
       by Copy w = absurd w.2
 
 -- ---- a line that isn't written
@@ -85,15 +106,31 @@ never_memory : (s : Source) (o : Option EntryId) → line_at s o ≡ Err types.N
 never_memory s None h = cc
 never_memory s (Some id) h = never_memory_of s id (name_shown s id.item (entry s.items id)) (entry s.items id) h
 
-refused_line : (out : Result (List ℕ) TypeError) (held : Option (List ℕ)) (offset : ℕ) (e : TypeError) → (out ≡ Err types.NoMemory → ⊥) → Keeps held held → OrMemory out e → Writes (TypeOf offset) out held held (Err (refused_type e))
-refused_line (Err why) held offset types.NoEntry never keeps h = (types.NoEntry, ap Err (sym h), refl, keeps)
-refused_line (Err why) held offset types.TypeTooBig never keeps h = (types.TypeTooBig, ap Err (sym h), refl, keeps)
-refused_line (Err why) held offset types.NoMemory never keeps h = absurd (never (ap Err (sym h)))
-refused_line (Ok text) held offset types.NoEntry never keeps h = cc
-refused_line (Ok text) held offset types.TypeTooBig never keeps h = cc
-refused_line (Ok text) held offset types.NoMemory never keeps h = (text, refl, tt, keeps)
+module _ (strings : StringSections) (s : WholeSection) (held : Option (List ℕ)) where
+  no_line : (offset : ℕ) (e : TypeError) → OrMemory (type_line strings offset s) e → Writes (TypeOf offset) strings s held held (Err (refused_type e))
+  no_line offset e h = by (type_line strings offset s) e refl h
+    where
+      never : type_line strings offset s ≡ Err types.NoMemory → ⊥
+      never = never_memory (record { items = s.items; strings = strings }) (find s.items offset)
 
-pub unwritten : (command : Command) (strings : StringSections) (s : WholeSection) (held : Option (List ℕ)) (offset : ℕ) (e : TypeError) → command ≡ TypeOf offset → Keeps held held → OrMemory (type_line strings offset s) e → Writes command (output command strings s) held held (Err (refused_type e))
-unwritten command strings s held offset e is keeps h =
-    subst (λ (c : Command). Writes c (output c strings s) held held (Err (refused_type e))) (sym is)
-    (refused_line (type_line strings offset s) held offset e (never_memory (record { items = s.items; strings = strings }) (find s.items offset)) keeps h)
+      by : (out : Result (List ℕ) TypeError) (e : TypeError) → type_line strings offset s ≡ out → OrMemory out e → Writes (TypeOf offset) strings s held held (Err (refused_type e))
+      by (Err why) types.NoEntry is h = (ap (told refused_type) (is ∙ ap Err (sym h)), keeps_same held)
+      by (Err why) types.TypeTooBig is h = (ap (told refused_type) (is ∙ ap Err (sym h)), keeps_same held)
+      by (Err why) types.NoMemory is h = absurd (never (is ∙ ap Err (sym h)))
+      by (Ok text) types.NoEntry is h = cc
+      by (Ok text) types.TypeTooBig is h = cc
+      by (Ok text) types.NoMemory is h = (text, ap (told refused_type) is, tt, keeps_same held)
+
+  pub unwritten : (command : Command) (offset : ℕ) (e : TypeError) → command ≡ TypeOf offset → OrMemory (type_line strings offset s) e → Writes command strings s held held (Err (refused_type e))
+  unwritten command offset e is h = subst (λ (c : Command). Writes c strings s held held (Err (refused_type e))) (sym is) (no_line offset e h)
+
+  -- a number that isn't set
+  pub unset : (command : Command) (offset name : ℕ) (value : ℤ) (r : Refused) → command ≡ SetNumber offset name value → set_bytes offset name value s ≡ Err r → Writes command strings s held held (Err (tool.Refused r))
+  unset command offset name value r is h = subst (λ (c : Command). Writes c strings s held held (Err (tool.Refused r))) (sym is) (ap (told tool.Refused) h, keeps_same held)
+
+-- ---- findings
+
+-- each has a line
+pub some_wrong : (found : List Finding) → (length found == 0) ≡ false → Bad ≡ checked_status (findings_text found)
+some_wrong [] h = absurd cc
+some_wrong (f ∷ fs) h = refl

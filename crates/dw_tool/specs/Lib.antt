@@ -3,8 +3,10 @@ pub mod Text
 pub mod TypeOf
 pub mod Show
 pub mod Find
+pub mod Findings
 pub mod Place
 pub mod Status
 pub mod Failure
+pub mod Set
 pub mod Run
 pub mod Output

@@ -7,8 +7,10 @@ use Rattle.dw_leb.specs.declared.errors.WriteError.{WriteError}
 use Rattle.dw_leb.specs.declared.errors.WriteError.TheVariants as writes
 use Rattle.dw_ctype.specs.declared.fault.TypeError.{TypeError}
 use Rattle.dw_ctype.specs.declared.fault.TypeError.TheVariants as types
+use Rattle.dw_section.specs.declared.set_refusal.SetRefusal.{SetRefusal}
+use Rattle.dw_section.specs.declared.set_refusal.SetRefusal.TheVariants as sets
 use Rattle.dw_tool.specs.declared.status.Refused.{Refused}
-use Rattle.dw_tool.specs.declared.status.Refused.TheVariants.{NoEntry, TypeTooBig}
+use Rattle.dw_tool.specs.declared.status.Refused.TheVariants.{NoEntry, TypeTooBig, NoAttribute, NotANumber, InTable, DoesNotFit, BadTarget}
 use Rattle.dw_tool.specs.declared.status.ToolError.{ToolError}
 use Rattle.dw_tool.specs.declared.status.ToolError.TheVariants as tool
 
@@ -16,6 +18,11 @@ use Rattle.dw_tool.specs.declared.status.ToolError.TheVariants as tool
 abbrev pub refused_name : Refused → List ℕ
 refused_name NoEntry = codes "NoEntry"
 refused_name TypeTooBig = codes "TypeTooBig"
+refused_name NoAttribute = codes "NoAttribute"
+refused_name NotANumber = codes "NotANumber"
+refused_name InTable = codes "InTable"
+refused_name DoesNotFit = codes "DoesNotFit"
+refused_name BadTarget = codes "BadTarget"
 
 abbrev pub refused_read : ReadError → ToolError
 refused_read (reads.Fault f) = tool.Fault f
@@ -29,6 +36,15 @@ abbrev pub refused_type : TypeError → ToolError
 refused_type types.NoEntry = tool.Refused NoEntry
 refused_type types.TypeTooBig = tool.Refused TypeTooBig
 refused_type types.NoMemory = tool.Memory
+
+-- why a number isn't set, by the same name
+abbrev pub refused_set : SetRefusal → Refused
+refused_set sets.NoEntry = NoEntry
+refused_set sets.NoAttribute = NoAttribute
+refused_set sets.NotANumber = NotANumber
+refused_set sets.InTable = InTable
+refused_set sets.DoesNotFit = DoesNotFit
+refused_set sets.BadTarget = BadTarget
 
 -- the reader's fault that a run tells
 abbrev pub run_reader_fault : {X : Type 0} → Result X ToolError → Option ErrorKind

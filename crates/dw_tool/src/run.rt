@@ -3,17 +3,22 @@ ghost use Rattle.std.specs.Prelude.{◌≡◌, IfOk, None};
 ghost use Rattle.dw_leb.specs.Watch.{inner_of, fault_of, writer_fault, Wrote};
 ghost use Rattle.dw_strings.specs.TextView.{sections_of};
 ghost use Rattle.dw_tool.specs.Find.{found_text};
-ghost use Rattle.dw_tool.specs.Run.{TookBytes, Runs, Writes, found_status, output};
+ghost use Rattle.dw_tool.specs.Findings.{findings_text};
+ghost use Rattle.dw_tool.specs.Run.{TookBytes, Runs, Writes, checked_status, found_status};
 ghost use Rattle.dw_tool.specs.Show.{section_text};
 ghost use Rattle.dw_tool.specs.Status.{run_reader_fault, run_writer_fault};
+ghost use Rattle.dw_tool.specs.declared.command.Command.TheVariants.{Check};
 
 use crate::command::Command;
 use crate::find::push_found;
+use crate::findings::push_findings;
 use crate::output::Output;
+use crate::set::set_at;
 use crate::show::push_section;
 use crate::status::{Status, ToolError};
 use crate::type_of::type_line;
 use dw_abbrev::Tables;
+use dw_check::{Finding, check};
 use dw_leb::{Order, Watched, WriteError, write_all};
 use dw_section::{Section, read_section_as, write_section};
 use dw_strings::Strings;
@@ -37,15 +42,17 @@ pub struct Inputs<'a, R> {
 }
 
 /// Reads all of `.debug_info` from `inputs.info`, and writes what the command makes of it: the text of the
-/// section, a line for each entry of a name, the type of an entry, or its bytes. Nothing is written before the
-/// whole section was read, and nothing at all where it or the request is refused.
+/// section, a line for each entry of a name, the type of an entry, a line for each finding, its bytes with a number
+/// in the place of another, or its bytes. Nothing is written before the whole section was read, and nothing at all
+/// where it or the request is refused.
 ///
-/// The answer is `Bad` where an entry of a name was to be found and there is none, and else `Good`.
+/// The answer is `Bad` where an entry of a name was to be found and there is none, and where a check finds
+/// something; else it is `Good`.
 ///
 /// Errors: `Fault` with the first fault of the section, `Refused` where no entry begins where one was asked for,
-/// or the text of its type is too big, `Read` and `Write` where the reader or the writer failed, `Memory` where a
-/// growth was refused. A run over an empty section needs no growth, and none is due once writing has begun. After
-/// `Write` a prefix of the output was written.
+/// the text of its type is too big, or a number isn't put, `Read` and `Write` where the reader or the writer failed,
+/// `Memory` where a growth was refused. A run over an empty section needs no growth, and none is due once writing
+/// has begun. After `Write` a prefix of the output was written.
 pub fn run<R: Read, W: Write>(
     alloc: Global,
     command: Command<'_>,
@@ -75,20 +82,20 @@ pub fn run<R: Read, W: Write>(
         strings,
     } = inputs;
     let mut tables = Tables::new(alloc, abbrev);
-    let section = read_section_as(alloc, order, versions, &mut tables, info)?;
-    write_output(alloc, command, &section, &strings, writer)
+    let mut section = read_section_as(alloc, order, versions, &mut tables, info)?;
+    write_output(alloc, command, &mut section, &strings, writer)
 }
 
 /// Writes what the command makes of a section.
 fn write_output<W: Write>(
     alloc: Global,
     command: Command<'_>,
-    section: &Section,
+    section: &mut Section,
     strings: &Strings<'_>,
     writer: &mut Watched<W>,
 ) -> Result<Status, ToolError>
     requires { fault_of writer.old ≡ None }
-    ensures written { Writes command.entry (output command.entry (sections_of strings.now) section.now) (W.contents (inner_of writer.old)) (W.contents (inner_of writer.new)) result }
+    ensures written { Writes command.entry (sections_of strings.now) section.old (W.contents (inner_of writer.old)) (W.contents (inner_of writer.new)) result }
     ensures fault { fault_of writer.new ≡ run_writer_fault result }
 {
     match command {
@@ -97,6 +104,15 @@ fn write_output<W: Write>(
         Command::TypeOf(offset) => {
             let line = type_line(alloc, section, strings, offset)?;
             write_all(writer, line.as_slice())?;
+        }
+        Command::Check => return tell_findings(alloc, section, strings, writer),
+        Command::SetNumber {
+            offset,
+            name,
+            value,
+        } => {
+            set_at(section, offset, name, value)?;
+            write_section(section, writer)?;
         }
         Command::Copy => write_section(section, writer)?,
     }
@@ -132,4 +148,40 @@ fn find<W: Write>(
     let found = push_found(&mut out, section, strings, name)?;
     out.flush()?;
     Ok(if found { Status::Good } else { Status::Bad })
+}
+
+/// Writes what is wrong in a section. Nothing is written before all of it was found.
+fn tell_findings<W: Write>(
+    alloc: Global,
+    section: &Section,
+    strings: &Strings<'_>,
+    writer: &mut Watched<W>,
+) -> Result<Status, ToolError>
+    requires { fault_of writer.old ≡ None }
+    ensures written { Writes Check (sections_of strings.now) section.now (W.contents (inner_of writer.old)) (W.contents (inner_of writer.new)) result }
+    ensures fault { fault_of writer.new ≡ run_writer_fault result }
+{
+    let found = check(alloc, section, strings)?;
+    write_findings(found.as_slice(), writer)?;
+    Ok(status_by(found.as_slice()))
+}
+
+fn status_by(found: &[Finding]) -> Status
+    ensures { result ≡ checked_status (findings_text found.now) }
+{
+    if found.is_empty() {
+        Status::Good
+    } else {
+        Status::Bad
+    }
+}
+
+fn write_findings<W: Write>(findings: &[Finding], writer: &mut Watched<W>) -> Result<(), WriteError>
+    requires { fault_of writer.old ≡ None }
+    ensures written { Wrote (W.contents (inner_of writer.old)) (W.contents (inner_of writer.new)) (findings_text findings.now) result }
+    ensures fault { fault_of writer.new ≡ writer_fault result }
+{
+    let mut out = Output::new(writer);
+    push_findings(&mut out, findings)?;
+    out.flush()
 }

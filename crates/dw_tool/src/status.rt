@@ -1,10 +1,11 @@
 //! How a run ends.
 ghost use Rattle.std.specs.Prelude.{◌≡◌, Some};
-ghost use Rattle.dw_tool.specs.Status.{refused_name, refused_read, refused_type, refused_write};
+ghost use Rattle.dw_tool.specs.Status.{refused_name, refused_read, refused_set, refused_type, refused_write};
 ghost use Rattle.dw_tool.specs.declared.status.ToolError.TheVariants as tool;
 
 use dw_ctype::TypeError;
 use dw_leb::{Fault, ReadError, WriteError};
+use dw_section::SetRefusal;
 use std::alloc::AllocError;
 use std::fmt;
 use std::io::ErrorKind;
@@ -26,6 +27,16 @@ pub enum Refused {
     NoEntry,
     /// The text of the type needs too many visits of types.
     TypeTooBig,
+    /// The entry has no attribute of the name.
+    NoAttribute,
+    /// The value of the first one is no number of at most 64 bits.
+    NotANumber,
+    /// The value stands in the abbreviation table.
+    InTable,
+    /// The bytes of the value don't hold the number.
+    DoesNotFit,
+    /// A reference would name no entry, or a DW_AT_sibling not what follows its entry.
+    BadTarget,
 }
 
 /// The text is the refusal's name, as `NoEntry`.
@@ -36,6 +47,26 @@ impl fmt::Display for Refused {
         match self {
             Refused::NoEntry => f.write_str("NoEntry"),
             Refused::TypeTooBig => f.write_str("TypeTooBig"),
+            Refused::NoAttribute => f.write_str("NoAttribute"),
+            Refused::NotANumber => f.write_str("NotANumber"),
+            Refused::InTable => f.write_str("InTable"),
+            Refused::DoesNotFit => f.write_str("DoesNotFit"),
+            Refused::BadTarget => f.write_str("BadTarget"),
+        }
+    }
+}
+
+impl From<SetRefusal> for Refused {
+    ghost from_gives = { λ e out. out ≡ refused_set e };
+
+    fn from(refusal: SetRefusal) -> Refused {
+        match refusal {
+            SetRefusal::NoEntry => Refused::NoEntry,
+            SetRefusal::NoAttribute => Refused::NoAttribute,
+            SetRefusal::NotANumber => Refused::NotANumber,
+            SetRefusal::InTable => Refused::InTable,
+            SetRefusal::DoesNotFit => Refused::DoesNotFit,
+            SetRefusal::BadTarget => Refused::BadTarget,
         }
     }
 }
@@ -46,7 +77,7 @@ pub enum ToolError {
     /// The sections are refused: the first fault.
     #[error("{0}")]
     Fault(Fault),
-    /// The request is refused. Of the commands `type` alone refuses one.
+    /// The request is refused. Of the commands `type` and `set` refuse one.
     #[error("refused {0}")]
     Refused(Refused),
     /// The reader of `.debug_info` failed.
@@ -91,6 +122,14 @@ impl From<TypeError> for ToolError {
             TypeError::TypeTooBig => ToolError::Refused(Refused::TypeTooBig),
             TypeError::NoMemory => ToolError::Memory,
         }
+    }
+}
+
+impl From<Refused> for ToolError {
+    ghost from_gives = { λ r out. out ≡ tool.Refused r };
+
+    fn from(refused: Refused) -> ToolError {
+        ToolError::Refused(refused)
     }
 }
 

@@ -3,9 +3,13 @@
 #![tactic(auto)]
 
 #[cfg(test)]
+mod checks;
+#[cfg(test)]
 mod common;
 #[cfg(test)]
 mod compilers;
+#[cfg(test)]
+mod edits;
 #[cfg(test)]
 mod examples;
 #[cfg(test)]
