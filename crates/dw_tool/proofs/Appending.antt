@@ -1,7 +1,7 @@
 -- Texts that are appended to an output, one after the other.
-use Rattle.std.proofs.Common.{◌≡◌, ◌∙◌, ℕ, zero, suc, ◌+◌, ◌-◌, ◌*◌, ◌/◌, ◌%◌, ◌^◌, ◌<◌, ◌≤◌, Bool, false, List, [], ◌∷◌, ◌++◌, length, take, drop, get_or, Option, Result, Ok, Err, inl, inr, refl, sym, subst, ap, append_assoc, append-nil, arith}
+use Rattle.std.proofs.Common.{◌≡◌, ◌∙◌, ℕ, zero, suc, ◌+◌, ◌-◌, ◌*◌, ◌/◌, ◌%◌, ◌^◌, ◌<◌, ◌≤◌, Bool, true, false, List, [], ◌∷◌, ◌++◌, length, take, drop, get_or, Option, Result, Ok, Err, inl, inr, refl, sym, subst, ap, append_assoc, append-nil, arith}
 use Rattle.std.proofs.Math.Seq.{take-suc}
-use Rattle.std.specs.Prelude.{IsErrAnd, cond}
+use Rattle.std.specs.Prelude.{IsErrAnd, IsTrue, ◌&&◌, cond}
 use Rattle.std.specs.Fmt.{digits, digits_onto, digit_glyph}
 use Rattle.std.specs.Io.KnownBytes.{Appends}
 use Rattle.std.proofs.lemmas.Bool.{cases_lt}
@@ -129,6 +129,10 @@ pub each_same : (f : ℕ → List ℕ) (xs : List ℕ) (i : ℕ) → i < length 
 each_same f xs i lt before own =
     let one : suc i ≡ i + 1 = omega arith in
     subst (λ (k : ℕ). each f (take k xs) ≡ take k xs) one (each_more f xs i lt ∙ (ap (λ (t : List ℕ). t ++ f (get_or xs i 0)) before ∙ (ap (λ (t : List ℕ). take i xs ++ t) own ∙ sym (take-suc xs i 0 lt))))
+
+pub both_true : (p q : Bool) → IsTrue (p && q) → IsTrue p × IsTrue q
+both_true true q h = (refl, h)
+both_true false q h = absurd cc
 
 -- ---- hexadecimal digits
 

@@ -187,6 +187,7 @@ fn push_target<W: Write>(
             Some(start) => push_offset(out, b" -> ", start, id.offset),
             None => unreachable!(),
         },
+        Err(RefFault::NotReference) => Ok(()),
         Err(fault) => out.append(unresolved(fault).as_bytes()),
     }
 }
@@ -225,6 +226,7 @@ fn push_stored_text<W: Write>(
     }
     match strings.text(section, from, attribute) {
         Ok(text) => push_behind_space(out, text),
+        Err(StrFault::NotText) => Ok(()),
         Err(fault) => out.append(no_text(fault).as_bytes()),
     }
 }

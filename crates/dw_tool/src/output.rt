@@ -35,6 +35,7 @@ impl<'a, W: Write> Output<'a, W> {
     /// Appends the bytes.
     ///
     /// Errors: the writer's fault. A beginning of the bytes in the buffer and these was written then.
+    #[inline(always)]
     pub fn append(&mut self, bytes: &[u8]) -> Result<(), WriteError>
         requires { IsClear self.old }
         ensures { Puts W.contents self.old self.new bytes.now result }

@@ -14,7 +14,21 @@ use std::io::Write;
 const HEXADECIMAL_DIGITS: [u8; 16] = *b"0123456789abcdef";
 
 /// Appends `0x` and the number in lower-case hexadecimal digits, with no leading zeros.
+#[inline(always)]
 pub fn push_hexadecimal<W: Write>(out: &mut Output<'_, W>, number: u128) -> Result<(), WriteError>
+    requires { IsClear out.old }
+    ensures { Puts W.contents out.old out.new (hexadecimal number) result }
+{
+    // Most numbers of entries have one digit.
+    if number < 16 {
+        out.append(&[b'0', b'x', hexadecimal_digit(number as u8)])
+    } else {
+        push_digits(out, number)
+    }
+}
+
+// The same of a number of any size.
+fn push_digits<W: Write>(out: &mut Output<'_, W>, number: u128) -> Result<(), WriteError>
     requires { IsClear out.old }
     ensures { Puts W.contents out.old out.new (hexadecimal number) result }
 {
@@ -24,7 +38,20 @@ pub fn push_hexadecimal<W: Write>(out: &mut Output<'_, W>, number: u128) -> Resu
 }
 
 /// Appends the number in decimal digits.
+#[inline(always)]
 pub fn push_decimal<W: Write>(out: &mut Output<'_, W>, number: u64) -> Result<(), WriteError>
+    requires { IsClear out.old }
+    ensures { Puts W.contents out.old out.new (decimal number) result }
+{
+    if number < 10 {
+        out.append(&[b'0' + number as u8])
+    } else {
+        push_decimal_digits(out, number)
+    }
+}
+
+// The same of a number of any size.
+fn push_decimal_digits<W: Write>(out: &mut Output<'_, W>, number: u64) -> Result<(), WriteError>
     requires { IsClear out.old }
     ensures { Puts W.contents out.old out.new (decimal number) result }
 {
@@ -62,10 +89,14 @@ pub fn push_signed<W: Write>(out: &mut Output<'_, W>, value: i64) -> Result<(), 
     requires { IsClear out.old }
     ensures { Puts W.contents out.old out.new (signed_decimal value) result }
 {
-    out.append(Buffer::new().format(value).as_bytes())
+    match u64::try_from(value) {
+        Ok(number) => push_decimal(out, number),
+        Err(_) => out.append(Buffer::new().format(value).as_bytes()),
+    }
 }
 
 /// Appends the tag as `DW_TAG_` and its name, or its number where it has no name.
+#[inline(always)]
 pub fn push_tag<W: Write>(out: &mut Output<'_, W>, tag: u64) -> Result<(), WriteError>
     requires { IsClear out.old }
     ensures { Puts W.contents out.old out.new (tag_text tag) result }
@@ -75,6 +106,7 @@ pub fn push_tag<W: Write>(out: &mut Output<'_, W>, tag: u64) -> Result<(), Write
 }
 
 /// Appends the attribute as `DW_AT_` and its name, or its number where it has no name.
+#[inline(always)]
 pub fn push_attribute<W: Write>(out: &mut Output<'_, W>, attribute: u64) -> Result<(), WriteError>
     requires { IsClear out.old }
     ensures { Puts W.contents out.old out.new (attribute_text attribute) result }
@@ -106,6 +138,7 @@ pub fn push_block<W: Write>(out: &mut Output<'_, W>, bytes: &[u8]) -> Result<(),
     push_spaced_digits(out, bytes)
 }
 
+#[inline(always)]
 fn push_name<W: Write>(
     out: &mut Output<'_, W>,
     name: Option<&str>,
@@ -190,6 +223,7 @@ fn push_each_digits<W: Write>(out: &mut Output<'_, W>, bytes: &[u8]) -> Result<(
     Ok(())
 }
 
+#[inline(always)]
 fn push_each_escaped<W: Write>(out: &mut Output<'_, W>, bytes: &[u8]) -> Result<(), WriteError>
     requires { IsClear out.old }
     ensures { Puts W.contents out.old out.new (each escaped bytes.now) result }
@@ -201,25 +235,22 @@ fn push_each_escaped<W: Write>(out: &mut Output<'_, W>, bytes: &[u8]) -> Result<
 }
 
 // Whether all bytes are written as they are, as those of nearly every name.
+// It looks at each byte, without a branch, so that the compiler can look at many at once.
 fn are_plain(bytes: &[u8]) -> bool
     ensures { IsTrue result → (each escaped bytes.now ≡ bytes.now) }
 {
+    let mut plain = true;
     for byte in bytes {
-        if !is_plain(*byte) {
-            return false;
-        }
+        plain &= is_plain(*byte);
     }
-    true
+    plain
 }
 
+#[inline(always)]
 fn is_plain(byte: u8) -> bool
     ensures { IsTrue result → (escaped byte ≡ byte ∷ []) }
 {
-    match byte {
-        b'"' | b'\\' => false,
-        0x20..=0x7e => true,
-        _ => false,
-    }
+    (byte >= 0x20) & (byte <= 0x7e) & (byte != b'"') & (byte != b'\\')
 }
 
 fn push_one_by_one<W: Write>(out: &mut Output<'_, W>, bytes: &[u8]) -> Result<(), WriteError>
