@@ -8,10 +8,11 @@ use Rattle.clap.specs.Walk as w
 use Rattle.clap.specs.Walk.{Held, Names, Outcome, Row, Rule, Step, Text, Waiting, Walk, arg_by_id, arg_by_index, arg_by_long, arg_by_short, at_row, attached_value, bundle_met, bundle_step, finished, first_of, is_pending, long_met, long_or_other, nothing_held, option_met, plain_word, positional_held, reacted, settled, settled_rows, short_met, short_or_plain, subcommand_met, subcommand_or_other, takes_several, takes_values, used, used_by_id, walk, walk_from, walked, with_default, with_values, without, word_met, after_flag, after_step, flag_met, has_row, option_word, to_positional, default_rows, rows_after}
 use Rattle.clap.specs.Kinds.{Kinds, check_kinds, or_else}
 use Rattle.clap.specs.Takes.{is_given}
+use Rattle.clap.specs.Words.{App, with_rule}
 use Rattle.clap.specs.Faults.{bundle_step_fault, defaults_fault, check_fault, level_fault, flag_word_fault, flags_fault, long_fault, option_fault, other_fault, positional_fault, react_fault, settle_fault, short_fault, step_fault, turn_fault, use_fault, walk_fault, word_fault}
 use Rattle.clap.specs.Simple.{Shape, built_leaf, filled, help_rule, inherited, marked_built, with_index, with_leaf_noted}
 use Rattle.clap.specs.declared.error.kind.ErrorKind.TheVariants as kind
-use Rattle.dw_line.specs.Line.{HasPaths, finder, flag, optional_path, path_option, word, program, subcommand}
+use Rattle.dw_line.specs.Line.{HasPaths, IsGiven, flag, optional_path, path_option, word, program, subcommand}
 use Rattle.clap.specs.declared.parser.matches.ValueSource.{ValueSource}
 use Rattle.clap.specs.declared.builder.value_parser.Reading.{Reading}
 
@@ -304,12 +305,8 @@ module _ (s : Shape) (good : AllGood s.rules) (words : List Text) (whole : level
 -- ---- the program's subcommands
 
 -- a subcommand as the parser builds it
-abbrev pub built_sub : Text → Shape
-built_sub name = built_leaf (inherited (with_leaf_noted (marked_built program.top)) (subcommand name).top)
-
--- and `find`
-abbrev pub built_find : Shape
-built_find = built_leaf (inherited (with_leaf_noted (marked_built program.top)) finder.top)
+abbrev pub built_as : App → Shape
+built_as app = built_leaf (inherited (with_leaf_noted (marked_built program.top)) app.top)
 
 good_path : (name : Text) (i : ℕ) → Good (with_index i (filled (path_option name)))
 good_path name i again [] rows e f = let bad : kind.InvalidValue ∷ [] ≡ [] = e in cc
@@ -331,39 +328,52 @@ good_help : (i : ℕ) → Good (with_index i (filled help_rule))
 good_help i again [] rows e f = f
 good_help i again (v ∷ vs) rows e f = f
 
-all_good_words : AllGood built_find.rules
-all_good_words =
-    (good_path (codes "info") 1, (good_path (codes "abbrev") 1, (good_optional (codes "str") 1, (good_optional (codes "line-str") 1, (good_optional (codes "str-offsets") 1, (good_flag (codes "big") 1, (good_flag (codes "v4") 1, (good_word (codes "name") 1, (good_help 2, tt)))))))))
+-- the options that each subcommand has, before its own arguments
+after_options : (own : List Rule) → AllGood own
+    → AllGood (with_index 1 (filled (path_option (codes "info"))) ∷ with_index 1 (filled (path_option (codes "abbrev"))) ∷
+    with_index 1 (filled (optional_path (codes "str"))) ∷ with_index 1 (filled (optional_path (codes "line-str"))) ∷
+    with_index 1 (filled (optional_path (codes "str-offsets"))) ∷ with_index 1 (filled (flag (codes "big"))) ∷ with_index 1 (filled (flag (codes "v4"))) ∷ own)
+after_options own good =
+    (good_path (codes "info") 1, (good_path (codes "abbrev") 1, (good_optional (codes "str") 1, (good_optional (codes "line-str") 1,
+    (good_optional (codes "str-offsets") 1, (good_flag (codes "big") 1, (good_flag (codes "v4") 1, good)))))))
 
-all_good : (name : Text) → AllGood (built_sub name).rules
-all_good name = (good_path (codes "info") 1, (good_path (codes "abbrev") 1, (good_optional (codes "str") 1, (good_optional (codes "line-str") 1, (good_optional (codes "str-offsets") 1, (good_flag (codes "big") 1, (good_flag (codes "v4") 1, (good_help 1, tt))))))))
+-- the arguments that are wanted were given: none of them is missing
+module _ (words : List Text) (s : Shape) (good : AllGood s.rules) (whole : level_fault s [] nothing_held words false [] ≡ []) where
+  abbrev rows : List Row
+  rows = rows_after s.rules [] words
 
-pub has_paths : (name : Text) (words : List Text) → level_fault (built_sub name) [] nothing_held words false [] ≡ [] → HasPaths (rows_after (built_sub name).rules [] words)
-has_paths name words whole =
-    let s : Shape = built_sub name in
-    let rows : List Row = rows_after s.rules [] words in
-    let full : Full rows = all_full s (all_good name) words whole in
-    let wants_info : Bool = not (is_given (codes "info") rows) in
-    let wants_abbrev : Bool = not (is_given (codes "abbrev") rows) in
-    let none : (wants_info || (wants_abbrev || false)) ≡ false = none_wanted _ (checked s (all_good name) words whole) in
-    record {
-      info = given_value (codes "info") rows full (not_false _ (left_false wants_info _ none));
-      abbreviations = given_value (codes "abbrev") rows full (not_false _ (left_false wants_abbrev _ (right_false wants_info _ none)));
-    }
+  is_there : (id : Text) → not (is_given id rows) ≡ false → IsGiven rows id
+  is_there id given = given_value id rows (all_full s good words whole) (not_false _ given)
 
-pub find_has : (words : List Text) → level_fault built_find [] nothing_held words false [] ≡ []
-    → HasPaths (rows_after built_find.rules [] words) × (is_some (first_of (codes "name") (rows_after built_find.rules [] words)) ≡ true)
-find_has words whole =
-    let rows : List Row = rows_after built_find.rules [] words in
-    let full : Full rows = all_full built_find all_good_words words whole in
-    let wants_info : Bool = not (is_given (codes "info") rows) in
-    let wants_abbrev : Bool = not (is_given (codes "abbrev") rows) in
-    let wants_name : Bool = not (is_given (codes "name") rows) in
-    let none : (wants_info || (wants_abbrev || (wants_name || false))) ≡ false = none_wanted _ (checked built_find all_good_words words whole) in
-    let later = right_false wants_info _ none in (
-      record {
-        info = given_value (codes "info") rows full (not_false _ (left_false wants_info _ none));
-        abbreviations = given_value (codes "abbrev") rows full (not_false _ (left_false wants_abbrev _ later));
-      },
-      given_value (codes "name") rows full (not_false _ (left_false wants_name _ (right_false wants_abbrev _ later))),
-    )
+  paths_there : (others : Bool) → (not (is_given (codes "info") rows) || (not (is_given (codes "abbrev") rows) || others)) ≡ false → HasPaths rows × (others ≡ false)
+  paths_there others none =
+      let later = right_false (not (is_given (codes "info") rows)) _ none in
+      (record {
+        info = is_there (codes "info") (left_false (not (is_given (codes "info") rows)) _ none);
+        abbreviations = is_there (codes "abbrev") (left_false (not (is_given (codes "abbrev") rows)) _ later);
+      }, right_false (not (is_given (codes "abbrev") rows)) _ later)
+
+  word_there : (id : Text) (others : Bool) → (not (is_given id rows) || others) ≡ false → IsGiven rows id × (others ≡ false)
+  word_there id others none = (is_there id (left_false (not (is_given id rows)) _ none), right_false (not (is_given id rows)) _ none)
+
+-- what a subcommand has on words that it takes
+abbrev pub GivesPaths : Shape → Type 0
+GivesPaths s = (words : List Text) → level_fault s [] nothing_held words false [] ≡ [] → HasPaths (rows_after s.rules [] words)
+
+abbrev pub GivesWord : Shape → Text → Type 0
+GivesWord s id = (words : List Text) → level_fault s [] nothing_held words false [] ≡ [] → HasPaths (rows_after s.rules [] words) × IsGiven (rows_after s.rules [] words) id
+
+-- a subcommand without arguments of its own
+pub plain_has : (name : Text) → GivesPaths (built_as (subcommand name))
+plain_has name words whole =
+    let s : Shape = built_as (subcommand name) in
+    let good : AllGood s.rules = after_options (with_index 1 (filled help_rule) ∷ []) (good_help 1, tt) in
+    (paths_there words s good whole _ (none_wanted _ (checked s good words whole))).0
+
+-- a subcommand with one word
+pub word_has : (name id : Text) → GivesWord (built_as (with_rule (subcommand name) (word id))) id
+word_has name id words whole =
+    let s : Shape = built_as (with_rule (subcommand name) (word id)) in
+    let good : AllGood s.rules = after_options (with_index 1 (filled (word id)) ∷ with_index 2 (filled help_rule) ∷ []) (good_word id 1, (good_help 2, tt)) in
+    let paths = paths_there words s good whole _ (none_wanted _ (checked s good words whole)) in
+    (paths.0, (word_there words s good whole id _ paths.1).0)

@@ -1,3 +1,4 @@
 pub mod Filled
 pub mod Helpless
+pub mod Numbers
 pub mod Subcommands

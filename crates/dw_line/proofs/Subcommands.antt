@@ -1,5 +1,5 @@
 -- Which subcommand a line meets.
-use Rattle.std.proofs.Common.{◌≡◌, ◌∙◌, Bool, true, false, List, [], ◌∷◌, Option, Some, None, is_some, refl, sym, ap, inl, inr, true≢false}
+use Rattle.std.proofs.Common.{◌≡◌, ◌∙◌, Bool, true, false, List, [], ◌∷◌, ◌++◌, Option, Some, None, is_some, refl, sym, ap, inl, inr, true≢false}
 use Rattle.std.specs.Prelude.{codes, find, option_map}
 use Rattle.std.specs.Option.{option_map_or}
 use Rattle.clap.specs.Words.{Row, Shape, Text, subcommand_of}
@@ -10,12 +10,17 @@ use Rattle.clap.specs.Simple.{argument_words, built, built_leaf, entered, help_s
 use Rattle.std.specs.Str.{bytes_eq}
 use Rattle.std.proofs.lemmas.Slice.Eq.{bytes_eq-Decides}
 use Rattle.dw_line.proofs.Helpless.{IsNotHelp, walk_stops}
-use Rattle.dw_line.specs.Line.{HasPaths, HasWord, IsName, Meets, program, refusals}
-use Rattle.dw_line.proofs.Filled.{built_sub, built_find, first_none, has_paths, find_has, second_none}
+use Rattle.dw_line.specs.Line.{HasPaths, HasWords, IsOneOf, Meets, finder, names, program, refusals, subcommand, type_finder}
+use Rattle.dw_line.proofs.Filled.{built_as, first_none, plain_has, second_none, word_has}
 
--- the subcommand has its paths, and its word, on words that it takes
+-- the subcommand is one of the program's, and has its paths and words on words that it takes
 abbrev Gives : Shape → Type 0
-Gives s = (words : List Text) → level_fault s [] nothing_held words false [] ≡ [] → HasPaths (rows_after s.rules [] words) × HasWord s.name (rows_after s.rules [] words)
+Gives s = IsOneOf names s.name
+    × ((words : List Text) → level_fault s [] nothing_held words false [] ≡ [] → HasPaths (rows_after s.rules [] words) × HasWords s.name (rows_after s.rules [] words))
+
+abbrev AllGive : List Shape → Type 0
+AllGive [] = Unit {0}
+AllGive (s ∷ rest) = Gives s × AllGive rest
 
 -- why the words after a subcommand aren't taken
 abbrev faults_of : List Shape → Text × List Text → Kinds
@@ -35,29 +40,59 @@ is_help word e = go (bytes_eq (codes "help") word) refl
     go false is = let bad : false ≡ true = rw is at e in cc
 
 -- one of the commands answers, and it is not the help that the parser adds
-one_of_three : (s t u : Shape) (p : Text × List Text) (found : Option (Text × List Row))
-    → found ≡ option_map (λ x. rows_at x p.1) (find (λ x. answers_to p.0 (label_of x)) (s ∷ t ∷ u ∷ built_help ∷ []))
-    → is_some found ≡ true → faults_of (s ∷ t ∷ u ∷ built_help ∷ []) p ≡ [] → IsNotHelp (Some p) → IsName s.name → IsName t.name → IsName u.name → Gives s → Gives t → Gives u → Meets found
-one_of_three s t u p found is some taken helpless first second third of_first of_second of_third =
-    go (answers_to p.0 (label_of s)) (answers_to p.0 (label_of t)) (answers_to p.0 (label_of u)) (answers_to p.0 (label_of built_help)) refl refl refl refl
+one_of : (subs : List Shape) (p : Text × List Text) (found : Option (Text × List Row))
+    → found ≡ option_map (λ x. rows_at x p.1) (find (λ x. answers_to p.0 (label_of x)) (subs ++ built_help ∷ []))
+    → is_some found ≡ true → faults_of (subs ++ built_help ∷ []) p ≡ [] → IsNotHelp (Some p) → AllGive subs → Meets found
+one_of [] p found is some taken helpless give = go (answers_to p.0 (label_of built_help)) refl
   where
-    go : (a b c d : Bool) → answers_to p.0 (label_of s) ≡ a → answers_to p.0 (label_of t) ≡ b → answers_to p.0 (label_of u) ≡ c → answers_to p.0 (label_of built_help) ≡ d → Meets found
-    go true b c d e f g h = let has = of_first p.1 (rw e at taken) in record { name = s.name; rows = (rows_at s p.1).1; matched = is ∙ rw e refl; known = first; paths = has.0; word = has.1 }
-    go false true c d e f g h = let has = of_second p.1 (rw (e, f) at taken) in record { name = t.name; rows = (rows_at t p.1).1; matched = is ∙ rw (e, f) refl; known = second; paths = has.0; word = has.1 }
-    go false false true d e f g h = let has = of_third p.1 (rw (e, f, g) at taken) in record { name = u.name; rows = (rows_at u p.1).1; matched = is ∙ rw (e, f, g) refl; known = third; paths = has.0; word = has.1 }
-    go false false false true e f g h = absurd (true≢false (sym (is_help p.0 h) ∙ helpless))
-    go false false false false e f g h = let none : found ≡ None = is ∙ rw (e, f, g, h) refl in absurd (true≢false (sym some ∙ ap is_some none))
+    go : (t : Bool) → answers_to p.0 (label_of built_help) ≡ t → Meets found
+    go true h = absurd (true≢false (sym (is_help p.0 h) ∙ helpless))
+    go false h = let none : found ≡ None = is ∙ rw h refl in absurd (true≢false (sym some ∙ ap is_some none))
+one_of (s ∷ rest) p found is some taken helpless give =
+    go (answers_to p.0 (label_of s)) refl (λ later fine. one_of rest p found later some fine helpless give.1)
+  where
+    go : (t : Bool) → answers_to p.0 (label_of s) ≡ t
+        → (found ≡ option_map (λ x. rows_at x p.1) (find (λ x. answers_to p.0 (label_of x)) (rest ++ built_help ∷ [])) → faults_of (rest ++ built_help ∷ []) p ≡ [] → Meets found)
+        → Meets found
+    go true e later =
+        let has = give.0.1 p.1 (rw e at taken) in
+        record { name = s.name; rows = (rows_at s p.1).1; matched = is ∙ rw e refl; known = give.0.0; paths = has.0; words = has.1 }
+    go false e later = later (rw e at is) (rw e at taken)
 
--- another subcommand wants no word
-gives_paths : (name : Text) → bytes_eq name (codes "find") ≡ false → Gives (built_sub name)
-gives_paths name other words whole = (has_paths name words whole, λ is. absurd (true≢false (sym (ap (λ (t : Text). bytes_eq t (codes "find")) is) ∙ other)))
+-- a name is another one
+differs : (name other : Text) → bytes_eq name other ≡ false → name ≡ other → ⊥
+differs name other e is = true≢false (sym ((bytes_eq-Decides name other).1 is) ∙ e)
+
+gives_show : Gives (built_as (subcommand (codes "show")))
+gives_show = (inl refl, λ words whole. (plain_has (codes "show") words whole, record {
+  find = λ is. absurd (differs (codes "show") (codes "find") refl is);
+  type_of = λ is. absurd (differs (codes "show") (codes "type") refl is);
+}))
+
+gives_find : Gives (built_as finder)
+gives_find = (inr (inl refl), λ words whole. let has = word_has (codes "find") (codes "name") words whole in (has.0, record {
+  find = λ is. has.1;
+  type_of = λ is. absurd (differs (codes "find") (codes "type") refl is);
+}))
+
+gives_type : Gives (built_as type_finder)
+gives_type = (inr (inr (inl refl)), λ words whole. let has = word_has (codes "type") (codes "offset") words whole in (has.0, record {
+  find = λ is. absurd (differs (codes "type") (codes "find") refl is);
+  type_of = λ is. has.1;
+}))
+
+gives_copy : Gives (built_as (subcommand (codes "copy")))
+gives_copy = (inr (inr (inr (inl refl))), λ words whole. (plain_has (codes "copy") words whole, record {
+  find = λ is. absurd (differs (codes "copy") (codes "find") refl is);
+  type_of = λ is. absurd (differs (codes "copy") (codes "type") refl is);
+}))
 
 entered_one : (stop : Option (Text × List Text)) (found : Option (Text × List Row)) → found ≡ entered (built program) stop
     → is_some found ≡ true → entered_fault (built program) stop ≡ [] → IsNotHelp stop → Meets found
 entered_one None found is some taken helpless = absurd (true≢false (sym some ∙ ap is_some is))
 entered_one (Some p) found is some taken helpless =
-    one_of_three (built_sub (codes "show")) built_find (built_sub (codes "copy")) p found is some taken helpless (inl refl) (inr (inl refl)) (inr (inr refl))
-    (gives_paths (codes "show") refl) (λ words whole. let has = find_has words whole in (has.0, λ e. has.1)) (gives_paths (codes "copy") refl)
+    one_of (built_as (subcommand (codes "show")) ∷ built_as finder ∷ built_as type_finder ∷ built_as (subcommand (codes "copy")) ∷ []) p found is some taken helpless
+    (gives_show, (gives_find, (gives_type, (gives_copy, tt))))
 
 -- a subcommand that was met is one of the program's, and has its paths
 pub meets : (words : List Text) (found : Option (Text × List Row)) → found ≡ subcommand_of program words → is_some found ≡ true → refusals words ≡ [] → Meets found

@@ -1,8 +1,8 @@
 -- The command line: what the program takes, and what a line says.
-use Rattle.std.specs.Prelude.{◌≡◌, ◌≢◌, ◌⊎◌, ℕ, Bool, true, List, Option, Some, is_some, option_map, codes, false, if◌then◌else◌, Result, Ok, Err, IsErrAnd}
+use Rattle.std.specs.Prelude.{◌≡◌, ◌≢◌, ◌⊎◌, ℕ, Bool, true, List, [], ◌∷◌, Option, Some, None, is_some, option_map, codes, false, if◌then◌else◌, Result, Ok, Err, IsErrAnd}
 use Rattle.std.specs.IoError.{error_kind}
 use Rattle.std.specs.declared.io.Error.{Error as IoError}
-use Rattle.std.specs.Option.{option_map_or}
+use Rattle.std.specs.Option.{option_and_then, option_map_or}
 use Rattle.std.specs.Borrow.{Bor}
 use Rattle.std.specs.Str.{bytes_eq}
 use Rattle.clap.specs.Words.{App, Row, Rule, Text, first_of, new_app, new_rule, subcommand_of, with_rule, with_subcommand}
@@ -25,7 +25,11 @@ use Rattle.dw_tool.specs.declared.failure.Failure.TheVariants as failure
 use Rattle.dw_tool.specs.Failure.{FailsAs}
 use Rattle.dw_line.specs.declared.outcome.Line.{Line}
 use Rattle.dw_line.specs.declared.outcome.LineError.{LineError}
-use Rattle.dw_line.specs.declared.outcome.LineError.TheVariants.{Parse, Memory}
+use Rattle.dw_line.specs.declared.outcome.LineError.TheVariants as outcome
+use Rattle.dw_line.specs.declared.word.Argument.{Argument}
+use Rattle.dw_line.specs.declared.word.Argument.TheVariants.{Offset}
+use Rattle.dw_line.specs.declared.word.BadWord.{BadWord}
+use Rattle.dw_line.specs.Words.{offset_in}
 
 -- ---- what the program takes
 
@@ -73,6 +77,10 @@ subcommand name = with_both_flags (with_rule (with_text_sections (with_entry_sec
 abbrev pub finder : App
 finder = with_rule (subcommand (codes "find")) (word (codes "name"))
 
+-- `type`, with the offset of an entry
+abbrev pub type_finder : App
+type_finder = with_rule (subcommand (codes "type")) (word (codes "offset"))
+
 -- the program without its subcommands: one of them has to be there
 abbrev pub bare_program : App
 bare_program = on_top (λ s. record s {
@@ -80,26 +88,47 @@ bare_program = on_top (λ s. record s {
   subcommand_required = true;
 }) (new_app (codes "dwarf"))
 
--- the subcommands that write text
+-- the subcommands that write text of the entries
 abbrev pub showing_program : App
 showing_program = with_subcommand (with_subcommand bare_program (subcommand (codes "show")).top) finder.top
 
+-- and those that write what is derived from them
+abbrev pub asking_program : App
+asking_program = with_subcommand showing_program type_finder.top
+
 abbrev pub program : App
-program = with_subcommand showing_program (subcommand (codes "copy")).top
+program = with_subcommand asking_program (subcommand (codes "copy")).top
 
 -- ---- what a line says
+
+-- the offset that was given, where its word is one
+abbrev pub offset_given : List Row → Option ℕ
+offset_given rows = option_and_then offset_in (first_of (codes "offset") rows)
 
 -- the subcommand of this name, with what its matches give it
 abbrev pub IsCommand : Text → List Row → Command → Type 0
 IsCommand name rows command.Show = name ≡ codes "show"
 IsCommand name rows (command.Find wanted) = (name ≡ codes "find") × (first_of (codes "name") rows ≡ Some wanted.now)
-IsCommand name rows (command.TypeOf offset) = ⊥
+IsCommand name rows (command.TypeOf offset) = (name ≡ codes "type") × (offset_given rows ≡ Some offset)
 IsCommand name rows command.Check = ⊥
 IsCommand name rows (command.SetNumber offset attribute value) = ⊥
 IsCommand name rows command.Copy = name ≡ codes "copy"
 
-abbrev pub IsName : Text → Type 0
-IsName name = (name ≡ codes "show") ⊎ ((name ≡ codes "find") ⊎ (name ≡ codes "copy"))
+-- this word was given for an argument that reads words so, and it isn't one of those
+abbrev pub IsOutside : {X : Type 0} → (Text → Option X) → Text → List Row → Text → Type 0
+IsOutside read id rows word = (first_of id rows ≡ Some word) × (read word ≡ None)
+
+-- the subcommand of this name has the argument, and this word of it is no word of the grammar
+abbrev pub IsBadAt : Argument → Text → List Row → Text → Type 0
+IsBadAt Offset name rows word = (name ≡ codes "type") × IsOutside offset_in (codes "offset") rows word
+
+-- the names of the subcommands
+abbrev pub names : List Text
+names = codes "show" ∷ codes "find" ∷ codes "type" ∷ codes "copy" ∷ []
+
+abbrev pub IsOneOf : List Text → Text → Type 0
+IsOneOf [] name = ⊥
+IsOneOf (known ∷ rest) name = (name ≡ known) ⊎ IsOneOf rest name
 
 -- a flag that was given has the value `true`
 abbrev pub is_set : Option Text → Bool
@@ -135,42 +164,58 @@ pub record SaysBy (matches : Option (Text × List Row)) (line : Line) : Type 0 w
 abbrev pub Says : List Text → Line → Type 0
 Says words line = SaysBy (subcommand_of program words) line
 
+-- the matches of a subcommand have this word, and it is no word of the grammar
+pub record IsBadBy (matches : Option (Text × List Row)) (bad : BadWord) : Type 0 where
+  pub name : Text
+  pub rows : List Row
+  pub matched : matches ≡ Some (name, rows)
+  pub outside : IsBadAt bad.argument name rows bad.word.now
+
+-- the argument was given
+abbrev pub IsGiven : List Row → Text → Type 0
+IsGiven rows id = is_some (first_of id rows) ≡ true
+
 -- the options that have to be there have values
 pub record HasPaths (rows : List Row) : Type 0 where
-  pub info : is_some (first_of (codes "info") rows) ≡ true
-  pub abbreviations : is_some (first_of (codes "abbrev") rows) ≡ true
+  pub info : IsGiven rows (codes "info")
+  pub abbreviations : IsGiven rows (codes "abbrev")
 
--- `find` has the name that is looked for
-abbrev pub HasWord : Text → List Row → Type 0
-HasWord name rows = name ≡ codes "find" → is_some (first_of (codes "name") rows) ≡ true
+-- the subcommand of this name has the words that it wants
+pub record HasWords (name : Text) (rows : List Row) : Type 0 where
+  pub find : name ≡ codes "find" → IsGiven rows (codes "name")
+  pub type_of : name ≡ codes "type" → IsGiven rows (codes "offset")
 
--- one of the subcommands was met, with the options and the word that it wants
+-- one of the subcommands was met, with the options and the words that it wants
 pub record Meets (matches : Option (Text × List Row)) : Type 0 where
   pub name : Text
   pub rows : List Row
   pub matched : matches ≡ Some (name, rows)
-  pub known : IsName name
+  pub known : IsOneOf names name
   pub paths : HasPaths rows
-  pub word : HasWord name rows
+  pub words : HasWords name rows
 
 -- why the words aren't taken: the kinds of the first step that fails, none where they are taken
 abbrev pub refusals : List Text → Kinds
 refusals words = fault_of program words
 
--- the parser's own reason is told, and it isn't want of memory
-abbrev pub IsLineError : Kinds → LineError → Type 0
-IsLineError kinds (Parse e) = IsAmong (kind_of e) kinds × (kind_of e ≢ OutOfMemory)
-IsLineError kinds Memory = Unit {0}
+-- Why the words are no line. The parser's own reason is told where it doesn't take them, and it isn't want of memory.
+-- Where it takes them, one of them is no word of the grammar.
+abbrev pub IsLineError : List Text → LineError → Type 0
+IsLineError words (outcome.Parse e) = IsAmong (kind_of e) (refusals words) × (kind_of e ≢ OutOfMemory)
+IsLineError words (outcome.BadWord bad) = (refusals words ≡ []) × IsBadBy (subcommand_of program words) bad
+IsLineError words outcome.Memory = Unit {0}
 
 -- a parser's error as one of a line
 abbrev pub Converts : Error → LineError → Type 0
-Converts e (Parse f) = (f ≡ e) × (kind_of e ≢ OutOfMemory)
-Converts e Memory = kind_of e ≡ OutOfMemory
+Converts e (outcome.Parse f) = (f ≡ e) × (kind_of e ≢ OutOfMemory)
+Converts e (outcome.BadWord bad) = ⊥
+Converts e outcome.Memory = kind_of e ≡ OutOfMemory
 
 -- a mistake of the user, want of memory aside
 abbrev pub IsMistake : LineError → Type 0
-IsMistake (Parse e) = kind_of e ≡ ValueValidation
-IsMistake Memory = Unit {0}
+IsMistake (outcome.Parse e) = kind_of e ≡ ValueValidation
+IsMistake (outcome.BadWord bad) = ⊥
+IsMistake outcome.Memory = Unit {0}
 
 -- ---- how the program ends with words that aren't taken
 
@@ -185,6 +230,7 @@ EndsHelp (Err e) ended = IsErrAnd ended (FailsAs (error_kind e) failure.Output)
 
 -- The exit status, or why the program gives up, by whether the parser's text was printed: after a mistake 2 in any case.
 abbrev pub Ends : LineError → Result (Unit {0}) IoError → Result ℕ Failure → Type 0
-Ends (Parse e) printed ended = (IsHelp (kind_of e) → EndsHelp printed ended)
+Ends (outcome.Parse e) printed ended = (IsHelp (kind_of e) → EndsHelp printed ended)
     × ((kind_of e ≢ DisplayHelp) → (kind_of e ≢ DisplayVersion) → ended ≡ Ok 2)
-Ends Memory printed ended = ended ≡ Err failure.Memory
+Ends (outcome.BadWord bad) printed ended = ended ≡ Ok 2
+Ends outcome.Memory printed ended = ended ≡ Err failure.Memory

@@ -1,14 +1,17 @@
 //! The reading of the command line.
-ghost use Rattle.std.specs.Prelude.{◌≡◌, ◌≢◌, IfErr, IfOk, [], false, map, option_map, is_some, true};
+ghost use Rattle.std.specs.Prelude.{◌≡◌, ◌≢◌, IfErr, IfOk, Some, codes, [], false, map, option_map, is_some, true};
 ghost use Rattle.clap.specs.Words.{app_of, first_of, found_of, rows_of, rule_of, subcommand_of, subcommand_rows_of};
 ghost use Rattle.clap.specs.Values.{kind_of};
 ghost use Rattle.clap.specs.declared.builder.command.Command.TheViews.{out-Command};
 ghost use Rattle.clap.specs.declared.error.kind.ErrorKind.TheVariants.{ValueValidation};
 ghost use Rattle.std.specs.declared.io.ErrorKind.TheVariants.{OutOfMemory};
 ghost use Rattle.dw_line.specs.declared.outcome.LineError.TheVariants.{Memory};
-ghost use Rattle.dw_line.specs.Line.{IsMistake, IsName, IsCommand, HasWord, Meets, IsLineError, Says, SaysBy, finder, flag, is_set, optional_path, order_by, path_option, program, refusals, showing_program, subcommand, versions_by, word, with_both_flags, with_entry_sections, with_text_sections};
+ghost use Rattle.dw_line.specs.declared.word.Argument.TheVariants.{Offset};
+ghost use Rattle.dw_line.specs.Words.{offset_in};
+ghost use Rattle.dw_line.specs.Line.{IsBadAt, IsBadBy, IsMistake, IsOneOf, IsOutside, IsCommand, HasWords, IsGiven, Meets, IsLineError, Says, SaysBy, asking_program, finder, flag, names, offset_given, type_finder, is_set, optional_path, order_by, path_option, program, refusals, showing_program, subcommand, versions_by, word, with_both_flags, with_entry_sections, with_text_sections};
 
 use crate::outcome::{Line, LineError};
+use crate::word::{Argument, BadWord, offset_of};
 use clap::error::ErrorKind;
 use clap::{Arg, ArgAction, ArgMatches};
 use dw_header::Versions;
@@ -17,19 +20,19 @@ use dw_tool::command::Command;
 use std::alloc::{AllocError, Global};
 use std::io;
 
-/// Reads the words after the program's name: one of the subcommands `show`, `find NAME` and `copy`, each with
+/// Reads the words after the program's name: one of the subcommands `show`, `find NAME`, `type OFFSET` and `copy`, each with
 /// `--info FILE` and `--abbrev FILE`, with `--str FILE`, `--line-str FILE`, `--str-offsets FILE` and the
 /// flags `--big` and `--v4` where they are wanted. Options come after the subcommand, each once.
 ///
-/// Errors: `Parse` where the words aren't taken or ask for help, `Memory` where a growth was
-/// refused.
-pub fn line<'a>(alloc: Global, words: &'a [&'a str]) -> Result<Line<'a>, LineError>
+/// Errors: `Parse` where the words aren't taken or ask for help, `BadWord` where they are taken but OFFSET is no
+/// offset as `offset_of` reads it, `Memory` where a growth was refused.
+pub fn line<'a>(alloc: Global, words: &'a [&'a str]) -> Result<Line<'a>, LineError<'a>>
     ensures says { IfOk result (Says (map (λ word. word.now) words.entry.now)) }
     ensures taken { IfOk result (λ _. refusals (map (λ word. word.now) words.entry.now) ≡ []) }
-    ensures refused { IfErr result (IsLineError (refusals (map (λ word. word.now) words.entry.now))) }
+    ensures refused { IfErr result (IsLineError (map (λ word. word.now) words.entry.now)) }
 {
     let matches = matches_of(alloc, words)?;
-    Ok(read(&matches))
+    Ok(read(&matches)?)
 }
 
 /// Why words that could not be read are no command line. `kind` is that of the error with which
@@ -38,7 +41,7 @@ pub fn line<'a>(alloc: Global, words: &'a [&'a str]) -> Result<Line<'a>, LineErr
 ///
 /// `Parse` with a mistake for any kind but `OutOfMemory`; `Memory` for that, and where the text of
 /// the mistake was refused memory.
-pub fn unreadable(alloc: Global, kind: io::ErrorKind) -> LineError
+pub fn unreadable(alloc: Global, kind: io::ErrorKind) -> LineError<'static>
     ensures memory { kind ≡ OutOfMemory → result ≡ Memory }
     ensures mistake { kind ≢ OutOfMemory → IsMistake result }
 {
@@ -61,12 +64,12 @@ fn not_text(alloc: Global) -> Result<clap::Error, AllocError>
     )
 }
 
-fn matches_of<'a>(alloc: Global, words: &'a [&'a str]) -> Result<ArgMatches<'a>, LineError>
+fn matches_of<'a>(alloc: Global, words: &'a [&'a str]) -> Result<ArgMatches<'a>, LineError<'a>>
     ensures meets { IfOk result (λ m. Meets (subcommand_rows_of m)) }
     ensures exact { IfOk result (λ m.
         subcommand_rows_of m ≡ subcommand_of program (map (λ word. word.now) words.entry.now)) }
     ensures taken { IfOk result (λ _. refusals (map (λ word. word.now) words.entry.now) ≡ []) }
-    ensures refused { IfErr result (IsLineError (refusals (map (λ word. word.now) words.entry.now))) }
+    ensures refused { IfErr result (IsLineError (map (λ word. word.now) words.entry.now)) }
 {
     let program = parser(alloc)?;
     Ok(program.try_get_matches_from(words)?)
@@ -77,10 +80,19 @@ fn parser<'a>(alloc: Global) -> Result<clap::Command<'a>, AllocError>
     ensures globals { IfOk result (λ r. (out-Command r).has_globals ≡ false) }
 {
     let copy = subcommand_parser(alloc, "copy", "Writes the bytes of .debug_info back")?;
-    showing_parser(alloc)?.subcommand(copy)
+    asking_parser(alloc)?.subcommand(copy)
 }
 
-// The subcommands that write text.
+// And those that write what is derived from the entries.
+fn asking_parser<'a>(alloc: Global) -> Result<clap::Command<'a>, AllocError>
+    ensures shape { IfOk result (λ r. app_of r ≡ asking_program) }
+    ensures globals { IfOk result (λ r. (out-Command r).has_globals ≡ false) }
+{
+    let type_of = type_parser(alloc)?;
+    showing_parser(alloc)?.subcommand(type_of)
+}
+
+// The subcommands that write text of the entries.
 fn showing_parser<'a>(alloc: Global) -> Result<clap::Command<'a>, AllocError>
     ensures shape { IfOk result (λ r. app_of r ≡ showing_program) }
     ensures globals { IfOk result (λ r. (out-Command r).has_globals ≡ false) }
@@ -103,7 +115,20 @@ fn find_parser<'a>(alloc: Global) -> Result<clap::Command<'a>, AllocError>
     subcommand_parser(alloc, "find", "Writes where the entries of a name begin")?.arg(word_argument(
         alloc,
         "name",
+        "NAME",
         "The name of the entries",
+    ))
+}
+
+fn type_parser<'a>(alloc: Global) -> Result<clap::Command<'a>, AllocError>
+    ensures shape { IfOk result (λ r. app_of r ≡ type_finder) }
+    ensures globals { IfOk result (λ r. (out-Command r).has_globals ≡ false) }
+{
+    subcommand_parser(alloc, "type", "Writes the type of an entry")?.arg(word_argument(
+        alloc,
+        "offset",
+        "OFFSET",
+        "Where the entry begins in .debug_info",
     ))
 }
 
@@ -182,12 +207,12 @@ fn required_path<'a>(alloc: Global, name: &'a str, help: &'a str) -> Arg<'a>
     path_argument(alloc, name, help).required(true)
 }
 
-fn word_argument<'a>(alloc: Global, name: &'a str, help: &'a str) -> Arg<'a>
+fn word_argument<'a>(alloc: Global, name: &'a str, shown: &'a str, help: &'a str) -> Arg<'a>
     ensures rule { rule_of result ≡ word name.entry.now }
     ensures local { result.global ≡ false }
 {
     Arg::new(alloc, name)
-        .value_name("NAME")
+        .value_name(shown)
         .required(true)
         .action(ArgAction::Set)
         .help(help)
@@ -203,15 +228,16 @@ fn flag_argument<'a>(alloc: Global, name: &'a str, help: &'a str) -> Arg<'a>
         .help(help)
 }
 
-fn read<'a>(matches: &ArgMatches<'a>) -> Line<'a>
+fn read<'a>(matches: &ArgMatches<'a>) -> Result<Line<'a>, BadWord<'a>>
     requires { Meets (subcommand_rows_of matches.now) }
-    ensures { SaysBy (subcommand_rows_of matches.now) result }
+    ensures says { IfOk result (SaysBy (subcommand_rows_of matches.now)) }
+    ensures bad { IfErr result (IsBadBy (subcommand_rows_of matches.now)) }
 {
     let Some((name, options)) = matches.subcommand() else {
         unreachable!()
     };
-    Line {
-        command: command_named(name, options),
+    Ok(Line {
+        command: command_named(name, options)?,
         order: order_told(options.get_str("big")),
         versions: versions_told(options.get_str("v4")),
         info: word_told(options, "info"),
@@ -219,7 +245,7 @@ fn read<'a>(matches: &ArgMatches<'a>) -> Line<'a>
         str: options.get_str("str"),
         line_str: options.get_str("line-str"),
         str_offsets: options.get_str("str-offsets"),
-    }
+    })
 }
 
 fn word_told<'a>(options: &ArgMatches<'a>, name: &str) -> &'a str
@@ -232,17 +258,35 @@ fn word_told<'a>(options: &ArgMatches<'a>, name: &str) -> &'a str
     }
 }
 
-fn command_named<'a>(name: &str, options: &ArgMatches<'a>) -> Command<'a>
-    requires known { IsName name.now }
-    requires word { HasWord name.now (rows_of (found_of options.now)) }
-    ensures { IsCommand name.now (rows_of (found_of options.now)) result }
+fn command_named<'a>(name: &str, options: &ArgMatches<'a>) -> Result<Command<'a>, BadWord<'a>>
+    requires known { IsOneOf names name.now }
+    requires words { HasWords name.now (rows_of (found_of options.now)) }
+    ensures told { IfOk result (IsCommand name.now (rows_of (found_of options.now))) }
+    ensures bad { IfErr result (λ bad. IsBadAt bad.argument name.now (rows_of (found_of options.now)) bad.word.now) }
 {
     if name == "show" {
-        Command::Show
+        Ok(Command::Show)
     } else if name == "find" {
-        Command::Find(word_told(options, "name").as_bytes())
+        Ok(Command::Find(word_told(options, "name").as_bytes()))
+    } else if name == "type" {
+        Ok(Command::TypeOf(offset_told(options)?))
     } else {
-        Command::Copy
+        Ok(Command::Copy)
+    }
+}
+
+fn offset_told<'a>(options: &ArgMatches<'a>) -> Result<u64, BadWord<'a>>
+    requires { IsGiven (rows_of (found_of options.now)) (codes "offset") }
+    ensures told { IfOk result (λ offset. offset_given (rows_of (found_of options.now)) ≡ Some offset) }
+    ensures bad { IfErr result (λ bad. (bad.argument ≡ Offset) × IsOutside offset_in (codes "offset") (rows_of (found_of options.now)) bad.word.now) }
+{
+    let word = word_told(options, "offset");
+    match offset_of(word) {
+        Some(offset) => Ok(offset),
+        None => Err(BadWord {
+            argument: Argument::Offset,
+            word,
+        }),
     }
 }
 

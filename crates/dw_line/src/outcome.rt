@@ -3,8 +3,9 @@ ghost use Rattle.std.specs.Prelude.{◌≡◌, ◌≢◌, Ok};
 ghost use Rattle.clap.specs.Words.{kind_of};
 ghost use Rattle.dw_line.specs.Line.{Converts, Ends, EndsHelp, IsHelp};
 ghost use Rattle.clap.specs.declared.error.kind.ErrorKind.TheVariants.{DisplayHelp, DisplayVersion};
-ghost use Rattle.dw_line.specs.declared.outcome.LineError.TheVariants.{Memory};
+ghost use Rattle.dw_line.specs.declared.outcome.LineError.TheVariants as outcome;
 
+use crate::word::BadWord;
 use clap::error::ErrorKind;
 use dw_header::Versions;
 use dw_leb::Order;
@@ -37,18 +38,21 @@ pub struct Line<'a> {
 
 /// Why the words are no command line.
 #[derive(Debug, Drop, Error)]
-pub enum LineError {
+pub enum LineError<'a> {
     /// The words aren't taken, or ask for help. The error's text is the one for the user, and its
     /// `exit_code` is 0 for help that was asked for and 2 for a mistake.
     #[error("{0}")]
     Parse(clap::Error),
+    /// The words are taken, but this one isn't what it may be. Its text is the one for the user.
+    #[error("{0}")]
+    BadWord(BadWord<'a>),
     /// A growth was refused.
     #[error("memory")]
     Memory,
 }
 
-impl LineError {
-    /// How the program ends, once the text of `Parse` was printed, or could not be: with the exit status
+impl LineError<'_> {
+    /// How the program ends, once the text of `Parse` or `BadWord` was printed, or could not be: with the exit status
     /// 0 after help that was asked for, and 2 after a mistake.
     ///
     /// Errors: help that could not be printed is a failure of standard output. `Memory` is one of memory.
@@ -57,15 +61,16 @@ impl LineError {
     {
         match self {
             LineError::Parse(error) => parse_ended(error, printed),
+            LineError::BadWord(_) => Ok(2),
             LineError::Memory => Err(Failure::Memory),
         }
     }
 }
 
-impl From<clap::Error> for LineError {
+impl<'a> From<clap::Error> for LineError<'a> {
     ghost from_gives = { λ e out. Converts e out };
 
-    fn from(error: clap::Error) -> LineError {
+    fn from(error: clap::Error) -> LineError<'a> {
         if error.kind() == ErrorKind::OutOfMemory {
             LineError::Memory
         } else {
@@ -74,11 +79,19 @@ impl From<clap::Error> for LineError {
     }
 }
 
-impl From<AllocError> for LineError {
-    ghost from_gives = { λ _ out. out ≡ Memory };
+impl<'a> From<AllocError> for LineError<'a> {
+    ghost from_gives = { λ _ out. out ≡ outcome.Memory };
 
-    fn from(_error: AllocError) -> LineError {
+    fn from(_error: AllocError) -> LineError<'a> {
         LineError::Memory
+    }
+}
+
+impl<'a> From<BadWord<'a>> for LineError<'a> {
+    ghost from_gives = { λ bad out. out ≡ outcome.BadWord bad };
+
+    fn from(bad: BadWord<'a>) -> LineError<'a> {
+        LineError::BadWord(bad)
     }
 }
 

@@ -1,5 +1,6 @@
 pub mod Appending
 pub mod Placed
 pub mod Finding
+pub mod Named
 mod ShowRows
 pub mod Writing

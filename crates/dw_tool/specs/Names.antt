@@ -1,5 +1,6 @@
 -- The names of tags and attributes (sections 7.5.3 and 7.5.4) that this project prints.
 use Rattle.std.specs.Prelude.{ℕ, List, [], ◌∷◌, ◌==◌, Option, codes, find, option_map}
+use Rattle.std.specs.Str.{bytes_eq}
 
 -- numbers, each with its name
 abbrev pub Names : Type 0
@@ -8,6 +9,10 @@ Names = List (ℕ × List ℕ)
 -- the name of the number, or none
 abbrev pub name_in : Names → ℕ → Option (List ℕ)
 name_in names number = option_map (λ entry. entry.1) (find (λ entry. entry.0 == number) names)
+
+-- the number of the name, or none
+abbrev pub number_named : Names → List ℕ → Option ℕ
+number_named names name = option_map (λ entry. entry.0) (find (λ entry. bytes_eq entry.1 name) names)
 
 -- what stands after DW_TAG_
 abbrev pub tag_names : Names

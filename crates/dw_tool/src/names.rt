@@ -1,10 +1,13 @@
 //! The names of tags and attributes (sections 7.5.3 and 7.5.4, tables 7.3 and 7.5): those that this
 //! project prints.
-ghost use Rattle.std.specs.Prelude.{◌≡◌, option_map};
-ghost use Rattle.dw_tool.specs.Names.{attribute_names, name_in, tag_names};
+ghost use Rattle.std.specs.Prelude.{◌≡◌, IfSome, Some, option_map};
+ghost use Rattle.dw_tool.specs.Names.{attribute_names, name_in, number_named, tag_names};
 
 use dw_leb::constants::attribute::*;
 use dw_leb::constants::tag::*;
+
+// The greatest attribute that has a name here.
+const LAST_NAMED: u64 = DW_AT_LOCLISTS_BASE;
 
 /// The name of a tag without its prefix `DW_TAG_`, or `None` where this project has none for it.
 #[inline(always)]
@@ -106,4 +109,20 @@ pub fn attribute_name(attribute: u64) -> Option<&'static str>
         DW_AT_LOCLISTS_BASE => Some("loclists_base"),
         _ => None,
     }
+}
+
+/// The number of the attribute with this name, without its prefix `DW_AT_`, or `None` where this project has none of
+/// this name.
+pub fn attribute_named(name: &str) -> Option<u64>
+    ensures exact { result ≡ number_named attribute_names name.now }
+    ensures inverse { IfSome result (λ number. name_in attribute_names number ≡ Some name.now) }
+{
+    let mut number = 0;
+    while number <= LAST_NAMED {
+        if attribute_name(number) == Some(name) {
+            return Some(number);
+        }
+        number += 1;
+    }
+    None
 }
