@@ -333,9 +333,19 @@ after_options : (own : List Rule) → AllGood own
     → AllGood (with_index 1 (filled (path_option (codes "info"))) ∷ with_index 1 (filled (path_option (codes "abbrev"))) ∷
     with_index 1 (filled (optional_path (codes "str"))) ∷ with_index 1 (filled (optional_path (codes "line-str"))) ∷
     with_index 1 (filled (optional_path (codes "str-offsets"))) ∷ with_index 1 (filled (flag (codes "big"))) ∷ with_index 1 (filled (flag (codes "v4"))) ∷ own)
-after_options own good =
-    (good_path (codes "info") 1, (good_path (codes "abbrev") 1, (good_optional (codes "str") 1, (good_optional (codes "line-str") 1,
-    (good_optional (codes "str-offsets") 1, (good_flag (codes "big") 1, (good_flag (codes "v4") 1, good)))))))
+after_options own good = (
+  good_path (codes "info") 1,
+  (
+    good_path (codes "abbrev") 1,
+    (
+      good_optional (codes "str") 1,
+      (
+        good_optional (codes "line-str") 1,
+        (good_optional (codes "str-offsets") 1, (good_flag (codes "big") 1, (good_flag (codes "v4") 1, good))),
+      ),
+    ),
+  ),
+)
 
 -- the arguments that are wanted were given: none of them is missing
 module _ (words : List Text) (s : Shape) (good : AllGood s.rules) (whole : level_fault s [] nothing_held words false [] ≡ []) where
@@ -347,11 +357,13 @@ module _ (words : List Text) (s : Shape) (good : AllGood s.rules) (whole : level
 
   paths_there : (others : Bool) → (not (is_given (codes "info") rows) || (not (is_given (codes "abbrev") rows) || others)) ≡ false → HasPaths rows × (others ≡ false)
   paths_there others none =
-      let later = right_false (not (is_given (codes "info") rows)) _ none in
-      (record {
-        info = is_there (codes "info") (left_false (not (is_given (codes "info") rows)) _ none);
-        abbreviations = is_there (codes "abbrev") (left_false (not (is_given (codes "abbrev") rows)) _ later);
-      }, right_false (not (is_given (codes "abbrev") rows)) _ later)
+      let later = right_false (not (is_given (codes "info") rows)) _ none in (
+        record {
+          info = is_there (codes "info") (left_false (not (is_given (codes "info") rows)) _ none);
+          abbreviations = is_there (codes "abbrev") (left_false (not (is_given (codes "abbrev") rows)) _ later);
+        },
+        right_false (not (is_given (codes "abbrev") rows)) _ later,
+      )
 
   word_there : (id : Text) (others : Bool) → (not (is_given id rows) || others) ≡ false → IsGiven rows id × (others ≡ false)
   word_there id others none = (is_there id (left_false (not (is_given id rows)) _ none), right_false (not (is_given id rows)) _ none)

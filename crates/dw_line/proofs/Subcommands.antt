@@ -64,28 +64,52 @@ differs : (name other : Text) → bytes_eq name other ≡ false → name ≡ oth
 differs name other e is = true≢false (sym ((bytes_eq-Decides name other).1 is) ∙ e)
 
 gives_show : Gives (built_as (subcommand (codes "show")))
-gives_show = (inl refl, λ words whole. (plain_has (codes "show") words whole, record {
-  find = λ is. absurd (differs (codes "show") (codes "find") refl is);
-  type_of = λ is. absurd (differs (codes "show") (codes "type") refl is);
-}))
+gives_show = (
+  inl refl,
+  λ words whole. (
+    plain_has (codes "show") words whole,
+    record {
+      find = λ is. absurd (differs (codes "show") (codes "find") refl is);
+      type_of = λ is. absurd (differs (codes "show") (codes "type") refl is);
+    },
+  ),
+)
 
 gives_find : Gives (built_as finder)
-gives_find = (inr (inl refl), λ words whole. let has = word_has (codes "find") (codes "name") words whole in (has.0, record {
-  find = λ is. has.1;
-  type_of = λ is. absurd (differs (codes "find") (codes "type") refl is);
-}))
+gives_find = (
+  inr (inl refl),
+  λ words whole. let has = word_has (codes "find") (codes "name") words whole in (
+    has.0,
+    record {
+      find = λ is. has.1;
+      type_of = λ is. absurd (differs (codes "find") (codes "type") refl is);
+    },
+  ),
+)
 
 gives_type : Gives (built_as type_finder)
-gives_type = (inr (inr (inl refl)), λ words whole. let has = word_has (codes "type") (codes "offset") words whole in (has.0, record {
-  find = λ is. absurd (differs (codes "type") (codes "find") refl is);
-  type_of = λ is. has.1;
-}))
+gives_type = (
+  inr (inr (inl refl)),
+  λ words whole. let has = word_has (codes "type") (codes "offset") words whole in (
+    has.0,
+    record {
+      find = λ is. absurd (differs (codes "type") (codes "find") refl is);
+      type_of = λ is. has.1;
+    },
+  ),
+)
 
 gives_copy : Gives (built_as (subcommand (codes "copy")))
-gives_copy = (inr (inr (inr (inl refl))), λ words whole. (plain_has (codes "copy") words whole, record {
-  find = λ is. absurd (differs (codes "copy") (codes "find") refl is);
-  type_of = λ is. absurd (differs (codes "copy") (codes "type") refl is);
-}))
+gives_copy = (
+  inr (inr (inr (inl refl))),
+  λ words whole. (
+    plain_has (codes "copy") words whole,
+    record {
+      find = λ is. absurd (differs (codes "copy") (codes "find") refl is);
+      type_of = λ is. absurd (differs (codes "copy") (codes "type") refl is);
+    },
+  ),
+)
 
 entered_one : (stop : Option (Text × List Text)) (found : Option (Text × List Row)) → found ≡ entered (built program) stop
     → is_some found ≡ true → entered_fault (built program) stop ≡ [] → IsNotHelp stop → Meets found

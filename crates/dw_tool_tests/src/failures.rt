@@ -70,11 +70,11 @@ fn failures_of_runs(rt: HostRuntime) {
 }
 
 // How the program ends with words that aren't taken, where their text could not be printed.
-fn unprinted(error: LineError, kind: ErrorKind) -> Result<u8, Failure<'static>> {
+fn unprinted(error: LineError<'_>, kind: ErrorKind) -> Result<u8, Failure<'static>> {
     error.ended(Err(io::Error::from(kind)))
 }
 
-fn asks_for_help(alloc: Global) -> LineError {
+fn asks_for_help(alloc: Global) -> LineError<'static> {
     line(alloc, &["--help"]).err().unwrap_or(LineError::Memory)
 }
 

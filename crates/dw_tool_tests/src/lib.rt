@@ -28,3 +28,5 @@ mod runs;
 mod sections;
 #[cfg(test)]
 mod texts;
+#[cfg(test)]
+mod words;

@@ -2,6 +2,7 @@
 use dw_leb::Order;
 use dw_line::line::line;
 use dw_line::outcome::{Line, LineError};
+use dw_line::word::{Argument, BadWord};
 use dw_tool::command::Command;
 use dw_unit::Versions;
 use std::alloc::Global;
@@ -60,6 +61,51 @@ fn reads_a_name(rt: HostRuntime) {
 }
 
 #[test]
+fn reads_an_offset(rt: HostRuntime) {
+    for (word, offset) in [
+        ("37", 37u64),
+        ("0x25", 37),
+        ("037", 37),
+        ("0x0fF", 255),
+        ("18446744073709551615", u64::MAX),
+    ] {
+        let words = ["type", "--info", "a", "--abbrev", "b", word];
+        let taken = line(rt.alloc(), &words).ok();
+        assert!(rt;
+            taken.map(|it| it.command) == Some(Command::TypeOf(offset)),
+            "{word}"
+        );
+    }
+}
+
+#[test]
+fn reads_the_options_of_a_type(rt: HostRuntime) {
+    let words = [
+        "type",
+        "--big",
+        "--info=a",
+        "0x0",
+        "--v4",
+        "--abbrev=b",
+        "--str=c",
+    ];
+    let taken = line(rt.alloc(), &words).ok();
+    assert!(rt;
+        taken
+            == Some(Line {
+                command: Command::TypeOf(0),
+                order: Order::Big,
+                versions: Versions::FourAndFive,
+                info: "a",
+                abbrev: "b",
+                str: Some("c"),
+                line_str: None,
+                str_offsets: None,
+            })
+    );
+}
+
+#[test]
 fn takes_an_empty_path_and_a_lone_hyphen(rt: HostRuntime) {
     let taken = line(rt.alloc(), &["show", "--info=", "--abbrev", "-"]).ok();
     assert!(rt;
@@ -78,13 +124,63 @@ fn takes_an_empty_path_and_a_lone_hyphen(rt: HostRuntime) {
 }
 
 // The status with which the program ends, where the words aren't taken and their text is printed.
-fn status(outcome: Result<Line<'_>, LineError>) -> Option<u8> {
+fn status(outcome: Result<Line<'_>, LineError<'_>>) -> Option<u8> {
     outcome.err()?.ended(Ok(())).ok()
 }
 
 // The words are a mistake.
 fn is_mistake(alloc: Global, words: &[&str]) -> bool {
     status(line(alloc, words)) == Some(2)
+}
+
+// The word that is no offset.
+fn bad_word<'a>(outcome: Result<Line<'a>, LineError<'a>>) -> Option<BadWord<'a>> {
+    match outcome {
+        Err(LineError::BadWord(bad)) => Some(bad),
+        _ => None,
+    }
+}
+
+#[test]
+fn refuses_words_that_are_no_offset(rt: HostRuntime) {
+    for word in [
+        "18446744073709551616",
+        "0x10000000000000000",
+        "0x",
+        "+5",
+        "0x+5",
+        "",
+        "-",
+        "5a",
+        "0X5",
+        "5 ",
+        "main",
+    ] {
+        let words = ["type", "--info", "a", "--abbrev", "b", word];
+        let expected = BadWord {
+            argument: Argument::Offset,
+            word,
+        };
+        assert!(rt;
+            bad_word(line(rt.alloc(), &words)) == Some(expected),
+            "{word}"
+        );
+        assert!(rt; is_mistake(rt.alloc(), &words), "{word}");
+    }
+}
+
+#[test]
+fn judges_an_offset_after_the_line(rt: HostRuntime) {
+    let alloc = rt.alloc();
+    assert!(rt; bad_word(line(alloc, &["type", "--info", "a", "--abbrev", "b", "-1"])).is_none());
+    assert!(rt; is_mistake(alloc, &["type", "--info", "a", "--abbrev", "b", "-1"]));
+    assert!(rt;
+        bad_word(line(alloc, &["type", "--info", "a", "--abbrev", "b", "z", "6"])).is_none()
+    );
+    assert!(rt; is_mistake(alloc, &["type", "--info", "a", "--abbrev", "b", "5", "6"]));
+    assert!(rt; bad_word(line(alloc, &["type", "--info", "a", "z"])).is_none());
+    assert!(rt; is_mistake(alloc, &["type", "--info", "a", "z"]));
+    assert!(rt; is_mistake(alloc, &["type", "--info", "a", "--abbrev", "b"]));
 }
 
 #[test]
@@ -131,12 +227,13 @@ fn refuses_other_words(rt: HostRuntime) {
 
 #[test]
 fn tells_help_from_mistakes(rt: HostRuntime) {
-    let asked: [&[&str]; 5] = [
+    let asked: [&[&str]; 6] = [
         &["--help"],
         &["-h"],
         &["copy", "--help"],
         &["help"],
         &["help", "show"],
+        &["help", "type"],
     ];
     for words in asked {
         assert!(rt; status(line(rt.alloc(), words)) == Some(0), "{words:?}");
@@ -155,6 +252,10 @@ fn printed_errors(rt: HostRuntime) -> Result<(), Fail> {
         (
             ["show", "--info", "a"].as_slice(),
             "error: the following required arguments were not provided:\n  --abbrev <FILE>\n\nUsage: dwarf show --info <FILE> --abbrev <FILE>\n\nFor more information, try '--help'.\n",
+        ),
+        (
+            ["type", "--info=a", "--abbrev=b", "zz"].as_slice(),
+            "error: invalid value 'zz' for '<OFFSET>': a number below 2^64 is wanted, in decimal or in hexadecimal after 0x\n\nFor more information, try '--help'.\n",
         ),
     ] {
         let error = line(rt.alloc(), words).err().ok_or("a line")?;

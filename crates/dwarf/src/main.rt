@@ -119,9 +119,10 @@ fn act_on<'a>(
 }
 
 // Says why words aren't taken, or prints the help that they ask for, and gives the exit status.
-fn refused(rt: &(impl Print + Eprint), error: LineError) -> u8 {
+fn refused(rt: &(impl Print + Eprint), error: LineError<'_>) -> u8 {
     let printed = match &error {
         LineError::Parse(error) => error.print(rt),
+        LineError::BadWord(bad) => eprint!(rt; "{bad}"),
         LineError::Memory => Ok(()),
     };
     match error.ended(printed) {
