@@ -17,7 +17,7 @@ long last;
 
 void _start(void)
 {
-    struct node end = { 0, 2 }, start = { &end, 1 };
+    struct node end = { 0, 2 }, start = { &end, 1 }; /* struct node start */
     last = total(&start);
     for (;;) {
     }

@@ -8,7 +8,7 @@ struct word {
     struct word *next;
 };
 
-static const char line[] = "a reader of debugging entries";
+static const char line[] = "a reader of debugging entries"; /* const const char line[30] */
 
 struct word words[sizeof line];
 struct word *longest;

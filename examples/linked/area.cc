@@ -13,6 +13,6 @@ private:
 
 extern "C" int area_of(int width, int height)
 {
-    shapes::Rectangle rectangle(width, height);
+    shapes::Rectangle rectangle(width, height); // class {...} rectangle
     return rectangle.area();
 }
