@@ -12,7 +12,7 @@ use Rattle.clap.specs.Words.{App, with_rule}
 use Rattle.clap.specs.Faults.{bundle_step_fault, defaults_fault, check_fault, level_fault, flag_word_fault, flags_fault, long_fault, option_fault, other_fault, positional_fault, react_fault, settle_fault, short_fault, step_fault, turn_fault, use_fault, walk_fault, word_fault}
 use Rattle.clap.specs.Simple.{Shape, built_leaf, filled, help_rule, inherited, marked_built, with_index, with_leaf_noted}
 use Rattle.clap.specs.declared.error.kind.ErrorKind.TheVariants as kind
-use Rattle.dw_line.specs.Line.{HasPaths, IsGiven, flag, optional_path, path_option, word, program, subcommand}
+use Rattle.dw_line.specs.Line.{HasPaths, IsGiven, flag, optional_path, path_option, word, program, setter, subcommand}
 use Rattle.clap.specs.declared.parser.matches.ValueSource.{ValueSource}
 use Rattle.clap.specs.declared.builder.value_parser.Reading.{Reading}
 
@@ -389,3 +389,20 @@ word_has name id words whole =
     let good : AllGood s.rules = after_options (with_index 1 (filled (word id)) ∷ with_index 2 (filled help_rule) ∷ []) (good_word id 1, (good_help 2, tt)) in
     let paths = paths_there words s good whole _ (none_wanted _ (checked s good words whole)) in
     (paths.0, (word_there words s good whole id _ paths.1).0)
+
+-- `set`, with its flag and its three words
+pub setter_has : (words : List Text) → level_fault (built_as setter) [] nothing_held words false [] ≡ []
+    → HasPaths (rows_after (built_as setter).rules [] words)
+    × (IsGiven (rows_after (built_as setter).rules [] words) (codes "offset") × IsGiven (rows_after (built_as setter).rules [] words) (codes "attribute")
+    × IsGiven (rows_after (built_as setter).rules [] words) (codes "value"))
+setter_has words whole =
+    let s : Shape = built_as setter in
+    let own : List Rule =
+    with_index 1 (filled (flag (codes "minus"))) ∷ with_index 1 (filled (word (codes "offset"))) ∷ with_index 2 (filled (word (codes "attribute"))) ∷
+    with_index 3 (filled (word (codes "value"))) ∷ with_index 4 (filled help_rule) ∷ [] in
+    let good : AllGood s.rules =
+    after_options own (good_flag (codes "minus") 1, (good_word (codes "offset") 1, (good_word (codes "attribute") 2, (good_word (codes "value") 3, (good_help 4, tt))))) in
+    let paths = paths_there words s good whole _ (none_wanted _ (checked s good words whole)) in
+    let offset = word_there words s good whole (codes "offset") _ paths.1 in
+    let attribute = word_there words s good whole (codes "attribute") _ offset.1 in
+    (paths.0, (offset.0, attribute.0, (word_there words s good whole (codes "value") _ attribute.1).0))

@@ -10,8 +10,8 @@ use Rattle.clap.specs.Simple.{argument_words, built, built_leaf, entered, help_s
 use Rattle.std.specs.Str.{bytes_eq}
 use Rattle.std.proofs.lemmas.Slice.Eq.{bytes_eq-Decides}
 use Rattle.dw_line.proofs.Helpless.{IsNotHelp, walk_stops}
-use Rattle.dw_line.specs.Line.{HasPaths, HasWords, IsOneOf, Meets, finder, names, program, refusals, subcommand, type_finder}
-use Rattle.dw_line.proofs.Filled.{built_as, first_none, plain_has, second_none, word_has}
+use Rattle.dw_line.specs.Line.{HasPaths, HasWords, IsOneOf, Meets, finder, names, program, refusals, setter, subcommand, type_finder}
+use Rattle.dw_line.proofs.Filled.{built_as, first_none, plain_has, second_none, setter_has, word_has}
 
 -- the subcommand is one of the program's, and has its paths and words on words that it takes
 abbrev Gives : Shape → Type 0
@@ -71,6 +71,7 @@ gives_show = (
     record {
       find = λ is. absurd (differs (codes "show") (codes "find") refl is);
       type_of = λ is. absurd (differs (codes "show") (codes "type") refl is);
+      set = λ is. absurd (differs (codes "show") (codes "set") refl is);
     },
   ),
 )
@@ -83,6 +84,7 @@ gives_find = (
     record {
       find = λ is. has.1;
       type_of = λ is. absurd (differs (codes "find") (codes "type") refl is);
+      set = λ is. absurd (differs (codes "find") (codes "set") refl is);
     },
   ),
 )
@@ -95,18 +97,46 @@ gives_type = (
     record {
       find = λ is. absurd (differs (codes "type") (codes "find") refl is);
       type_of = λ is. has.1;
+      set = λ is. absurd (differs (codes "type") (codes "set") refl is);
+    },
+  ),
+)
+
+gives_check : Gives (built_as (subcommand (codes "check")))
+gives_check = (
+  inr (inr (inr (inl refl))),
+  λ words whole. (
+    plain_has (codes "check") words whole,
+    record {
+      find = λ is. absurd (differs (codes "check") (codes "find") refl is);
+      type_of = λ is. absurd (differs (codes "check") (codes "type") refl is);
+      set = λ is. absurd (differs (codes "check") (codes "set") refl is);
+    },
+  ),
+)
+
+gives_set : Gives (built_as setter)
+gives_set = (
+  inr (inr (inr (inr (inl refl)))),
+  λ words whole. let has = setter_has words whole in (
+    has.0,
+    record {
+      find = λ is. absurd (differs (codes "set") (codes "find") refl is);
+      type_of = λ is. absurd (differs (codes "set") (codes "type") refl is);
+      set = λ is. has.1;
     },
   ),
 )
 
 gives_copy : Gives (built_as (subcommand (codes "copy")))
 gives_copy = (
-  inr (inr (inr (inl refl))),
+  inr (inr (inr (inr (inr (inl refl))))),
   λ words whole. (
     plain_has (codes "copy") words whole,
     record {
       find = λ is. absurd (differs (codes "copy") (codes "find") refl is);
       type_of = λ is. absurd (differs (codes "copy") (codes "type") refl is);
+      set = λ is. absurd (differs (codes "copy") (codes "set") refl is);
     },
   ),
 )
@@ -115,8 +145,9 @@ entered_one : (stop : Option (Text × List Text)) (found : Option (Text × List 
     → is_some found ≡ true → entered_fault (built program) stop ≡ [] → IsNotHelp stop → Meets found
 entered_one None found is some taken helpless = absurd (true≢false (sym some ∙ ap is_some is))
 entered_one (Some p) found is some taken helpless =
-    one_of (built_as (subcommand (codes "show")) ∷ built_as finder ∷ built_as type_finder ∷ built_as (subcommand (codes "copy")) ∷ []) p found is some taken helpless
-    (gives_show, (gives_find, (gives_type, (gives_copy, tt))))
+    one_of (built_as (subcommand (codes "show")) ∷ built_as finder ∷ built_as type_finder ∷ built_as (subcommand (codes "check")) ∷ built_as setter ∷ built_as (subcommand (codes "copy")) ∷ [])
+    p found is some taken helpless
+    (gives_show, (gives_find, (gives_type, (gives_check, (gives_set, (gives_copy, tt))))))
 
 -- a subcommand that was met is one of the program's, and has its paths
 pub meets : (words : List Text) (found : Option (Text × List Row)) → found ≡ subcommand_of program words → is_some found ≡ true → refusals words ≡ [] → Meets found

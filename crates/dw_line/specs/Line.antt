@@ -1,5 +1,5 @@
 -- The command line: what the program takes, and what a line says.
-use Rattle.std.specs.Prelude.{◌≡◌, ◌≢◌, ◌⊎◌, ℕ, Bool, true, List, [], ◌∷◌, Option, Some, None, is_some, option_map, codes, false, if◌then◌else◌, Result, Ok, Err, IsErrAnd}
+use Rattle.std.specs.Prelude.{◌≡◌, ◌≢◌, ◌⊎◌, ℕ, ℤ, Bool, true, List, [], ◌∷◌, Option, Some, None, is_some, option_map, codes, false, if◌then◌else◌, Result, Ok, Err, IsErrAnd}
 use Rattle.std.specs.IoError.{error_kind}
 use Rattle.std.specs.declared.io.Error.{Error as IoError}
 use Rattle.std.specs.Option.{option_and_then, option_map_or}
@@ -27,9 +27,9 @@ use Rattle.dw_line.specs.declared.outcome.Line.{Line}
 use Rattle.dw_line.specs.declared.outcome.LineError.{LineError}
 use Rattle.dw_line.specs.declared.outcome.LineError.TheVariants as outcome
 use Rattle.dw_line.specs.declared.word.Argument.{Argument}
-use Rattle.dw_line.specs.declared.word.Argument.TheVariants.{Offset}
+use Rattle.dw_line.specs.declared.word.Argument.TheVariants.{Offset, Attribute, Value}
 use Rattle.dw_line.specs.declared.word.BadWord.{BadWord}
-use Rattle.dw_line.specs.Words.{offset_in}
+use Rattle.dw_line.specs.Words.{attribute_in, offset_in, value_in}
 
 -- ---- what the program takes
 
@@ -81,6 +81,10 @@ finder = with_rule (subcommand (codes "find")) (word (codes "name"))
 abbrev pub type_finder : App
 type_finder = with_rule (subcommand (codes "type")) (word (codes "offset"))
 
+-- `set`, with an entry, an attribute of it and the number that it gets
+abbrev pub setter : App
+setter = with_rule (with_rule (with_rule (with_rule (subcommand (codes "set")) (flag (codes "minus"))) (word (codes "offset"))) (word (codes "attribute"))) (word (codes "value"))
+
 -- the program without its subcommands: one of them has to be there
 abbrev pub bare_program : App
 bare_program = on_top (λ s. record s {
@@ -94,45 +98,61 @@ showing_program = with_subcommand (with_subcommand bare_program (subcommand (cod
 
 -- and those that write what is derived from them
 abbrev pub asking_program : App
-asking_program = with_subcommand showing_program type_finder.top
+asking_program = with_subcommand (with_subcommand showing_program type_finder.top) (subcommand (codes "check")).top
 
+-- and those that write bytes
 abbrev pub program : App
-program = with_subcommand asking_program (subcommand (codes "copy")).top
+program = with_subcommand (with_subcommand asking_program setter.top) (subcommand (codes "copy")).top
 
 -- ---- what a line says
 
--- the offset that was given, where its word is one
+-- a flag that was given has the value `true`
+abbrev pub is_set : Option Text → Bool
+is_set flag = option_map_or (λ value. bytes_eq value (codes "true")) flag false
+
+-- what the words of these arguments spell and name, where they do
 abbrev pub offset_given : List Row → Option ℕ
 offset_given rows = option_and_then offset_in (first_of (codes "offset") rows)
+
+abbrev pub attribute_given : List Row → Option ℕ
+attribute_given rows = option_and_then attribute_in (first_of (codes "attribute") rows)
+
+-- `--minus` makes the value negative
+abbrev pub value_read : List Row → Text → Option ℤ
+value_read rows = value_in (is_set (first_of (codes "minus") rows))
+
+abbrev pub value_given : List Row → Option ℤ
+value_given rows = option_and_then (value_read rows) (first_of (codes "value") rows)
 
 -- the subcommand of this name, with what its matches give it
 abbrev pub IsCommand : Text → List Row → Command → Type 0
 IsCommand name rows command.Show = name ≡ codes "show"
 IsCommand name rows (command.Find wanted) = (name ≡ codes "find") × (first_of (codes "name") rows ≡ Some wanted.now)
 IsCommand name rows (command.TypeOf offset) = (name ≡ codes "type") × (offset_given rows ≡ Some offset)
-IsCommand name rows command.Check = ⊥
-IsCommand name rows (command.SetNumber offset attribute value) = ⊥
+IsCommand name rows command.Check = name ≡ codes "check"
+IsCommand name rows (command.SetNumber offset attribute value) =
+    (name ≡ codes "set") × (offset_given rows ≡ Some offset) × (attribute_given rows ≡ Some attribute) × (value_given rows ≡ Some value)
 IsCommand name rows command.Copy = name ≡ codes "copy"
 
 -- this word was given for an argument that reads words so, and it isn't one of those
 abbrev pub IsOutside : {X : Type 0} → (Text → Option X) → Text → List Row → Text → Type 0
 IsOutside read id rows word = (first_of id rows ≡ Some word) × (read word ≡ None)
 
--- the subcommand of this name has the argument, and this word of it is no word of the grammar
+-- The subcommand of this name has the argument, and this word of it is the first that is no word of the grammar, in the order OFFSET,
+-- ATTR, VALUE.
 abbrev pub IsBadAt : Argument → Text → List Row → Text → Type 0
-IsBadAt Offset name rows word = (name ≡ codes "type") × IsOutside offset_in (codes "offset") rows word
+IsBadAt Offset name rows word = ((name ≡ codes "type") ⊎ (name ≡ codes "set")) × IsOutside offset_in (codes "offset") rows word
+IsBadAt Attribute name rows word = (name ≡ codes "set") × (is_some (offset_given rows) ≡ true) × IsOutside attribute_in (codes "attribute") rows word
+IsBadAt Value name rows word =
+    (name ≡ codes "set") × (is_some (offset_given rows) ≡ true) × (is_some (attribute_given rows) ≡ true) × IsOutside (value_read rows) (codes "value") rows word
 
 -- the names of the subcommands
 abbrev pub names : List Text
-names = codes "show" ∷ codes "find" ∷ codes "type" ∷ codes "copy" ∷ []
+names = codes "show" ∷ codes "find" ∷ codes "type" ∷ codes "check" ∷ codes "set" ∷ codes "copy" ∷ []
 
 abbrev pub IsOneOf : List Text → Text → Type 0
 IsOneOf [] name = ⊥
 IsOneOf (known ∷ rest) name = (name ≡ known) ⊎ IsOneOf rest name
-
--- a flag that was given has the value `true`
-abbrev pub is_set : Option Text → Bool
-is_set flag = option_map_or (λ value. bytes_eq value (codes "true")) flag false
 
 -- `--big` was given
 abbrev pub order_by : Option Text → Order
@@ -184,6 +204,7 @@ pub record HasPaths (rows : List Row) : Type 0 where
 pub record HasWords (name : Text) (rows : List Row) : Type 0 where
   pub find : name ≡ codes "find" → IsGiven rows (codes "name")
   pub type_of : name ≡ codes "type" → IsGiven rows (codes "offset")
+  pub set : name ≡ codes "set" → IsGiven rows (codes "offset") × IsGiven rows (codes "attribute") × IsGiven rows (codes "value")
 
 -- one of the subcommands was met, with the options and the words that it wants
 pub record Meets (matches : Option (Text × List Row)) : Type 0 where

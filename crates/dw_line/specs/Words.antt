@@ -7,7 +7,7 @@ use Rattle.std.specs.Str.Parse.{digits_value}
 use Rattle.clap.specs.Words.{Text}
 use Rattle.dw_tool.specs.Names.{attribute_names, number_named}
 use Rattle.dw_line.specs.declared.word.Argument.{Argument}
-use Rattle.dw_line.specs.declared.word.Argument.TheVariants.{Offset}
+use Rattle.dw_line.specs.declared.word.Argument.TheVariants.{Offset, Attribute, Value}
 use Rattle.dw_line.specs.declared.word.BadWord.{BadWord}
 
 -- one digit of the base or more, and nothing else
@@ -47,10 +47,14 @@ attribute_in word = if begins_with (codes "DW_AT_") word then number_named attri
 -- the name of an argument in the program's usage
 abbrev pub argument_name : Argument → Text
 argument_name Offset = codes "OFFSET"
+argument_name Attribute = codes "ATTR"
+argument_name Value = codes "VALUE"
 
 -- which words the argument may be
 abbrev pub wanted : Argument → Text
 wanted Offset = codes "a number below 2^64 is wanted, in decimal or in hexadecimal after 0x"
+wanted Attribute = codes "a name like DW_AT_name is wanted, or a number below 2^64, in decimal or in hexadecimal after 0x"
+wanted Value = codes "a number below 2^127 is wanted, in decimal or in hexadecimal after 0x"
 
 -- the message, with the end of its last line
 abbrev pub bad_word_text : BadWord → Text

@@ -6,12 +6,12 @@ ghost use Rattle.clap.specs.declared.builder.command.Command.TheViews.{out-Comma
 ghost use Rattle.clap.specs.declared.error.kind.ErrorKind.TheVariants.{ValueValidation};
 ghost use Rattle.std.specs.declared.io.ErrorKind.TheVariants.{OutOfMemory};
 ghost use Rattle.dw_line.specs.declared.outcome.LineError.TheVariants.{Memory};
-ghost use Rattle.dw_line.specs.declared.word.Argument.TheVariants.{Offset};
-ghost use Rattle.dw_line.specs.Words.{offset_in};
-ghost use Rattle.dw_line.specs.Line.{IsBadAt, IsBadBy, IsMistake, IsOneOf, IsOutside, IsCommand, HasWords, IsGiven, Meets, IsLineError, Says, SaysBy, asking_program, finder, flag, names, offset_given, type_finder, is_set, optional_path, order_by, path_option, program, refusals, showing_program, subcommand, versions_by, word, with_both_flags, with_entry_sections, with_text_sections};
+ghost use Rattle.dw_line.specs.declared.word.Argument.TheVariants.{Attribute, Offset, Value};
+ghost use Rattle.dw_line.specs.Words.{attribute_in, offset_in};
+ghost use Rattle.dw_line.specs.Line.{IsBadAt, IsBadBy, IsMistake, IsOneOf, IsOutside, IsCommand, HasWords, IsGiven, Meets, IsLineError, Says, SaysBy, asking_program, finder, flag, names, attribute_given, offset_given, setter, type_finder, value_given, value_read, is_set, optional_path, order_by, path_option, program, refusals, showing_program, subcommand, versions_by, word, with_both_flags, with_entry_sections, with_text_sections};
 
 use crate::outcome::{Line, LineError};
-use crate::word::{Argument, BadWord, offset_of};
+use crate::word::{Argument, BadWord, attribute_of, offset_of, value_of};
 use clap::error::ErrorKind;
 use clap::{Arg, ArgAction, ArgMatches};
 use dw_header::Versions;
@@ -20,12 +20,14 @@ use dw_tool::command::Command;
 use std::alloc::{AllocError, Global};
 use std::io;
 
-/// Reads the words after the program's name: one of the subcommands `show`, `find NAME`, `type OFFSET` and `copy`, each with
-/// `--info FILE` and `--abbrev FILE`, with `--str FILE`, `--line-str FILE`, `--str-offsets FILE` and the
-/// flags `--big` and `--v4` where they are wanted. Options come after the subcommand, each once.
+/// Reads the words after the program's name: one of the subcommands `show`, `find NAME`, `type OFFSET`, `check`,
+/// `set OFFSET ATTR VALUE` and `copy`, each with `--info FILE` and `--abbrev FILE`, with `--str FILE`,
+/// `--line-str FILE`, `--str-offsets FILE` and the flags `--big` and `--v4` where they are wanted. `set` has the flag
+/// `--minus` too. Options come after the subcommand, each once.
 ///
-/// Errors: `Parse` where the words aren't taken or ask for help, `BadWord` where they are taken but OFFSET is no
-/// offset as `offset_of` reads it, `Memory` where a growth was refused.
+/// Errors: `Parse` where the words aren't taken or ask for help; `BadWord` where they are taken, with the first one
+/// that is no OFFSET, ATTR or VALUE as `offset_of`, `attribute_of` and `value_of` read them, in this order; `Memory`
+/// where a growth was refused.
 pub fn line<'a>(alloc: Global, words: &'a [&'a str]) -> Result<Line<'a>, LineError<'a>>
     ensures says { IfOk result (Says (map (λ word. word.now) words.entry.now)) }
     ensures taken { IfOk result (λ _. refusals (map (λ word. word.now) words.entry.now) ≡ []) }
@@ -79,8 +81,9 @@ fn parser<'a>(alloc: Global) -> Result<clap::Command<'a>, AllocError>
     ensures shape { IfOk result (λ r. app_of r ≡ program) }
     ensures globals { IfOk result (λ r. (out-Command r).has_globals ≡ false) }
 {
+    let set = set_parser(alloc)?;
     let copy = subcommand_parser(alloc, "copy", "Writes the bytes of .debug_info back")?;
-    asking_parser(alloc)?.subcommand(copy)
+    asking_parser(alloc)?.subcommand(set)?.subcommand(copy)
 }
 
 // And those that write what is derived from the entries.
@@ -89,7 +92,10 @@ fn asking_parser<'a>(alloc: Global) -> Result<clap::Command<'a>, AllocError>
     ensures globals { IfOk result (λ r. (out-Command r).has_globals ≡ false) }
 {
     let type_of = type_parser(alloc)?;
-    showing_parser(alloc)?.subcommand(type_of)
+    let check = subcommand_parser(alloc, "check", "Writes what is wrong with the entries")?;
+    showing_parser(alloc)?
+        .subcommand(type_of)?
+        .subcommand(check)
 }
 
 // The subcommands that write text of the entries.
@@ -124,12 +130,36 @@ fn type_parser<'a>(alloc: Global) -> Result<clap::Command<'a>, AllocError>
     ensures shape { IfOk result (λ r. app_of r ≡ type_finder) }
     ensures globals { IfOk result (λ r. (out-Command r).has_globals ≡ false) }
 {
-    subcommand_parser(alloc, "type", "Writes the type of an entry")?.arg(word_argument(
+    subcommand_parser(alloc, "type", "Writes the type of an entry")?.arg(offset_argument(alloc))
+}
+
+fn set_parser<'a>(alloc: Global) -> Result<clap::Command<'a>, AllocError>
+    ensures shape { IfOk result (λ r. app_of r ≡ setter) }
+    ensures globals { IfOk result (λ r. (out-Command r).has_globals ≡ false) }
+{
+    let about = "Writes the bytes of .debug_info with another number in the place of one";
+    subcommand_parser(alloc, "set", about)?
+        .arg(flag_argument(alloc, "minus", "The value is below zero"))?
+        .arg(offset_argument(alloc))?
+        .arg(word_argument(
+            alloc,
+            "attribute",
+            "ATTR",
+            "The attribute that gets the number",
+        ))?
+        .arg(word_argument(alloc, "value", "VALUE", "The number that it gets"))
+}
+
+fn offset_argument<'a>(alloc: Global) -> Arg<'a>
+    ensures rule { rule_of result ≡ word (codes "offset") }
+    ensures local { result.global ≡ false }
+{
+    word_argument(
         alloc,
         "offset",
         "OFFSET",
         "Where the entry begins in .debug_info",
-    ))
+    )
 }
 
 fn subcommand_parser<'a>(
@@ -270,9 +300,30 @@ fn command_named<'a>(name: &str, options: &ArgMatches<'a>) -> Result<Command<'a>
         Ok(Command::Find(word_told(options, "name").as_bytes()))
     } else if name == "type" {
         Ok(Command::TypeOf(offset_told(options)?))
+    } else if name == "check" {
+        Ok(Command::Check)
+    } else if name == "set" {
+        edit_told(options)
     } else {
         Ok(Command::Copy)
     }
+}
+
+fn edit_told<'a>(options: &ArgMatches<'a>) -> Result<Command<'a>, BadWord<'a>>
+    requires offset { IsGiven (rows_of (found_of options.now)) (codes "offset") }
+    requires attribute { IsGiven (rows_of (found_of options.now)) (codes "attribute") }
+    requires value { IsGiven (rows_of (found_of options.now)) (codes "value") }
+    ensures told { IfOk result (IsCommand (codes "set") (rows_of (found_of options.now))) }
+    ensures bad { IfErr result (λ bad. IsBadAt bad.argument (codes "set") (rows_of (found_of options.now)) bad.word.now) }
+{
+    let offset = offset_told(options)?;
+    let name = attribute_told(options)?;
+    let value = value_told(options)?;
+    Ok(Command::SetNumber {
+        offset,
+        name,
+        value,
+    })
 }
 
 fn offset_told<'a>(options: &ArgMatches<'a>) -> Result<u64, BadWord<'a>>
@@ -288,6 +339,42 @@ fn offset_told<'a>(options: &ArgMatches<'a>) -> Result<u64, BadWord<'a>>
             word,
         }),
     }
+}
+
+fn attribute_told<'a>(options: &ArgMatches<'a>) -> Result<u64, BadWord<'a>>
+    requires { IsGiven (rows_of (found_of options.now)) (codes "attribute") }
+    ensures told { IfOk result (λ attribute. attribute_given (rows_of (found_of options.now)) ≡ Some attribute) }
+    ensures bad { IfErr result (λ bad. (bad.argument ≡ Attribute) × IsOutside attribute_in (codes "attribute") (rows_of (found_of options.now)) bad.word.now) }
+{
+    let word = word_told(options, "attribute");
+    match attribute_of(word) {
+        Some(attribute) => Ok(attribute),
+        None => Err(BadWord {
+            argument: Argument::Attribute,
+            word,
+        }),
+    }
+}
+
+fn value_told<'a>(options: &ArgMatches<'a>) -> Result<i128, BadWord<'a>>
+    requires { IsGiven (rows_of (found_of options.now)) (codes "value") }
+    ensures told { IfOk result (λ value. value_given (rows_of (found_of options.now)) ≡ Some value) }
+    ensures bad { IfErr result (λ bad. (bad.argument ≡ Value) × IsOutside (value_read (rows_of (found_of options.now))) (codes "value") (rows_of (found_of options.now)) bad.word.now) }
+{
+    let word = word_told(options, "value");
+    match value_of(word, is_minus(options)) {
+        Some(value) => Ok(value),
+        None => Err(BadWord {
+            argument: Argument::Value,
+            word,
+        }),
+    }
+}
+
+fn is_minus(options: &ArgMatches<'_>) -> bool
+    ensures { result ≡ is_set (first_of (codes "minus") (rows_of (found_of options.now))) }
+{
+    is_given(options.get_str("minus"))
 }
 
 fn order_told(flag: Option<&str>) -> Order

@@ -11,6 +11,10 @@ use std::fmt;
 pub enum Argument {
     /// The offset of an entry in `.debug_info`.
     Offset,
+    /// The name or the number of an attribute.
+    Attribute,
+    /// A number that an attribute gets.
+    Value,
 }
 
 /// A word that isn't what its argument may be.
@@ -29,6 +33,8 @@ impl Argument {
     {
         match self {
             Argument::Offset => "OFFSET",
+            Argument::Attribute => "ATTR",
+            Argument::Value => "VALUE",
         }
     }
 
@@ -37,12 +43,19 @@ impl Argument {
         ensures { result.now ≡ wanted self }
     {
         match self {
-            Argument::Offset => NUMBER_WANTED,
+            Argument::Offset => OFFSET_WANTED,
+            Argument::Attribute => ATTRIBUTE_WANTED,
+            Argument::Value => VALUE_WANTED,
         }
     }
 }
 
-const NUMBER_WANTED: &str = "a number below 2^64 is wanted, in decimal or in hexadecimal after 0x";
+const OFFSET_WANTED: &str = "a number below 2^64 is wanted, in decimal or in hexadecimal after 0x";
+
+const ATTRIBUTE_WANTED: &str =
+    "a name like DW_AT_name is wanted, or a number below 2^64, in decimal or in hexadecimal after 0x";
+
+const VALUE_WANTED: &str = "a number below 2^127 is wanted, in decimal or in hexadecimal after 0x";
 
 /// The text is the message for the user, with the end of its last line.
 impl fmt::Display for BadWord<'_> {

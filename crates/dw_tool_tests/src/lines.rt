@@ -105,6 +105,71 @@ fn reads_the_options_of_a_type(rt: HostRuntime) {
     );
 }
 
+// What a line with these words behind its paths is to do.
+fn asked<'a>(alloc: Global, words: &'a [&'a str]) -> Option<Command<'a>> {
+    Some(line(alloc, words).ok()?.command)
+}
+
+#[test]
+fn reads_a_check(rt: HostRuntime) {
+    let words = ["check", "--info", "a", "--abbrev", "b"];
+    assert!(rt; asked(rt.alloc(), &words) == Some(Command::Check));
+}
+
+#[test]
+fn reads_an_edit(rt: HostRuntime) {
+    for (offset, name, value, set) in [
+        ("12", "DW_AT_byte_size", "6", (12u64, 0x0bu64, 6i128)),
+        ("0xC", "11", "0x06", (12, 0x0b, 6)),
+        ("012", "0x2137", "0", (12, 0x2137, 0)),
+        (
+            "18446744073709551615",
+            "0xffffffffffffffff",
+            "170141183460469231731687303715884105727",
+            (u64::MAX, u64::MAX, i128::MAX),
+        ),
+    ] {
+        let words = ["set", "--info", "a", offset, name, "--abbrev", "b", value];
+        let edit = Command::SetNumber {
+            offset: set.0,
+            name: set.1,
+            value: set.2,
+        };
+        assert!(rt; asked(rt.alloc(), &words) == Some(edit), "{name}");
+    }
+}
+
+#[test]
+fn reads_an_edit_below_zero(rt: HostRuntime) {
+    for (value, number) in [("5", -5i128), ("0", 0), ("0x80", -128)] {
+        let edit = Command::SetNumber {
+            offset: 12,
+            name: 0x1c,
+            value: number,
+        };
+        let before = [
+            "set",
+            "--minus",
+            "--info=a",
+            "--abbrev=b",
+            "12",
+            "DW_AT_const_value",
+            value,
+        ];
+        assert!(rt; asked(rt.alloc(), &before) == Some(edit), "{value}");
+        let behind = [
+            "set",
+            "--info=a",
+            "--abbrev=b",
+            "12",
+            "28",
+            value,
+            "--minus",
+        ];
+        assert!(rt; asked(rt.alloc(), &behind) == Some(edit), "{value}");
+    }
+}
+
 #[test]
 fn takes_an_empty_path_and_a_lone_hyphen(rt: HostRuntime) {
     let taken = line(rt.alloc(), &["show", "--info=", "--abbrev", "-"]).ok();
@@ -167,6 +232,79 @@ fn refuses_words_that_are_no_offset(rt: HostRuntime) {
         );
         assert!(rt; is_mistake(rt.alloc(), &words), "{word}");
     }
+}
+
+#[test]
+fn refuses_the_first_word_that_is_none_of_the_grammar(rt: HostRuntime) {
+    for (words, argument, word) in [
+        (["z", "y", "x"], Argument::Offset, "z"),
+        (["12", "y", "x"], Argument::Attribute, "y"),
+        (["12", "DW_AT_", "x"], Argument::Attribute, "DW_AT_"),
+        (
+            ["12", "DW_TAG_member", "6"],
+            Argument::Attribute,
+            "DW_TAG_member",
+        ),
+        (["12", "3", "x"], Argument::Value, "x"),
+        (["12", "DW_AT_name", ""], Argument::Value, ""),
+        (
+            ["12", "3", "170141183460469231731687303715884105728"],
+            Argument::Value,
+            "170141183460469231731687303715884105728",
+        ),
+    ] {
+        let line_words = [
+            "set",
+            "--info=a",
+            "--abbrev=b",
+            words[0],
+            words[1],
+            words[2],
+        ];
+        let expected = BadWord { argument, word };
+        assert!(rt;
+            bad_word(line(rt.alloc(), &line_words)) == Some(expected),
+            "{word}"
+        );
+        assert!(rt; is_mistake(rt.alloc(), &line_words), "{word}");
+    }
+}
+
+#[test]
+fn takes_minus_for_an_edit_alone(rt: HostRuntime) {
+    let alloc = rt.alloc();
+    assert!(rt;
+        is_mistake(
+            alloc,
+            &["type", "--info", "a", "--abbrev", "b", "--minus", "5"]
+        )
+    );
+    assert!(rt; is_mistake(alloc, &["check", "--info", "a", "--abbrev", "b", "--minus"]));
+    assert!(rt; is_mistake(alloc, &["check", "--info", "a", "--abbrev", "b", "5"]));
+    assert!(rt; is_mistake(alloc, &["set", "--info", "a", "--abbrev", "b", "12", "3"]));
+    assert!(rt;
+        is_mistake(
+            alloc,
+            &["set", "--info", "a", "--abbrev", "b", "12", "3", "-5"]
+        )
+    );
+    assert!(rt;
+        is_mistake(
+            alloc,
+            &["set", "--info", "a", "--abbrev", "b", "12", "3", "5", "6"]
+        )
+    );
+    let twice = [
+        "set",
+        "--info=a",
+        "--abbrev=b",
+        "--minus",
+        "12",
+        "3",
+        "5",
+        "--minus",
+    ];
+    assert!(rt; is_mistake(alloc, &twice));
 }
 
 #[test]
@@ -256,6 +394,14 @@ fn printed_errors(rt: HostRuntime) -> Result<(), Fail> {
         (
             ["type", "--info=a", "--abbrev=b", "zz"].as_slice(),
             "error: invalid value 'zz' for '<OFFSET>': a number below 2^64 is wanted, in decimal or in hexadecimal after 0x\n\nFor more information, try '--help'.\n",
+        ),
+        (
+            ["set", "--info=a", "--abbrev=b", "1", "name", "5"].as_slice(),
+            "error: invalid value 'name' for '<ATTR>': a name like DW_AT_name is wanted, or a number below 2^64, in decimal or in hexadecimal after 0x\n\nFor more information, try '--help'.\n",
+        ),
+        (
+            ["set", "--info=a", "--abbrev=b", "1", "3", "five"].as_slice(),
+            "error: invalid value 'five' for '<VALUE>': a number below 2^127 is wanted, in decimal or in hexadecimal after 0x\n\nFor more information, try '--help'.\n",
         ),
     ] {
         let error = line(rt.alloc(), words).err().ok_or("a line")?;
