@@ -3,4 +3,5 @@ pub mod Entries
 mod FindingRows
 pub mod Items
 pub mod Kept
+pub mod LastZero
 pub mod Marking

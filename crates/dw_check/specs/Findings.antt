@@ -1,15 +1,15 @@
 -- What a check finds wrong in a section: findings in the order of the section.
-use Rattle.std.specs.Prelude.{ℕ, suc, ◌+◌, Bool, true, false, not, ◌&&◌, ◌||◌, List, [], ◌∷◌, ◌++◌, length, Option, Some, None, is_some, Ok, Err, ◌==◌, if◌then◌else◌}
+use Rattle.std.specs.Prelude.{ℕ, suc, ◌+◌, Bool, true, false, not, ◌&&◌, ◌||◌, List, [], ◌∷◌, ◌++◌, length, is_some, Ok, Err, ◌==◌}
 use Rattle.dw_abbrev.specs.Table.{declared}
-use Rattle.dw_form.specs.Lent.{number_in}
 use Rattle.dw_header.specs.declared.kind.Kind.{Kind}
 use Rattle.dw_header.specs.declared.kind.Kind.TheVariants.{Compile, Partial, TypeUnit, Skeleton, Four}
-use Rattle.dw_tree.specs.Lent.{LentAttribute, EntryAt, tag_of, code_of, attributes_of, end_offset_of, root_of, entries_of, find_at}
+use Rattle.dw_tree.specs.Lent.{LentAttribute, EntryAt, tag_of, code_of, attributes_of, root_of, entries_of, find_at}
 use Rattle.dw_unit.specs.Unit.{WholeUnit, tree_of}
 use Rattle.dw_section.specs.declared.id.RefFault.TheVariants as references
 use Rattle.dw_section.specs.Item.{Item, Known, Other}
 use Rattle.dw_section.specs.Section.{WholeSection}
 use Rattle.dw_section.specs.Reference.{Target, ItemAt, items_at, named}
+use Rattle.dw_section.specs.Sibling.{is_right_sibling}
 use Rattle.dw_strings.specs.declared.fault.StrFault.TheVariants as texts
 use Rattle.dw_strings.specs.Text.{StringSections, Named, named_text}
 use Rattle.dw_check.specs.declared.finding.Finding.{Finding}
@@ -49,24 +49,9 @@ is_unresolved (Err references.Supplementary) = false
 abbrev pub is_bad_reference : UnitIn → LentAttribute → Bool
 is_bad_reference u a = not (is_sibling a) && is_unresolved (named u.items u.number u.unit a.form a.attr.value)
 
--- ref1, ref2, ref4, ref8 and ref_udata
-abbrev pub counts_from_unit : ℕ → Bool
-counts_from_unit form = form == 0x11 || (form == 0x12 || (form == 0x13 || (form == 0x14 || form == 0x15)))
-
--- the number is this offset of a unit that starts here, counted as the form says: from the unit, or from the section
-abbrev pub is_offset : ℕ → ℕ → ℕ → ℕ → Bool
-is_offset start offset form v = if counts_from_unit form then v == offset else form == 0x10 && v == start + offset
-
-abbrev pub is_offset_if : ℕ → ℕ → ℕ → Option ℕ → Bool
-is_offset_if start offset form None = false
-is_offset_if start offset form (Some v) = is_offset start offset form v
-
--- a sibling is what begins just behind the entry and all below it: an entry, or the null that ends their chain
-abbrev pub is_right_sibling : UnitIn → EntryAt → LentAttribute → Bool
-is_right_sibling u e a = is_offset_if u.start (end_offset_of e) a.form (number_in a.attr.value)
-
+-- a sibling that isn't just behind the entry and all below it
 abbrev pub is_bad_sibling : UnitIn → EntryAt → LentAttribute → Bool
-is_bad_sibling u e a = is_sibling a && not (is_right_sibling u e a)
+is_bad_sibling u e a = is_sibling a && not (is_right_sibling u.start e a.form a.attr.value)
 
 -- it is a text, and can't be looked up; one of a supplementary file isn't
 abbrev pub is_unreadable : Named → Bool

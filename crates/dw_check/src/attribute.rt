@@ -7,8 +7,7 @@ ghost use Rattle.dw_check.specs.Place.{IsPlace, unit_in};
 use crate::finding::{Finding, FindingKind, push_if};
 use crate::place::Place;
 use dw_leb::constants::attribute::DW_AT_SIBLING;
-use dw_leb::constants::form::*;
-use dw_section::{EntryId, RefFault};
+use dw_section::{EntryId, RefFault, is_right_sibling};
 use dw_strings::StrFault;
 use dw_unit::{AttrRef, EntryRef};
 use std::alloc::AllocError;
@@ -61,25 +60,7 @@ fn is_bad_reference(place: &Place<'_>, entry: &EntryRef<'_>, attribute: &AttrRef
 fn is_bad_sibling(place: &Place<'_>, entry: &EntryRef<'_>, attribute: &AttrRef<'_>) -> bool
     ensures { result ≡ definition.is_bad_sibling (unit_in place.now) entry.now (attr_of attribute.now) }
 {
-    attribute.name == DW_AT_SIBLING && !is_right_sibling(place, entry, attribute)
-}
-
-/// Whether the value of an attribute is the offset just behind the entry and all below it, in the unit or in the
-/// section, as its form says.
-fn is_right_sibling(place: &Place<'_>, entry: &EntryRef<'_>, attribute: &AttrRef<'_>) -> bool
-    ensures { result ≡ definition.is_right_sibling (unit_in place.now) entry.now (attr_of attribute.now) }
-{
-    let Some(value) = attribute.attr.as_number() else {
-        return false;
-    };
-    let end = entry.end_offset();
-    match attribute.form {
-        DW_FORM_REF1 | DW_FORM_REF2 | DW_FORM_REF4 | DW_FORM_REF8 | DW_FORM_REF_UDATA => {
-            value == end
-        }
-        DW_FORM_REF_ADDR => value as u128 == place.start as u128 + end as u128,
-        _ => false,
-    }
+    attribute.name == DW_AT_SIBLING && !is_right_sibling(place.start, entry, attribute)
 }
 
 /// Whether an attribute is a text that can't be looked up.
@@ -87,11 +68,10 @@ fn is_bad_text(place: &Place<'_>, entry: &EntryRef<'_>, attribute: &AttrRef<'_>)
     requires { IsPlace place.now }
     ensures { result ≡ definition.is_bad_text (unit_in place.now) (attr_of attribute.now) }
 {
-    match place
-        .strings
-        .text(place.section, id_in(place, entry), attribute)
-    {
-        Ok(_) | Err(StrFault::NotText | StrFault::Supplementary) => false,
+    let id = id_in(place, entry);
+    match place.strings.place(place.section, id, attribute) {
+        Ok(text) => !place.text_ends.has_text(text),
+        Err(StrFault::NotText | StrFault::Supplementary) => false,
         Err(_) => true,
     }
 }

@@ -3,6 +3,7 @@
 #![tactic(auto)]
 
 mod attribute;
+mod ends;
 mod finding;
 mod marks;
 mod place;

@@ -8,6 +8,7 @@ ghost use Rattle.dw_check.specs.Marks.{AreMarked};
 ghost use Rattle.dw_check.specs.Place.{IsPlace, unit_in};
 
 use crate::attribute::check_attribute;
+use crate::ends::TextEnds;
 use crate::finding::Finding;
 use crate::marks::mark;
 use crate::place::Place;
@@ -28,8 +29,8 @@ use std::alloc::{AllocError, Global};
 /// - texts that can't be looked up (`BadText`);
 /// - attributes whose name an earlier one of the entry has (`RepeatedName`).
 ///
-/// What is in a supplementary file isn't looked up, and items that aren't read have no findings. `AllocError` is
-/// answered where a growth was refused; there is none in a section without units.
+/// What is in a supplementary file isn't looked up, and items that aren't read have no findings. The sections of texts
+/// are searched once, for their last zero bytes, and no text is. `AllocError` is answered where a growth was refused; there is none in a section without units.
 pub fn check<'a>(
     alloc: Global,
     section: &'a Section,
@@ -40,6 +41,7 @@ pub fn check<'a>(
 {
     // The size tells the proof that no offset in the section passes 64 bits.
     let _size = section.size();
+    let text_ends = TextEnds::of(strings);
     let mut found = Vec::new(alloc);
     let mut number = 0;
     let mut start = 0;
@@ -50,6 +52,7 @@ pub fn check<'a>(
                 let place = Place {
                     section,
                     strings,
+                    text_ends,
                     item: number,
                     start,
                     unit,

@@ -38,36 +38,61 @@ text_at section offset = if nat_le (length section) offset then Err PastSection 
 abbrev pub number_at : Order → ℕ → List ℕ → ℕ → Option ℕ
 number_at order size bytes place = if nat_le (place + size) (length bytes) then Some (undigits 256 (ordered order (take size (drop place bytes)))) else None
 
-abbrev pub at_entry : List ℕ → Option ℕ → Named
-at_entry str None = Err PastOffsets
-at_entry str (Some offset) = text_at str offset
+-- ---- where a text begins
+
+-- it is the value itself, or it begins at an offset of .debug_str or of .debug_line_str
+pub data Place : Type 0 where
+  Own : List ℕ → Place
+  InStr : ℕ → Place
+  InLineStr : ℕ → Place
+
+abbrev pub Placed : Type 0
+Placed = Result Place StrFault
+
+abbrev pub at_entry : Option ℕ → Placed
+at_entry None = Err PastOffsets
+at_entry (Some offset) = Ok (InStr offset)
 
 -- the entries of a unit begin at its base, and are offsets of its format in its byte order; a place is a whole number without bound
-abbrev pub by_index : StringSections → Header → Option ℕ → ℕ → Named
+abbrev pub by_index : StringSections → Header → Option ℕ → ℕ → Placed
 by_index s h None index = Err NoBase
-by_index s h (Some base) index = at_entry s.str (number_at h.order (offset_size h.format) s.str_offsets (base + index * offset_size h.format))
-
--- ---- by a value
+by_index s h (Some base) index = at_entry (number_at h.order (offset_size h.format) s.str_offsets (base + index * offset_size h.format))
 
 -- the forms of texts that a number names: strp; line_strp; strx, strx1 to strx4; strp_sup, GNU_strp_alt
 abbrev pub stored_forms : List (ℕ × StoredIn)
 stored_forms = (0x0e, Str) ∷ (0x1f, LineStr) ∷ (0x1a, StrOffsets) ∷ (0x25, StrOffsets) ∷ (0x26, StrOffsets) ∷ (0x27, StrOffsets) ∷ (0x28, StrOffsets) ∷ (0x1d, Elsewhere) ∷ (0x1f21, Elsewhere) ∷ []
 
-abbrev pub stored : StringSections → WholeUnit → ℕ → Option StoredIn → Named
+abbrev pub stored : StringSections → WholeUnit → ℕ → Option StoredIn → Placed
 stored s u v None = Err NotText
-stored s u v (Some Str) = text_at s.str v
-stored s u v (Some LineStr) = text_at s.line_str v
+stored s u v (Some Str) = Ok (InStr v)
+stored s u v (Some LineStr) = Ok (InLineStr v)
 stored s u v (Some StrOffsets) = by_index s u.header (base_of u) v
 stored s u v (Some Elsewhere) = Err Supplementary
 
-abbrev pub by_number : StringSections → WholeUnit → ℕ → Option ℕ → Named
+abbrev pub by_number : StringSections → WholeUnit → ℕ → Option ℕ → Placed
 by_number s u form None = Err NotText
 by_number s u form (Some v) = stored s u v (at_number form stored_forms)
 
-abbrev pub own_text : Option (List ℕ) → Named
+abbrev pub own_text : Option (List ℕ) → Placed
 own_text None = Err NotText
-own_text (Some bytes) = Ok bytes
+own_text (Some bytes) = Ok (Own bytes)
 
--- what a value under a form names in a unit; one of the form string is its own text
+-- where the text begins that a value under a form names in a unit; one of the form string is its own text
+abbrev pub named_place : StringSections → WholeUnit → ℕ → Value → Placed
+named_place s u form value = if form == 0x08 then own_text (text_in value) else by_number s u form (number_in value)
+
+-- ---- by a value
+
+-- the text that begins there
+abbrev pub text_in_place : StringSections → Place → Named
+text_in_place s (Own bytes) = Ok bytes
+text_in_place s (InStr offset) = text_at s.str offset
+text_in_place s (InLineStr offset) = text_at s.line_str offset
+
+abbrev pub text_if_placed : StringSections → Placed → Named
+text_if_placed s (Err why) = Err why
+text_if_placed s (Ok place) = text_in_place s place
+
+-- what a value under a form names in a unit
 abbrev pub named_text : StringSections → WholeUnit → ℕ → Value → Named
-named_text s u form value = if form == 0x08 then own_text (text_in value) else by_number s u form (number_in value)
+named_text s u form value = text_if_placed s (named_place s u form value)

@@ -5,7 +5,9 @@
 mod fault;
 mod form;
 mod lookup;
+mod place;
 mod strings;
 
 pub use fault::StrFault;
+pub use place::TextPlace;
 pub use strings::Strings;

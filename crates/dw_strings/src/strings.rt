@@ -5,11 +5,12 @@ ghost use Rattle.dw_unit.specs.Unit.{WholeUnit};
 ghost use Rattle.dw_section.specs.Lookup.{unit_at};
 ghost use Rattle.dw_section.specs.StringBase.{base_of};
 ghost use Rattle.dw_strings.specs.Text as definition;
-ghost use Rattle.dw_strings.specs.TextView.{sections_of, seen};
+ghost use Rattle.dw_strings.specs.TextView.{place_of, sections_of, seen, seen_place};
 
 use crate::fault::StrFault;
 use crate::form::StoredIn;
 use crate::lookup::{entry, text_at};
+use crate::place::TextPlace;
 use dw_form::AttrValue;
 use dw_leb::constants::form::DW_FORM_STRING;
 use dw_section::{EntryId, Section};
@@ -47,6 +48,27 @@ impl<'a> Strings<'a> {
         requires { IsSome (unit_at section.now.items id.item) }
         ensures { (u : WholeUnit) → unit_at section.now.items id.item ≡ Some u → seen result ≡ definition.named_text (sections_of self.now) u attribute.now.form (attribute_of attribute.now.attr).value }
     {
+        match self.place(section, id, attribute) {
+            Ok(place) => self.text_at(place),
+            Err(fault) => Err(fault),
+        }
+    }
+
+    /// Where the text begins that the value of an attribute names, where the attribute is one of the entry `id`. The
+    /// item of `id` has to be a unit. No text is looked at, so a place that is answered may have none. No memory is
+    /// taken.
+    ///
+    /// Errors, each exactly in its case, and of several the first one: `NotText`, `Supplementary`, `NoBase`,
+    /// `PastOffsets`.
+    pub fn place(
+        &self,
+        section: &Section,
+        id: EntryId,
+        attribute: &AttrRef<'a>,
+    ) -> Result<TextPlace<'a>, StrFault>
+        requires { IsSome (unit_at section.now.items id.item) }
+        ensures { (u : WholeUnit) → unit_at section.now.items id.item ≡ Some u → seen_place result ≡ definition.named_place (sections_of self.now) u attribute.now.form (attribute_of attribute.now.attr).value }
+    {
         if attribute.form == DW_FORM_STRING {
             return own_text(&attribute.attr);
         }
@@ -56,30 +78,48 @@ impl<'a> Strings<'a> {
         }
     }
 
-    /// The text that a number names in the unit of this item.
+    /// The text that begins at a place, without the zero byte that ends it. No memory is taken.
+    ///
+    /// Errors, each exactly in its case: `PastSection`, `NoZero`.
+    pub fn text_at(&self, place: TextPlace<'a>) -> Result<&'a [u8], StrFault>
+        ensures { seen result ≡ definition.text_in_place (sections_of self.now) (place_of place.entry) }
+    {
+        match place {
+            TextPlace::Own(text) => Ok(text),
+            TextPlace::Str(offset) => text_at(self.str, offset),
+            TextPlace::LineStr(offset) => text_at(self.line_str, offset),
+        }
+    }
+
+    /// Where the text begins that a number names in the unit of this item.
     fn stored(
         &self,
         section: &Section,
         item: usize,
         number: u64,
-        place: Option<StoredIn>,
-    ) -> Result<&'a [u8], StrFault>
+        stored: Option<StoredIn>,
+    ) -> Result<TextPlace<'a>, StrFault>
         requires { IsSome (unit_at section.now.items item) }
-        ensures { (u : WholeUnit) → unit_at section.now.items item ≡ Some u → seen result ≡ definition.stored (sections_of self.now) u number place }
+        ensures { (u : WholeUnit) → unit_at section.now.items item ≡ Some u → seen_place result ≡ definition.stored (sections_of self.now) u number stored }
     {
-        match place {
-            Some(StoredIn::Str) => text_at(self.str, number),
-            Some(StoredIn::LineStr) => text_at(self.line_str, number),
+        match stored {
+            Some(StoredIn::Str) => Ok(TextPlace::Str(number)),
+            Some(StoredIn::LineStr) => Ok(TextPlace::LineStr(number)),
             Some(StoredIn::StrOffsets) => self.by_index(section, item, number),
             Some(StoredIn::Elsewhere) => Err(StrFault::Supplementary),
             None => Err(StrFault::NotText),
         }
     }
 
-    /// The text at the offset that the entry of this index gives, in the unit of this item.
-    fn by_index(&self, section: &Section, item: usize, index: u64) -> Result<&'a [u8], StrFault>
+    /// The offset that the entry of this index gives, in the unit of this item.
+    fn by_index(
+        &self,
+        section: &Section,
+        item: usize,
+        index: u64,
+    ) -> Result<TextPlace<'a>, StrFault>
         requires { IsSome (unit_at section.now.items item) }
-        ensures { (u : WholeUnit) → unit_at section.now.items item ≡ Some u → seen result ≡ definition.by_index (sections_of self.now) u.header (base_of u) index }
+        ensures { (u : WholeUnit) → unit_at section.now.items item ≡ Some u → seen_place result ≡ definition.by_index (sections_of self.now) u.header (base_of u) index }
     {
         let header = match section.unit(item) {
             Some(unit) => unit.header(),
@@ -88,13 +128,16 @@ impl<'a> Strings<'a> {
         let (order, format) = (header.order(), header.format());
         let base = section.str_offsets_base(item).ok_or(StrFault::NoBase)?;
         let offset = entry(self.str_offsets, order, format, base, index);
-        text_at(self.str, offset.ok_or(StrFault::PastOffsets)?)
+        Ok(TextPlace::Str(offset.ok_or(StrFault::PastOffsets)?))
     }
 }
 
 /// The text that a value is itself.
-fn own_text<'a>(value: &AttrValue<'a>) -> Result<&'a [u8], StrFault>
-    ensures { seen result ≡ definition.own_text (text_in (value_of value.now.value)) }
+fn own_text<'a>(value: &AttrValue<'a>) -> Result<TextPlace<'a>, StrFault>
+    ensures { seen_place result ≡ definition.own_text (text_in (value_of value.now.value)) }
 {
-    value.as_text().ok_or(StrFault::NotText)
+    match value.as_text() {
+        Some(text) => Ok(TextPlace::Own(text)),
+        None => Err(StrFault::NotText),
+    }
 }

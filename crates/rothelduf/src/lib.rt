@@ -42,7 +42,7 @@ pub use dw_section::{
     EntryId, Item, RefFault, Section, SectionRefusal, SetRefusal, read_section, read_section_as,
     write_section,
 };
-pub use dw_strings::{StrFault, Strings};
+pub use dw_strings::{StrFault, Strings, TextPlace};
 pub use dw_unit::{
     AttrRef, Attrs, Children, Draft, Entries, EntryRef, Header, Kind, Refusal, Unit, UnitBuilder,
     Versions, most_levels, read_header, read_header_as, write_unit,

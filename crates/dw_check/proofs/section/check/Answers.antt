@@ -25,6 +25,7 @@ check_unit-requires c =
       known = unit_known s strings c.loop-item.found.items c.loop-item.number c.loop-item.start c.in-Known.unit xs h;
       fits = unit_fits s strings c.loop-item.found.items c.loop-item.number c.loop-item.start c.in-Known.unit xs h;
       ends = unit_ends s strings c.loop-item.found.items c.loop-item.number c.loop-item.start c.in-Known.unit xs h;
+      text_ends = c.of-text_ends.ensures;
     }
 
 -- where there is an error at all
