@@ -3,3 +3,5 @@
 
 #[cfg(test)]
 mod findings;
+#[cfg(test)]
+mod large;

@@ -15,6 +15,8 @@ mod heads;
 #[cfg(test)]
 mod numbers;
 #[cfg(test)]
+mod renumbers;
+#[cfg(test)]
 mod table_builders;
 #[cfg(test)]
 mod tables;

@@ -6,6 +6,8 @@ mod common;
 #[cfg(test)]
 mod edits;
 #[cfg(test)]
+mod every_number;
+#[cfg(test)]
 mod readers;
 #[cfg(test)]
 mod references;

@@ -1,9 +1,9 @@
 //! Texts whose bytes are known from the standard (sections 7.5.5 and 7.26).
-use crate::common::takes;
+use crate::common::{FIFTEEN, TWO_TABLES, takes};
 use dw_leb::Order;
 use dw_leb::constants::attribute::DW_AT_NAME;
 use dw_section::{EntryId, Section};
-use dw_strings::{StrFault, Strings};
+use dw_strings::{StrFault, Strings, TextPlace};
 use std::alloc::Global;
 use std::process::Abort;
 use std::test::Fail;
@@ -237,4 +237,64 @@ fn bases_orders_and_formats(rt: HostRuntime) -> Result<(), Fail> {
         assert!(rt; holds(rt.alloc(), &case)?);
     }
     Ok(())
+}
+
+/// Whether the name of the root of the first unit begins there.
+fn name_begins(
+    section: &Section,
+    strings: &Strings<'_>,
+    place: Result<TextPlace<'_>, StrFault>,
+) -> bool {
+    let root = match section.unit(0) {
+        Some(unit) => unit.root(),
+        None => return false,
+    };
+    let id = EntryId {
+        item: 0,
+        offset: root.offset(),
+    };
+    match root.attr(DW_AT_NAME) {
+        Some(attribute) => strings.place(section, id, &attribute) == place,
+        None => false,
+    }
+}
+
+fn begins(
+    alloc: Global,
+    table: &[u8],
+    unit: &[u8],
+    place: Result<TextPlace<'_>, StrFault>,
+) -> Result<bool, Fail> {
+    let mut section = Section::new(alloc, Order::Little);
+    let taken = takes(alloc, &mut section, table, unit)?;
+    Ok(taken && name_begins(&section, &INDEXED, place))
+}
+
+/// Those in `.debug_line_str` lie past its end: it is empty.
+#[test]
+fn places_of_texts(rt: HostRuntime) -> Result<(), Fail> {
+    for (table, unit, place) in [
+        (STRP.as_slice(), AT_2.as_slice(), Ok(TextPlace::Str(2))),
+        (&LINE_STRP, &AT_2, Ok(TextPlace::LineStr(2))),
+        (&LINE_STRP, &AT_4, Ok(TextPlace::LineStr(4))),
+        (&STRX1, &INDEX_1, Ok(TextPlace::Str(3))),
+        (&STRX1, &INDEX_2, Err(StrFault::PastOffsets)),
+        (&TWO_TABLES, &FIFTEEN, Ok(TextPlace::Own(b"a"))),
+    ] {
+        assert!(rt; begins(rt.alloc(), table, unit, place)?);
+    }
+    Ok(())
+}
+
+#[test]
+fn texts_in_their_places(rt: HostRuntime) {
+    for (place, text) in [
+        (TextPlace::Own(b"x"), Ok(b"x".as_slice())),
+        (TextPlace::Str(0), Ok(b"ab")),
+        (TextPlace::Str(4), Ok(b"")),
+        (TextPlace::Str(5), Err(StrFault::PastSection)),
+        (TextPlace::LineStr(0), Err(StrFault::PastSection)),
+    ] {
+        assert!(rt; INDEXED.text_at(place) == text);
+    }
 }

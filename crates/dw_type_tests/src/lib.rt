@@ -11,3 +11,5 @@ mod declarators;
 mod details;
 #[cfg(test)]
 mod kinds;
+#[cfg(test)]
+mod large;

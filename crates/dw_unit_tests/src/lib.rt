@@ -25,6 +25,8 @@ mod kinds;
 #[cfg(test)]
 mod large;
 #[cfg(test)]
+mod puts;
+#[cfg(test)]
 mod tree_drafts;
 #[cfg(test)]
 mod trees;
