@@ -355,7 +355,8 @@ module _ (words : List Text) (s : Shape) (good : AllGood s.rules) (whole : level
   is_there : (id : Text) → not (is_given id rows) ≡ false → IsGiven rows id
   is_there id given = given_value id rows (all_full s good words whole) (not_false _ given)
 
-  paths_there : (others : Bool) → (not (is_given (codes "info") rows) || (not (is_given (codes "abbrev") rows) || others)) ≡ false → HasPaths rows × (others ≡ false)
+  paths_there : (others : Bool) → (not (is_given (codes "info") rows) || (not (is_given (codes "abbrev") rows) || others)) ≡ false
+      → HasPaths rows × (others ≡ false)
   paths_there others none =
       let later = right_false (not (is_given (codes "info") rows)) _ none in (
         record {
@@ -368,22 +369,19 @@ module _ (words : List Text) (s : Shape) (good : AllGood s.rules) (whole : level
   word_there : (id : Text) (others : Bool) → (not (is_given id rows) || others) ≡ false → IsGiven rows id × (others ≡ false)
   word_there id others none = (is_there id (left_false (not (is_given id rows)) _ none), right_false (not (is_given id rows)) _ none)
 
--- what a subcommand has on words that it takes
-abbrev pub GivesPaths : Shape → Type 0
-GivesPaths s = (words : List Text) → level_fault s [] nothing_held words false [] ≡ [] → HasPaths (rows_after s.rules [] words)
-
-abbrev pub GivesWord : Shape → Text → Type 0
-GivesWord s id = (words : List Text) → level_fault s [] nothing_held words false [] ≡ [] → HasPaths (rows_after s.rules [] words) × IsGiven (rows_after s.rules [] words) id
+-- what the rows of a subcommand have on words that it takes
+abbrev pub Gives : Shape → (List Row → Type 0) → Type 0
+Gives s Has = (words : List Text) → level_fault s [] nothing_held words false [] ≡ [] → Has (rows_after s.rules [] words)
 
 -- a subcommand without arguments of its own
-pub plain_has : (name : Text) → GivesPaths (built_as (subcommand name))
+pub plain_has : (name : Text) → Gives (built_as (subcommand name)) HasPaths
 plain_has name words whole =
     let s : Shape = built_as (subcommand name) in
     let good : AllGood s.rules = after_options (with_index 1 (filled help_rule) ∷ []) (good_help 1, tt) in
     (paths_there words s good whole _ (none_wanted _ (checked s good words whole))).0
 
 -- a subcommand with one word
-pub word_has : (name id : Text) → GivesWord (built_as (with_rule (subcommand name) (word id))) id
+pub word_has : (name id : Text) → Gives (built_as (with_rule (subcommand name) (word id))) (λ rows. HasPaths rows × IsGiven rows id)
 word_has name id words whole =
     let s : Shape = built_as (with_rule (subcommand name) (word id)) in
     let good : AllGood s.rules = after_options (with_index 1 (filled (word id)) ∷ with_index 2 (filled help_rule) ∷ []) (good_word id 1, (good_help 2, tt)) in
@@ -391,17 +389,14 @@ word_has name id words whole =
     (paths.0, (word_there words s good whole id _ paths.1).0)
 
 -- `set`, with its flag and its three words
-pub setter_has : (words : List Text) → level_fault (built_as setter) [] nothing_held words false [] ≡ []
-    → HasPaths (rows_after (built_as setter).rules [] words)
-    × (IsGiven (rows_after (built_as setter).rules [] words) (codes "offset") × IsGiven (rows_after (built_as setter).rules [] words) (codes "attribute")
-    × IsGiven (rows_after (built_as setter).rules [] words) (codes "value"))
+pub setter_has : Gives (built_as setter) (λ rows. HasPaths rows × (IsGiven rows (codes "offset") × IsGiven rows (codes "attribute") × IsGiven rows (codes "value")))
 setter_has words whole =
     let s : Shape = built_as setter in
     let own : List Rule =
     with_index 1 (filled (flag (codes "minus"))) ∷ with_index 1 (filled (word (codes "offset"))) ∷ with_index 2 (filled (word (codes "attribute"))) ∷
     with_index 3 (filled (word (codes "value"))) ∷ with_index 4 (filled help_rule) ∷ [] in
-    let good : AllGood s.rules =
-    after_options own (good_flag (codes "minus") 1, (good_word (codes "offset") 1, (good_word (codes "attribute") 2, (good_word (codes "value") 3, (good_help 4, tt))))) in
+    let good_words : AllGood (drop 1 own) = (good_word (codes "offset") 1, (good_word (codes "attribute") 2, (good_word (codes "value") 3, (good_help 4, tt)))) in
+    let good : AllGood s.rules = after_options own (good_flag (codes "minus") 1, good_words) in
     let paths = paths_there words s good whole _ (none_wanted _ (checked s good words whole)) in
     let offset = word_there words s good whole (codes "offset") _ paths.1 in
     let attribute = word_there words s good whole (codes "attribute") _ offset.1 in

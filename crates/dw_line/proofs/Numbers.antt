@@ -72,8 +72,8 @@ narrowed limit wide n o (Err x) e h = go (nat_lt n limit) refl
     go false is = rw (number_is wide n o e, is) refl
 
 -- a conversion to a signed number
-pub signed : {E : Type 0} (n : ℕ) (v : ℤ) (o : Option ℕ) (r : Result ℤ E) → Some n ≡ option_and_then (below (2 ^ 128)) o → OkIff r (FitsSigned w128 (pos n)) (pos n)
-    → Some v ≡ result_ok r → (v ≡ pos n) × (FitsSigned w128 (pos n)) × (option_and_then (below (2 ^ 127)) o ≡ Some n)
+pub signed : {E : Type 0} (n : ℕ) (v : ℤ) (o : Option ℕ) (r : Result ℤ E) → Some n ≡ option_and_then (below (2 ^ 128)) o
+    → OkIff r (FitsSigned w128 (pos n)) (pos n) → Some v ≡ result_ok r → (v ≡ pos n) × (FitsSigned w128 (pos n)) × (option_and_then (below (2 ^ 127)) o ≡ Some n)
 signed n v o (Ok m) e h told = let same : v ≡ m = cc in (same ∙ h.1, h.0, rw (number_is (2 ^ 128) n o e, lt-ltb n (2 ^ 127) h.0.sfits) refl)
 signed n v o (Err x) e h told = cc
 

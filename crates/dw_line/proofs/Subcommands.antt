@@ -4,23 +4,22 @@ use Rattle.std.specs.Prelude.{codes, find, option_map}
 use Rattle.std.specs.Option.{option_map_or}
 use Rattle.clap.specs.Words.{Row, Shape, Text, subcommand_of}
 use Rattle.clap.specs.Kinds.{Kinds}
-use Rattle.clap.specs.Walk.{Names, answers_to, nothing_held, rows_after, stop_after, walk_from}
+use Rattle.clap.specs.Walk.{Names, answers_to, nothing_held, stop_after, walk_from}
 use Rattle.clap.specs.Faults.{entered_fault, level_fault, walk_fault}
 use Rattle.clap.specs.Simple.{argument_words, built, built_leaf, entered, help_shape, label_of, names_of, rows_at}
 use Rattle.std.specs.Str.{bytes_eq}
 use Rattle.std.proofs.lemmas.Slice.Eq.{bytes_eq-Decides}
 use Rattle.dw_line.proofs.Helpless.{IsNotHelp, walk_stops}
 use Rattle.dw_line.specs.Line.{HasPaths, HasWords, IsOneOf, Meets, finder, names, program, refusals, setter, subcommand, type_finder}
-use Rattle.dw_line.proofs.Filled.{built_as, first_none, plain_has, second_none, setter_has, word_has}
+use Rattle.dw_line.proofs.Filled.{Gives, built_as, first_none, plain_has, second_none, setter_has, word_has}
 
 -- the subcommand is one of the program's, and has its paths and words on words that it takes
-abbrev Gives : Shape → Type 0
-Gives s = IsOneOf names s.name
-    × ((words : List Text) → level_fault s [] nothing_held words false [] ≡ [] → HasPaths (rows_after s.rules [] words) × HasWords s.name (rows_after s.rules [] words))
+abbrev Serves : Shape → Type 0
+Serves s = IsOneOf names s.name × Gives s (λ rows. HasPaths rows × HasWords s.name rows)
 
-abbrev AllGive : List Shape → Type 0
-AllGive [] = Unit {0}
-AllGive (s ∷ rest) = Gives s × AllGive rest
+abbrev AllServe : List Shape → Type 0
+AllServe [] = Unit {0}
+AllServe (s ∷ rest) = Serves s × AllServe rest
 
 -- why the words after a subcommand aren't taken
 abbrev faults_of : List Shape → Text × List Text → Kinds
@@ -42,29 +41,30 @@ is_help word e = go (bytes_eq (codes "help") word) refl
 -- one of the commands answers, and it is not the help that the parser adds
 one_of : (subs : List Shape) (p : Text × List Text) (found : Option (Text × List Row))
     → found ≡ option_map (λ x. rows_at x p.1) (find (λ x. answers_to p.0 (label_of x)) (subs ++ built_help ∷ []))
-    → is_some found ≡ true → faults_of (subs ++ built_help ∷ []) p ≡ [] → IsNotHelp (Some p) → AllGive subs → Meets found
-one_of [] p found is some taken helpless give = go (answers_to p.0 (label_of built_help)) refl
+    → is_some found ≡ true → faults_of (subs ++ built_help ∷ []) p ≡ [] → IsNotHelp (Some p) → AllServe subs → Meets found
+one_of [] p found is some taken helpless serve = go (answers_to p.0 (label_of built_help)) refl
   where
     go : (t : Bool) → answers_to p.0 (label_of built_help) ≡ t → Meets found
     go true h = absurd (true≢false (sym (is_help p.0 h) ∙ helpless))
     go false h = let none : found ≡ None = is ∙ rw h refl in absurd (true≢false (sym some ∙ ap is_some none))
-one_of (s ∷ rest) p found is some taken helpless give =
-    go (answers_to p.0 (label_of s)) refl (λ later fine. one_of rest p found later some fine helpless give.1)
+one_of (s ∷ rest) p found is some taken helpless serve =
+    go (answers_to p.0 (label_of s)) refl (λ later fine. one_of rest p found later some fine helpless serve.1)
   where
     go : (t : Bool) → answers_to p.0 (label_of s) ≡ t
-        → (found ≡ option_map (λ x. rows_at x p.1) (find (λ x. answers_to p.0 (label_of x)) (rest ++ built_help ∷ [])) → faults_of (rest ++ built_help ∷ []) p ≡ [] → Meets found)
+        → (found ≡ option_map (λ x. rows_at x p.1) (find (λ x. answers_to p.0 (label_of x)) (rest ++ built_help ∷ []))
+        → faults_of (rest ++ built_help ∷ []) p ≡ [] → Meets found)
         → Meets found
     go true e later =
-        let has = give.0.1 p.1 (rw e at taken) in
-        record { name = s.name; rows = (rows_at s p.1).1; matched = is ∙ rw e refl; known = give.0.0; paths = has.0; words = has.1 }
+        let has = serve.0.1 p.1 (rw e at taken) in
+        record { name = s.name; rows = (rows_at s p.1).1; matched = is ∙ rw e refl; known = serve.0.0; paths = has.0; words = has.1 }
     go false e later = later (rw e at is) (rw e at taken)
 
 -- a name is another one
 differs : (name other : Text) → bytes_eq name other ≡ false → name ≡ other → ⊥
 differs name other e is = true≢false (sym ((bytes_eq-Decides name other).1 is) ∙ e)
 
-gives_show : Gives (built_as (subcommand (codes "show")))
-gives_show = (
+serves_show : Serves (built_as (subcommand (codes "show")))
+serves_show = (
   inl refl,
   λ words whole. (
     plain_has (codes "show") words whole,
@@ -76,8 +76,8 @@ gives_show = (
   ),
 )
 
-gives_find : Gives (built_as finder)
-gives_find = (
+serves_find : Serves (built_as finder)
+serves_find = (
   inr (inl refl),
   λ words whole. let has = word_has (codes "find") (codes "name") words whole in (
     has.0,
@@ -89,8 +89,8 @@ gives_find = (
   ),
 )
 
-gives_type : Gives (built_as type_finder)
-gives_type = (
+serves_type : Serves (built_as type_finder)
+serves_type = (
   inr (inr (inl refl)),
   λ words whole. let has = word_has (codes "type") (codes "offset") words whole in (
     has.0,
@@ -102,8 +102,8 @@ gives_type = (
   ),
 )
 
-gives_check : Gives (built_as (subcommand (codes "check")))
-gives_check = (
+serves_check : Serves (built_as (subcommand (codes "check")))
+serves_check = (
   inr (inr (inr (inl refl))),
   λ words whole. (
     plain_has (codes "check") words whole,
@@ -115,8 +115,8 @@ gives_check = (
   ),
 )
 
-gives_set : Gives (built_as setter)
-gives_set = (
+serves_set : Serves (built_as setter)
+serves_set = (
   inr (inr (inr (inr (inl refl)))),
   λ words whole. let has = setter_has words whole in (
     has.0,
@@ -128,8 +128,8 @@ gives_set = (
   ),
 )
 
-gives_copy : Gives (built_as (subcommand (codes "copy")))
-gives_copy = (
+serves_copy : Serves (built_as (subcommand (codes "copy")))
+serves_copy = (
   inr (inr (inr (inr (inr (inl refl))))),
   λ words whole. (
     plain_has (codes "copy") words whole,
@@ -145,9 +145,9 @@ entered_one : (stop : Option (Text × List Text)) (found : Option (Text × List 
     → is_some found ≡ true → entered_fault (built program) stop ≡ [] → IsNotHelp stop → Meets found
 entered_one None found is some taken helpless = absurd (true≢false (sym some ∙ ap is_some is))
 entered_one (Some p) found is some taken helpless =
-    one_of (built_as (subcommand (codes "show")) ∷ built_as finder ∷ built_as type_finder ∷ built_as (subcommand (codes "check")) ∷ built_as setter ∷ built_as (subcommand (codes "copy")) ∷ [])
-    p found is some taken helpless
-    (gives_show, (gives_find, (gives_type, (gives_check, (gives_set, (gives_copy, tt))))))
+    one_of (built_as (subcommand (codes "show")) ∷ built_as finder ∷ built_as type_finder ∷ built_as (subcommand (codes "check")) ∷
+    built_as setter ∷ built_as (subcommand (codes "copy")) ∷ []) p found is some taken helpless
+    (serves_show, (serves_find, (serves_type, (serves_check, (serves_set, (serves_copy, tt))))))
 
 -- a subcommand that was met is one of the program's, and has its paths
 pub meets : (words : List Text) (found : Option (Text × List Row)) → found ≡ subcommand_of program words → is_some found ≡ true → refusals words ≡ [] → Meets found

@@ -81,9 +81,13 @@ finder = with_rule (subcommand (codes "find")) (word (codes "name"))
 abbrev pub type_finder : App
 type_finder = with_rule (subcommand (codes "type")) (word (codes "offset"))
 
--- `set`, with an entry, an attribute of it and the number that it gets
+-- an entry, an attribute of it and the number that it gets
+abbrev pub with_edit : App → App
+with_edit app = with_rule (with_rule (with_rule app (word (codes "offset"))) (word (codes "attribute"))) (word (codes "value"))
+
+-- `set`, with the number's sign as a flag
 abbrev pub setter : App
-setter = with_rule (with_rule (with_rule (with_rule (subcommand (codes "set")) (flag (codes "minus"))) (word (codes "offset"))) (word (codes "attribute"))) (word (codes "value"))
+setter = with_edit (with_rule (subcommand (codes "set")) (flag (codes "minus")))
 
 -- the program without its subcommands: one of them has to be there
 abbrev pub bare_program : App
@@ -138,13 +142,17 @@ IsCommand name rows command.Copy = name ≡ codes "copy"
 abbrev pub IsOutside : {X : Type 0} → (Text → Option X) → Text → List Row → Text → Type 0
 IsOutside read id rows word = (first_of id rows ≡ Some word) × (read word ≡ None)
 
+abbrev pub IsBadWord : {X : Type 0} → Argument → (Text → Option X) → Text → List Row → BadWord → Type 0
+IsBadWord argument read id rows bad = (bad.argument ≡ argument) × IsOutside read id rows bad.word.now
+
 -- The subcommand of this name has the argument, and this word of it is the first that is no word of the grammar, in the order OFFSET,
 -- ATTR, VALUE.
 abbrev pub IsBadAt : Argument → Text → List Row → Text → Type 0
 IsBadAt Offset name rows word = ((name ≡ codes "type") ⊎ (name ≡ codes "set")) × IsOutside offset_in (codes "offset") rows word
 IsBadAt Attribute name rows word = (name ≡ codes "set") × (is_some (offset_given rows) ≡ true) × IsOutside attribute_in (codes "attribute") rows word
 IsBadAt Value name rows word =
-    (name ≡ codes "set") × (is_some (offset_given rows) ≡ true) × (is_some (attribute_given rows) ≡ true) × IsOutside (value_read rows) (codes "value") rows word
+    (name ≡ codes "set") × (is_some (offset_given rows) ≡ true) × (is_some (attribute_given rows) ≡ true)
+    × IsOutside (value_read rows) (codes "value") rows word
 
 -- the names of the subcommands
 abbrev pub names : List Text

@@ -8,7 +8,7 @@ ghost use Rattle.std.specs.declared.io.ErrorKind.TheVariants.{OutOfMemory};
 ghost use Rattle.dw_line.specs.declared.outcome.LineError.TheVariants.{Memory};
 ghost use Rattle.dw_line.specs.declared.word.Argument.TheVariants.{Attribute, Offset, Value};
 ghost use Rattle.dw_line.specs.Words.{attribute_in, offset_in};
-ghost use Rattle.dw_line.specs.Line.{IsBadAt, IsBadBy, IsMistake, IsOneOf, IsOutside, IsCommand, HasWords, IsGiven, Meets, IsLineError, Says, SaysBy, asking_program, finder, flag, names, attribute_given, offset_given, setter, type_finder, value_given, value_read, is_set, optional_path, order_by, path_option, program, refusals, showing_program, subcommand, versions_by, word, with_both_flags, with_entry_sections, with_text_sections};
+ghost use Rattle.dw_line.specs.Line.{IsBadAt, IsBadBy, IsBadWord, IsMistake, IsOneOf, IsCommand, HasWords, IsGiven, Meets, IsLineError, Says, SaysBy, asking_program, finder, flag, names, attribute_given, offset_given, setter, type_finder, value_given, value_read, is_set, optional_path, order_by, path_option, program, refusals, showing_program, subcommand, versions_by, word, with_both_flags, with_entry_sections, with_text_sections};
 
 use crate::outcome::{Line, LineError};
 use crate::word::{Argument, BadWord, attribute_of, offset_of, value_of};
@@ -329,7 +329,7 @@ fn edit_told<'a>(options: &ArgMatches<'a>) -> Result<Command<'a>, BadWord<'a>>
 fn offset_told<'a>(options: &ArgMatches<'a>) -> Result<u64, BadWord<'a>>
     requires { IsGiven (rows_of (found_of options.now)) (codes "offset") }
     ensures told { IfOk result (λ offset. offset_given (rows_of (found_of options.now)) ≡ Some offset) }
-    ensures bad { IfErr result (λ bad. (bad.argument ≡ Offset) × IsOutside offset_in (codes "offset") (rows_of (found_of options.now)) bad.word.now) }
+    ensures bad { IfErr result (IsBadWord Offset offset_in (codes "offset") (rows_of (found_of options.now))) }
 {
     let word = word_told(options, "offset");
     match offset_of(word) {
@@ -344,7 +344,7 @@ fn offset_told<'a>(options: &ArgMatches<'a>) -> Result<u64, BadWord<'a>>
 fn attribute_told<'a>(options: &ArgMatches<'a>) -> Result<u64, BadWord<'a>>
     requires { IsGiven (rows_of (found_of options.now)) (codes "attribute") }
     ensures told { IfOk result (λ attribute. attribute_given (rows_of (found_of options.now)) ≡ Some attribute) }
-    ensures bad { IfErr result (λ bad. (bad.argument ≡ Attribute) × IsOutside attribute_in (codes "attribute") (rows_of (found_of options.now)) bad.word.now) }
+    ensures bad { IfErr result (IsBadWord Attribute attribute_in (codes "attribute") (rows_of (found_of options.now))) }
 {
     let word = word_told(options, "attribute");
     match attribute_of(word) {
@@ -359,7 +359,7 @@ fn attribute_told<'a>(options: &ArgMatches<'a>) -> Result<u64, BadWord<'a>>
 fn value_told<'a>(options: &ArgMatches<'a>) -> Result<i128, BadWord<'a>>
     requires { IsGiven (rows_of (found_of options.now)) (codes "value") }
     ensures told { IfOk result (λ value. value_given (rows_of (found_of options.now)) ≡ Some value) }
-    ensures bad { IfErr result (λ bad. (bad.argument ≡ Value) × IsOutside (value_read (rows_of (found_of options.now))) (codes "value") (rows_of (found_of options.now)) bad.word.now) }
+    ensures bad { IfErr result (IsBadWord Value (value_read (rows_of (found_of options.now))) (codes "value") (rows_of (found_of options.now))) }
 {
     let word = word_told(options, "value");
     match value_of(word, is_minus(options)) {

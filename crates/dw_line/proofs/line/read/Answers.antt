@@ -49,7 +49,8 @@ returns-clause-says c =
     let same = rows_same (subcommand_rows_of c.args.matches.now) _ _ c.requires.matched (rows_of f) c.in-Some.ensures.rows in
     let name_is = name_same (subcommand_rows_of c.args.matches.now) _ _ c.requires.matched c.in-Some.name.now (c.in-Some.ensures.name ∙ name_first _) in
     let command = c.in_ok-command_named.field-0 in
-    let named : IsCommand c.requires.name (rows_of f) command = subst (λ (n : Text). IsCommand n (rows_of f) command) name_is c.in_ok-command_named.ensures.told in
+    let named : IsCommand c.requires.name (rows_of f) command =
+    subst (λ (n : Text). IsCommand n (rows_of f) command) name_is c.in_ok-command_named.ensures.told in
     let value : (id : Text) → first_value f id ≡ first_of id c.requires.rows =
     λ id. first_value-rows f id ∙ ap (first_of id) same in
     record {
@@ -72,7 +73,8 @@ returns-in_err-command_named-clause-bad c =
     let same = rows_same (subcommand_rows_of c.args.matches.now) _ _ c.requires.matched (rows_of f) c.in-Some.ensures.rows in
     let name_is = name_same (subcommand_rows_of c.args.matches.now) _ _ c.requires.matched c.in-Some.name.now (c.in-Some.ensures.name ∙ name_first _) in
     let bad = c.in_err-command_named.field-0.0 in
-    let named : IsBadAt bad.argument c.requires.name (rows_of f) bad.word.now = subst (λ (n : Text). IsBadAt bad.argument n (rows_of f) bad.word.now) name_is c.in_err-command_named.ensures.bad in
+    let named : IsBadAt bad.argument c.requires.name (rows_of f) bad.word.now =
+    subst (λ (n : Text). IsBadAt bad.argument n (rows_of f) bad.word.now) name_is c.in_err-command_named.ensures.bad in
     let p = err_from_is_err_and c.from_residual.result c.from_residual.ensures.1 in
     let told : IsBadBy (subcommand_rows_of c.args.matches.now) bad = record {
       name = c.requires.name;

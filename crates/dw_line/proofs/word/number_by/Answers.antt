@@ -9,5 +9,6 @@ pub returns : goal.returns
 returns c =
     let starts = starts_char 43 c.args.digits.now c.starts_with.result c.starts_with.ensures.cases (omega arith) (omega arith) in
     let same = kept c.args.digits.now (λ plus. true≢false (sym (starts.1 plus) ∙ c.if-starts_with.false)) in
-    c.ok.ensures.value ∙ parsed c.args.base (2 ^ 128) c.args.digits.now c.from_str_radix.result
-    (subst (λ (ds : List ℕ). OkIff c.from_str_radix.result (IsNumeral c.args.base ds × (digits_value c.args.base ds < 2 ^ 128)) (digits_value c.args.base ds)) same c.from_str_radix.ensures.value)
+    let parses : (ds : List ℕ) → Type 0 =
+    λ ds. OkIff c.from_str_radix.result (IsNumeral c.args.base ds × (digits_value c.args.base ds < 2 ^ 128)) (digits_value c.args.base ds) in
+    c.ok.ensures.value ∙ parsed c.args.base (2 ^ 128) c.args.digits.now c.from_str_radix.result (subst parses same c.from_str_radix.ensures.value)
