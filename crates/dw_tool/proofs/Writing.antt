@@ -1,6 +1,6 @@
 -- What a run writes of a section that was read.
 use Rattle.std.proofs.Common.{◌≡◌, ◌<◌, ◌+◌, ℕ, suc, Bool, true, false, List, [], ◌∷◌, ◌++◌, length, Option, Some, None, Result, Ok, Err, refl, sym, subst, ap, ◌∙◌, length-append, arith}
-use Rattle.std.specs.Prelude.{◌==◌, IsSome, ℤ, codes, nat_le, nat_lt}
+use Rattle.std.specs.Prelude.{◌==◌, IsSome, codes, nat_le, nat_lt}
 use Rattle.std.specs.Io.KnownBytes.{Keeps}
 use Rattle.std.proofs.lemmas.Bool.{ltb-true}
 use Rattle.dw_leb.specs.declared.order.Order.{Order}
@@ -22,14 +22,12 @@ use Rattle.dw_ctype.specs.Types.{Source, type_text}
 use Rattle.dw_ctype.specs.Visits.{entry_text_visits}
 use Rattle.dw_tool.specs.declared.command.Command.{Command}
 use Rattle.dw_tool.specs.declared.command.Command.TheVariants.{Show, Find, TypeOf, Check, SetNumber, Copy}
-use Rattle.dw_tool.specs.declared.status.Refused.{Refused}
 use Rattle.dw_tool.specs.declared.status.Status.{Status}
 use Rattle.dw_tool.specs.declared.status.Status.TheVariants.{Bad}
 use Rattle.dw_tool.specs.declared.status.ToolError.{ToolError}
 use Rattle.dw_tool.specs.declared.status.ToolError.TheVariants as tool
 use Rattle.dw_tool.specs.Findings.{findings_text}
 use Rattle.dw_tool.specs.Run.{TookBytes, Writes, checked_status, told}
-use Rattle.dw_tool.specs.Set.{set_bytes}
 use Rattle.dw_tool.specs.Status.{refused_type}
 use Rattle.dw_tool.specs.TypeOf.{OrMemory, line_at, line_of, name_shown, type_line}
 
@@ -62,9 +60,9 @@ unit_some versions order start i (x ∷ xs) fit h = omega (arith, item_some vers
 
 -- ---- an answer with its error as one of a run
 
-told_ok : {X E : Type 0} (as_error : E → ToolError) (r : Result X E) (x : X) → told as_error r ≡ Ok x → r ≡ Ok x
-told_ok as_error (Ok y) x h = let same : y ≡ x = cc in ap Ok same
-told_ok as_error (Err why) x h = absurd cc
+told_ok : (r : Result (List ℕ) TypeError) (line : List ℕ) → told r ≡ Ok line → r ≡ Ok line
+told_ok (Ok text) line h = let same : text ≡ line = cc in ap Ok same
+told_ok (Err why) line h = absurd cc
 
 -- ---- memory
 
@@ -83,7 +81,7 @@ module _ (command : Command) (strings : StringSections) (versions : Versions) (o
       by : (c : Command) → Writes c strings s held held' (Err tool.Memory) → TookBytes {X = Status} left left' (Err tool.Memory)
       by Show w = absurd w.2
       by (Find name) w = absurd w.2
-      by (TypeOf offset) w = bytes_taken (line_some strings offset s w.0 (told_ok refused_type (type_line strings offset s) w.0 w.1))
+      by (TypeOf offset) w = bytes_taken (line_some strings offset s w.0 (told_ok (type_line strings offset s) w.0 w.1))
       by Check w = bytes_taken (unit_some versions order 0 w.2.0 s.items takes.is.fit w.2.1)
       by (SetNumber offset name value) w = absurd w.2
       by Copy w = absurd w.2
@@ -114,19 +112,15 @@ module _ (strings : StringSections) (s : WholeSection) (held : Option (List ℕ)
       never = never_memory (record { items = s.items; strings = strings }) (find s.items offset)
 
       by : (out : Result (List ℕ) TypeError) (e : TypeError) → type_line strings offset s ≡ out → OrMemory out e → Writes (TypeOf offset) strings s held held (Err (refused_type e))
-      by (Err why) types.NoEntry is h = (ap (told refused_type) (is ∙ ap Err (sym h)), keeps_same held)
-      by (Err why) types.TypeTooBig is h = (ap (told refused_type) (is ∙ ap Err (sym h)), keeps_same held)
+      by (Err why) types.NoEntry is h = (ap told (is ∙ ap Err (sym h)), keeps_same held)
+      by (Err why) types.TypeTooBig is h = (ap told (is ∙ ap Err (sym h)), keeps_same held)
       by (Err why) types.NoMemory is h = absurd (never (is ∙ ap Err (sym h)))
       by (Ok text) types.NoEntry is h = cc
       by (Ok text) types.TypeTooBig is h = cc
-      by (Ok text) types.NoMemory is h = (text, ap (told refused_type) is, tt, keeps_same held)
+      by (Ok text) types.NoMemory is h = (text, ap told is, tt, keeps_same held)
 
   pub unwritten : (command : Command) (offset : ℕ) (e : TypeError) → command ≡ TypeOf offset → OrMemory (type_line strings offset s) e → Writes command strings s held held (Err (refused_type e))
   unwritten command offset e is h = subst (λ (c : Command). Writes c strings s held held (Err (refused_type e))) (sym is) (no_line offset e h)
-
-  -- a number that isn't set
-  pub unset : (command : Command) (offset name : ℕ) (value : ℤ) (r : Refused) → command ≡ SetNumber offset name value → set_bytes offset name value s ≡ Err r → Writes command strings s held held (Err (tool.Refused r))
-  unset command offset name value r is h = subst (λ (c : Command). Writes c strings s held held (Err (tool.Refused r))) (sym is) (ap (told tool.Refused) h, keeps_same held)
 
 -- ---- findings
 

@@ -9,6 +9,7 @@ use Rattle.dw_section.specs.Lookup.{unit_at}
 use Rattle.dw_section.specs.Section.{WholeSection, section_bytes}
 use Rattle.dw_section.specs.Reads.{TakesSection, TakesNoSection}
 use Rattle.dw_check.specs.Findings.{findings}
+use Rattle.dw_ctype.specs.declared.fault.TypeError.{TypeError}
 use Rattle.dw_tool.specs.declared.command.Command.{Command}
 use Rattle.dw_tool.specs.declared.command.Command.TheVariants.{Show, Find, TypeOf, Check, SetNumber, Copy}
 use Rattle.dw_tool.specs.declared.status.Status.{Status}
@@ -19,23 +20,29 @@ use Rattle.dw_strings.specs.Text.{StringSections}
 use Rattle.dw_tool.specs.Show.{section_text}
 use Rattle.dw_tool.specs.Find.{found_text, is_any}
 use Rattle.dw_tool.specs.Findings.{findings_text}
-use Rattle.dw_tool.specs.Set.{set_bytes}
+use Rattle.dw_tool.specs.Set.{set_at}
 use Rattle.dw_tool.specs.Status.{refused_type}
+use Rattle.dw_tool.specs.declared.status.Refused.{Refused}
 use Rattle.dw_tool.specs.TypeOf.{type_line}
 
--- with its error as one of a run
-abbrev pub told : {X E : Type 0} → (E → ToolError) → Result X E → Result X ToolError
-told as_error (Ok x) = Ok x
-told as_error (Err why) = Err (as_error why)
+-- the line of a type, with its error as one of a run
+abbrev pub told : Result (List ℕ) TypeError → Result (List ℕ) ToolError
+told (Ok line) = Ok line
+told (Err why) = Err (refused_type why)
+
+-- the bytes of the section that a number was set in
+abbrev pub bytes_then : Result WholeSection Refused → Result (List ℕ) ToolError
+bytes_then (Ok s) = Ok (section_bytes s)
+bytes_then (Err why) = Err (tool.Refused why)
 
 -- of a section `show` writes the text, `find` the entries of a name, `type` the type of an entry, `check` what is wrong, `set` the bytes
 -- with a number in the place of another, and `copy` the bytes
 abbrev pub output : Command → StringSections → WholeSection → Result (List ℕ) ToolError
 output Show strings s = Ok (section_text strings s)
 output (Find name) strings s = Ok (found_text strings name.now s)
-output (TypeOf offset) strings s = told refused_type (type_line strings offset s)
+output (TypeOf offset) strings s = told (type_line strings offset s)
 output Check strings s = Ok (findings_text (findings strings s))
-output (SetNumber offset name value) strings s = told tool.Refused (set_bytes offset name value s)
+output (SetNumber offset name value) strings s = bytes_then (set_at offset name value s)
 output Copy strings s = Ok (section_bytes s)
 
 -- nothing was found where no line is written

@@ -1,7 +1,6 @@
 //! A number of a section that becomes another one, by the offset of its entry.
 ghost use Rattle.std.specs.Prelude.{◌≡◌, Err, IfErr, Ok, OnErr, OnOk};
-ghost use Rattle.dw_section.specs.Section.{section_bytes};
-ghost use Rattle.dw_tool.specs.Set.{set_bytes};
+ghost use Rattle.dw_tool.specs.Set as definition;
 
 use crate::status::Refused;
 use dw_section::Section;
@@ -12,8 +11,8 @@ use dw_section::Section;
 /// Errors: those of `Section::set_number`, and then the section is as it was; `NoEntry` exactly where no entry begins
 /// at the offset.
 pub fn set_at(section: &mut Section, offset: u64, name: u64, value: i128) -> Result<(), Refused>
-    ensures set { OnOk result (set_bytes offset name value section.old ≡ Ok (section_bytes section.new)) }
-    ensures refused { IfErr result (λ why. set_bytes offset name value section.old ≡ Err why) }
+    ensures set { OnOk result (definition.set_at offset name value section.old ≡ Ok section.new) }
+    ensures refused { IfErr result (λ why. definition.set_at offset name value section.old ≡ Err why) }
     ensures unchanged { OnErr result (section.new ≡ section.old) }
 {
     let Some(id) = section.find(offset) else {
