@@ -12,9 +12,9 @@ use borrow.Author.Tests.{eq-eqb, ne_eqb}
 use Rattle.dw_leb.specs.declared.errors.WriteError.{WriteError}
 use Rattle.dw_leb.specs.declared.watch.Watched.{Watched}
 use Rattle.dw_leb.specs.Watch.{AppendsFront, Wrote, inner_of, writer_fault}
-use Rattle.dw_leb.specs.Transfers.{appends_more, front_behind, front_of_both}
+use Rattle.dw_leb.specs.Transfers.{appends_more, appends_none, front_behind, front_of_both}
 use Rattle.dw_tool.specs.declared.output.Output.{Output}
-use Rattle.dw_tool.specs.Output.{Passes, Puts, buffered, writer_of}
+use Rattle.dw_tool.specs.Output.{IsClear, Passes, Puts, buffered, writer_of}
 use Rattle.dw_tool.specs.Text.{each}
 
 -- what is written of two texts
@@ -53,6 +53,14 @@ puts_stopped {X = X} {e = e} contents (Err f) old a b new is h =
 pub stopped_after : {W X Y Z : Type 0} {v : Y} {e : WriteError} (contents : W → Option (List ℕ)) (r : Result X WriteError) (old mid : Output W) (a b c : List ℕ) (new : Output W)
     → IsErrAnd r (λ f. f ≡ e) → Puts contents old mid a (Ok v) → Puts {X = Z} contents mid new b (Err e) → Puts contents old new (a ++ (b ++ c)) r
 stopped_after contents r old mid a b c new is h k = puts_after contents r old mid a (b ++ c) new h (puts_stopped contents r mid b c new is k)
+
+-- no text
+pub puts_nothing : {W : Type 0} (contents : W → Option (List ℕ)) (out : Output W) → IsClear out → Puts {X = Unit {0}} contents out out [] (Ok tt)
+puts_nothing contents out clear = record {
+  passes = ([], appends_none (contents (inner_of (writer_of out))), sym (append-nil (buffered out)));
+  fault = clear;
+  same = refl;
+}
 
 -- the same text, whatever the call that put it answers besides
 pub puts_as : {W X Y : Type 0} {u : X} {v : Y} (contents : W → Option (List ℕ)) (old new : Output W) (text : List ℕ) → Puts contents old new text (Ok u) → Puts contents old new text (Ok v)

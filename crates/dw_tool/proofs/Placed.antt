@@ -1,7 +1,9 @@
 -- Where items of a section start, and what references name there.
 use Rattle.std.proofs.Common.{◌≡◌, ℕ, zero, suc, ◌+◌, List, [], ◌∷◌, length, take, drop, Option, Some, None, refl, sym, ap, subst, arith}
-use Rattle.std.specs.Prelude.{Ok, Err, IsSome, IfOk, slice_get}
+use Rattle.std.specs.Prelude.{Ok, Err, IsSome, IfOk, is_some, slice_get, Bool, true, false, ◌==◌, if◌then◌else◌}
 use Rattle.std.proofs.lemmas.List.{length-append}
+use Rattle.dw_form.specs.Form.{at_number}
+use Rattle.dw_form.specs.Lent.{number_in}
 use Rattle.dw_tree.specs.Lent.{EntryAt, LentAttribute}
 use Rattle.dw_unit.specs.Unit.{WholeUnit}
 use Rattle.dw_section.specs.Item.{Item, Known, item_bytes}
@@ -9,7 +11,8 @@ use Rattle.dw_section.specs.Section.{items_bytes}
 use Rattle.dw_section.specs.Reference.{Target, named}
 use Rattle.dw_section.specs.Lookup.{known_of, unit_at, starts_from, start_of, entry}
 use Rattle.dw_section.specs.Found.{InUnit, entry_in_unit}
-use Rattle.dw_tool.specs.Show.{start_at, target_if, target_of}
+use Rattle.dw_strings.specs.Text.{StringSections, stored_forms}
+use Rattle.dw_tool.specs.Show.{named_quoted, start_at, stored_text, target_if, target_of, text_if}
 
 -- ---- starts
 
@@ -66,3 +69,19 @@ target_is items item a t some is = by (unit_at items item) refl some
 pub target_starts : (items : List Item) (t : Target) → IfOk t (λ id. (e : EntryAt) × (entry items id ≡ Some e) × (e.offset ≡ id.offset)) → IfOk t (λ id. IsSome (start_of items id.item))
 target_starts items (Ok id) h = let there : InUnit items id h.0 = entry_in_unit items id h.0 h.1 in start_there items id.item (Known there.unit) there.known
 target_starts items (Err why) h = tt
+
+-- ---- texts
+
+-- a value under a form that no number names a text under has nothing to say
+pub none_stored : (strings : StringSections) (items : List Item) (item : ℕ) (a : LentAttribute) → at_number a.form stored_forms ≡ None → stored_text strings items item a ≡ []
+none_stored strings items item a none = by (a.form == 0x08) (unit_at items item) (number_in a.attr.value) refl refl
+  where
+    by : (own : Bool) (o : Option WholeUnit) (v : Option ℕ) → (a.form == 0x08) ≡ own → number_in a.attr.value ≡ v → (if own then [] else named_quoted (text_if strings a o)) ≡ []
+    by true o v e f = refl
+    by false None v e f = refl
+    by false (Some u) None e f = rw (e, f) refl
+    by false (Some u) (Some n) e f = rw (e, f, none) refl
+
+pub none_is : {X : Type 0} (o : Option X) → is_some o ≡ false → o ≡ None
+none_is None e = refl
+none_is (Some x) e = absurd cc

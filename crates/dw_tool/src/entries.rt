@@ -1,9 +1,11 @@
 //! The texts of entries and of their attributes, in a section. Each call answers the writer's fault where it
 //! fails, as `Output::append` does.
-ghost use Rattle.std.specs.Prelude.{◌≡◌, ◌+◌, ◌++◌, IsSome, IfOk, codes};
+ghost use Rattle.std.specs.Prelude.{◌≡◌, ◌+◌, ◌++◌, is_some, IsSome, IfOk, codes};
+ghost use Rattle.dw_form.specs.Form.{at_number};
 ghost use Rattle.dw_form.specs.Lent.{value_of};
 ghost use Rattle.dw_tree.specs.Lent.{attr_of};
 ghost use Rattle.dw_section.specs.Lookup.{start_of, unit_at};
+ghost use Rattle.dw_strings.specs.Text.{stored_forms};
 ghost use Rattle.dw_strings.specs.TextView.{sections_of};
 ghost use Rattle.dw_tool.specs.Output.{Puts, IsClear};
 ghost use Rattle.dw_tool.specs.Place.{IsPlace};
@@ -17,7 +19,7 @@ use crate::text::{
 };
 use dw_form::Value;
 use dw_leb::WriteError;
-use dw_leb::constants::form::DW_FORM_STRING;
+use dw_leb::constants::form::*;
 use dw_section::{EntryId, RefFault, Section};
 use dw_strings::{StrFault, Strings};
 use dw_unit::{AttrRef, Attrs, Entries, EntryRef};
@@ -221,14 +223,32 @@ fn push_stored_text<W: Write>(
     requires unit { IsSome (unit_at section.now.items from.item) }
     ensures { Puts W.contents out.old out.new (stored_text (sections_of strings.now) section.now.items from.item (attr_of attribute.now)) result }
 {
-    if attribute.form == DW_FORM_STRING {
+    if !is_stored_text(attribute.form) {
         return Ok(());
     }
     match strings.text(section, from, attribute) {
         Ok(text) => push_behind_space(out, text),
-        Err(StrFault::NotText) => Ok(()),
         Err(fault) => out.append(no_text(fault).as_bytes()),
     }
+}
+
+/// Whether a number under this form names a text.
+#[inline(always)]
+fn is_stored_text(form: u64) -> bool
+    ensures { result ≡ is_some (at_number form stored_forms) }
+{
+    matches!(
+        form,
+        DW_FORM_STRP
+            | DW_FORM_LINE_STRP
+            | DW_FORM_STRX
+            | DW_FORM_STRX1
+            | DW_FORM_STRX2
+            | DW_FORM_STRX3
+            | DW_FORM_STRX4
+            | DW_FORM_STRP_SUP
+            | DW_FORM_GNU_STRP_ALT
+    )
 }
 
 fn push_behind_space<W: Write>(out: &mut Output<'_, W>, text: &[u8]) -> Result<(), WriteError>

@@ -7,8 +7,9 @@ use arrayvec::ArrayVec;
 use dw_leb::{Watched, WriteError, write_all};
 use std::io::Write;
 
-/// How many bytes are gathered before they are written.
-const SIZE: usize = 4096;
+/// How many bytes are gathered before they are written: more than a writer behind it gathers, which then passes
+/// them on as they are.
+const SIZE: usize = 16_384;
 
 /// A watched writer behind a buffer. What is appended gathers in the buffer, which is written when it is
 /// full, and by `flush`: what is still there when the output is dropped is never written. No call asks
