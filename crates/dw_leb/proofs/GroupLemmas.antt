@@ -1,9 +1,10 @@
 -- Groups of seven bits: what the code computes is what the plain reader reads.
-use Rattle.std.proofs.Common.{◌≡◌, ◌≤◌, ◌<◌, ◌+◌, ◌-◌, ◌/◌, ◌%◌, ◌^◌, ℕ, zero, suc, Bool, true, false, cond, min, List, [], ◌∷◌, ◌++◌, length, take, position, Option, None, Some, Ok, Err, Result, refl, sym, ap, subst, ◌∙◌, append_assoc, arith}
+use Rattle.std.proofs.Common.{◌≡◌, ◌≤◌, ◌<◌, ◌+◌, ◌*◌, ◌-◌, ◌/◌, ◌%◌, ◌^◌, ℕ, zero, suc, Bool, true, false, cond, min, List, [], ◌∷◌, ◌++◌, length, take, position, Option, None, Some, Ok, Err, Result, refl, sym, ap, subst, ◌∙◌, append_assoc, arith}
 use Rattle.std.specs.Prelude.{nat_lt, if◌then◌else◌}
 use Rattle.std.proofs.lemmas.List.{take-take, length-take-le}
 use Rattle.std.proofs.lemmas.Iterator.Adapters.{position_from-zero}
 use Rattle.std.proofs.Math.Nat.{pow-suc, pow-le-pow_right}
+use Rattle.std.proofs.lemmas.Nat.{pow-add}
 use Rattle.std.proofs.lemmas.Bool.{ltb-true, ltb-false}
 use Rattle.std.specs.List.{position_from}
 use Rattle.dw_leb.specs.Part.{Reason, LebTooBig}
@@ -13,8 +14,22 @@ use Rattle.dw_leb.specs.ReadNumber.{undigits, groups_of, groups_outcome, uleb_fr
 use Rattle.dw_leb.specs.Scan.{is_last, low_bits, number, front_found, front_at, unsigned_scan, signed_scan}
 use Rattle.dw_leb.specs.Decide.{AreBytes}
 
+-- seven bits for each group
+seven_bits : (w : ℕ) → 2 ^ (7 * w) ≡ 128 ^ w
+seven_bits zero = refl
+seven_bits (suc w) =
+    let e : 7 * suc w ≡ 7 * w + 7 = omega arith in
+    rw (e, pow-add 2 (7 * w) 7, seven_bits w, pow-suc 128 w) refl
+
 pub place_small : (w : ℕ) → w ≤ 16 → 128 ^ w ≤ 2 ^ 112
 place_small w h = pow-le-pow_right {n = 128} (omega arith) h
+
+-- a one that is shifted
+pub place_shifted : (w : ℕ) → w ≤ 16 → 1 * 2 ^ (7 * w) % 2 ^ 128 ≡ 128 ^ w
+place_shifted w h =
+    let small = place_small w h in
+    let e = seven_bits w in
+    omega (arith, small, e)
 
 pub number_fits : (bs : List ℕ) → number bs < 128 ^ length bs
 number_fits [] = omega arith

@@ -1,5 +1,6 @@
 //! Unsigned numbers of a fixed size, in either byte order (section 7.5.5 names their uses).
 ghost use Rattle.std.specs.Prelude.{◌≡◌, ◌≤◌, ◌<◌, ◌^◌, ℕ, length, Ok, IfOk, IfErr};
+ghost use Rattle.byteorder.specs.Endian.{little_number};
 ghost use Rattle.dw_leb.specs.Part.{Taken};
 ghost use Rattle.dw_leb.specs.Number.{fixed, fixed_bytes};
 ghost use Rattle.dw_leb.specs.Reader.{answer};
@@ -57,8 +58,26 @@ fn scan(order: Order, n: u8, b: &[u8], lim: u64) -> Result<u128, Reason>
         return Err(Reason::Truncated);
     }
     match order {
-        Order::Little => Ok(LittleEndian::read_uint128(b, n as usize)),
+        Order::Little => Ok(little(n, b)),
         Order::Big => Ok(BigEndian::read_uint128(b, n as usize)),
+    }
+}
+
+// The number in the first `n` bytes, the least significant first. Nearly every number has a size that the
+// machine reads at once.
+#[inline(always)]
+fn little(n: u8, b: &[u8]) -> u128
+    requires some { 1 ≤ n }
+    requires most { n ≤ 16 }
+    requires room { n ≤ length b.now }
+    ensures { result ≡ little_number n b.now }
+{
+    match n {
+        1 => LittleEndian::read_uint(b, 1) as u128,
+        2 => LittleEndian::read_u16(b) as u128,
+        4 => LittleEndian::read_u32(b) as u128,
+        8 => LittleEndian::read_u64(b) as u128,
+        _ => LittleEndian::read_uint128(b, n as usize),
     }
 }
 

@@ -73,12 +73,13 @@ pub(crate) fn number(b: &[u8]) -> u128
 }
 
 /// How many numbers have this many groups: 128 to the power of `width`.
+#[inline(always)]
 pub(crate) fn place(width: u8) -> u128
     requires { width ≤ 16 }
     ensures value { result ≡ 128 ^ width }
     ensures small { result ≤ 2 ^ 112 }
 {
-    128u128.pow(width as u32)
+    1 << (7 * width as u32)
 }
 
 /// The lowest `width` groups of a number, the least significant first, with bit 7 set on all but the
