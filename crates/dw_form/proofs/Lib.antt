@@ -1,3 +1,4 @@
 pub mod Zero
 pub mod Spelled
 mod Found
+mod PlainHead

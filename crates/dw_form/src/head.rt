@@ -1,6 +1,6 @@
 //! A value by its head: the bytes of its spelling that are no content, with what finds the content in
 //! a pool. A value without content is kept as its spelling.
-ghost use Rattle.std.specs.Prelude.{◌≡◌, ◌≤◌, ◌<◌, ◌^◌, ◌+◌, ◌++◌, ℕ, List, length, take, drop, option_map, IfSome, IsSomeAnd, ◌==◌};
+ghost use Rattle.std.specs.Prelude.{◌≡◌, ◌≤◌, ◌<◌, ◌^◌, ◌+◌, ◌++◌, ℕ, List, length, take, drop, None, Some, option_map, IfSome, IsSomeAnd, ◌==◌};
 ghost use Rattle.dw_leb.specs.declared.order.Order.TheVariants.{Little};
 ghost use Rattle.dw_leb.specs.View.{uleb_of, sleb_of};
 ghost use Rattle.dw_form.specs.declared.shape.Ctx.{Ctx};
@@ -207,8 +207,39 @@ fn behind<'a>(
     }
 }
 
-#[tactic(auto, unfolding(crate::specs::Head::head_at))]
+// A value whose form alone tells its size, in at most eight bytes: nearly every value is one.
 #[inline(always)]
+fn plain<'a>(
+    ctx: Ctx,
+    form: u64,
+    implicit: Option<Sleb>,
+    heads: &[u8],
+) -> Option<(Value<'a>, usize)>
+    requires { IsContext ctx }
+    ensures exact { IfSome result (λ x. (pool : List ℕ) →
+        head_at ctx form (option_map sleb_of implicit) heads.now pool ≡ Some (record { via = None; value = value_of x.0 }, x.1)) }
+    ensures room { IfSome result (λ x. x.1 ≤ length heads.now) }
+{
+    match Shape::of(form, ctx.address_size, ctx.format)? {
+        Shape::Fixed(n) => {
+            if n > 8 {
+                return None;
+            }
+            match number(ctx.order, n, heads, heads.len() as u64) {
+                Ok(x) => Some((Value::Num(x as u64), n as usize)),
+                Err(_) => None,
+            }
+        }
+        Shape::Present => Some((Value::Present, 0)),
+        Shape::Implicit => match implicit {
+            Some(constant) => Some((Value::Implicit(constant), 0)),
+            None => None,
+        },
+        _ => None,
+    }
+}
+
+#[tactic(auto, unfolding(crate::specs::Head::head_at))]
 fn by_head<'a>(
     ctx: Ctx,
     form: u64,
@@ -222,6 +253,25 @@ fn by_head<'a>(
 {
     let via = via(form, heads)?;
     behind(ctx, form, implicit, via, heads, pool)
+}
+
+// The same, a plain value first.
+#[inline(always)]
+fn at_front<'a>(
+    ctx: Ctx,
+    form: u64,
+    implicit: Option<Sleb>,
+    heads: &'a [u8],
+    pool: &'a [u8],
+) -> Option<(AttrValue<'a>, usize)>
+    requires { IsContext ctx }
+    ensures exact { option_map (λ x. (attribute_of x.0, x.1)) result ≡ head_at ctx form (option_map sleb_of implicit) heads.now pool.now }
+    ensures room { IfSome result (λ x. x.1 ≤ length heads.now) }
+{
+    match plain(ctx, form, implicit, heads) {
+        Some((value, size)) => Some((AttrValue { via: None, value }, size)),
+        None => by_head(ctx, form, implicit, heads, pool),
+    }
 }
 
 /// The count of bytes, which is less than half of what a word holds.
@@ -256,7 +306,7 @@ pub fn lend_head<'a>(
     ensures room { IfSome result (λ x. x.1 ≤ length heads.now) }
 {
     let _bounded = size(pool);
-    by_head(ctx, form, implicit, heads, pool)
+    at_front(ctx, form, implicit, heads, pool)
 }
 
 /// How many bytes the spelling of a value has whose head has `own` bytes. A text or block stands in the

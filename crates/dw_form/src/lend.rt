@@ -78,6 +78,7 @@ fn signed(b: &[u8], lim: u64) -> Result<Sleb, Reason>
 }
 
 /// A number of `n` bytes, as the plain reader's outcome.
+#[inline(always)]
 pub(crate) fn number(order: Order, n: u8, b: &[u8], lim: u64) -> Result<u128, Reason>
     requires some { 1 ≤ n }
     requires most { n ≤ 16 }

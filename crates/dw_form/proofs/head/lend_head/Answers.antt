@@ -9,7 +9,7 @@ use Rattle.dw_form.proofs.head.lend_head.Goals as goal
 pub returns-clause-put : goal.returns-clause-put
 returns-clause-put c a start rest fits lies e =
     let constant = option_map sleb_of c.args.implicit in
-    lent_is c.by_head.result a _
-    (c.by_head.ensures.exact
+    lent_is c.at_front.result a _
+    (c.at_front.ensures.exact
     ∙ (ap (λ (b : List ℕ). head_at c.args.ctx c.args.form constant b c.args.pool.now) e
     ∙ head_there c.args.ctx c.args.form constant a start rest c.args.pool.now lies (omega (arith, c.size-bounded.ensures.small)) fits))
