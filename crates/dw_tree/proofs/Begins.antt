@@ -243,6 +243,10 @@ if_some : {X : Type 0} (P : Type 0) (o : Option X) → (IsSome o → P) → IfSo
 if_some P None h = tt
 if_some P (Some x) h = h refl
 
+-- what is said of the value that is there
+pub of_some : {X : Type 0} (P : X → Type 0) {o : Option X} {x : X} → o ≡ Some x → IfSome o P → P x
+of_some P is h = subst (λ (q : Option _). IfSome q P) is h
+
 pub settled_room : (o : Option Unfinished) (a b c d : ℕ) → (IsSome o → a < b) → (IsSome o → c < d) → HasRoom o a b c d
 settled_room o a b c d h k = record { row = if_some (a < b) o h; place = if_some (c < d) o k }
 

@@ -26,7 +26,7 @@ use Rattle.dw_tree.specs.Flat.{pairs_at, code_in, with_end, tokens_at, unfinishe
 use Rattle.dw_tree.specs.Steps.{settled, settle_by, settle, end_of, unfinished_bytes, first_values, FirstFits, first_bytes}
 use Rattle.dw_tree.specs.Ends.{bytes_push, prefix_bytes}
 use Rattle.dw_tree.specs.Sizes.{AreShort, values_short, rows_short}
-use Rattle.dw_tree.specs.Completed.{row_of, is_whole, settled_rows, settled_open, settled_unfinished}
+use Rattle.dw_tree.specs.Completed.{one_given, row_of, is_whole, settled_rows, settled_open, settled_unfinished}
 use Rattle.dw_tree.specs.DraftInvariant.{IsSpelled, Stand, TokenFits, LevelFits, EntryFits, levels_after, IsGivenEntry, IsUnfinished, AreGiven, pairs_given, entry_with, AreLists}
 use Rattle.dw_tree.proofs.Spells.{after-push, spells_leaf, spells_branch, spells_null}
 use Rattle.dw_tree.proofs.Spelled.{all_tokens_fit}
@@ -231,9 +231,6 @@ split [] [] lt = absurd (omega (arith, lt))
 split [] (w ∷ vs) lt = absurd (omega (arith, lt))
 split (p ∷ qs) [] lt = ([], p, qs, refl, refl, refl)
 split (q ∷ qs) (w ∷ vs) lt = let s = split qs vs (omega (arith, lt)) in (q ∷ s.0, s.1, s.2, ap (λ (ws : List Pair). q ∷ ws) s.3, omega (arith, s.4), s.5)
-
-abbrev pub one_given : Unfinished → Unfinished
-one_given r = record { code = r.code; offset = r.offset; first = r.first; given = r.given + 1; count = r.count; children = r.children; pool = r.pool }
 
 module _ (k : Ctx) (t : Table) (start : ℕ) (rows : List Row) (hs pool open_at : List ℕ) (here : ℕ) (xs : List Token) (vs : List Attribute) (r : Unfinished) (l : AreLists k t start rows hs pool open_at (Some r) here xs vs)
     (v : Attribute) (n : FirstFits k (drop (length vs) (pairs_at t r.code.value)) v) (hs' pool' : List ℕ) (eh : hs' ≡ hs ++ (front_bytes v (first_bytes k (drop (length vs) (pairs_at t r.code.value)) v) ++ finder (length pool) v.value))

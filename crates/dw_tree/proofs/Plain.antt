@@ -15,9 +15,9 @@ use Rattle.dw_tree.specs.Row.{Token}
 use Rattle.dw_tree.specs.Place.{spot_after}
 use Rattle.dw_tree.specs.Flat.{pairs_at}
 use Rattle.dw_tree.specs.Steps.{FirstFits, first_bytes, settle}
-use Rattle.dw_tree.specs.Completed.{settled_rows, settled_open, settled_unfinished}
+use Rattle.dw_tree.specs.Completed.{one_given, settled_rows, settled_open, settled_unfinished}
 use Rattle.dw_tree.specs.DraftInvariant.{AreLists}
-use Rattle.dw_tree.proofs.Lists.{StandFor, one_given, value_given}
+use Rattle.dw_tree.proofs.Lists.{StandFor, value_given}
 
 all_taken : (v : Value) (via : ℕ) (bytes : List ℕ) → is_plain v ≡ true → take (own_size v via (length bytes)) bytes ≡ bytes
 all_taken (Num x) via bytes e = take_all (length bytes) bytes (omega arith)

@@ -14,6 +14,10 @@ abbrev pub row_of : Bool → Unfinished → ℕ → ℕ → Row
 row_of true r n depth = row_with r Branch 0 depth
 row_of false r n depth = row_with r Leaf (n + 1) depth
 
+-- with one value more
+abbrev pub one_given : Unfinished → Unfinished
+one_given r = record { code = r.code; offset = r.offset; first = r.first; given = r.given + 1; count = r.count; children = r.children; pool = r.pool }
+
 -- it was given as many values as its declaration asks for
 abbrev pub is_whole : Unfinished → Bool
 is_whole r = r.given == r.count

@@ -1,5 +1,5 @@
 //! A tree under construction.
-ghost use Rattle.std.specs.Prelude.{◌≡◌, ◌≢◌, ◌+◌, ◌<◌, ◌≤◌, ◌^◌, ◌-◌, ◌*◌, [], length, map, option_map, IfOk, IfSome, None, Some, is_some, IsSome, OnOk, OnErr, vec_len, vec_capacity};
+ghost use Rattle.std.specs.Prelude.{◌≡◌, ◌≢◌, ◌+◌, ◌++◌, ◌<◌, ◌≤◌, ◌^◌, ◌-◌, ◌*◌, [], length, map, option_map, IfOk, IfSome, None, Some, is_some, IsSome, OnOk, OnErr, vec_len, vec_capacity};
 ghost use Rattle.dw_leb.specs.Number.{uleb};
 ghost use Rattle.dw_leb.specs.View.{uleb_of};
 ghost use Rattle.dw_form.specs.Form.{IsContext, Attribute};
@@ -14,7 +14,7 @@ ghost use Rattle.dw_tree.specs.PoolBytes.{held_in, partial_bytes};
 ghost use Rattle.dw_tree.specs.RowHeads.{heads_in};
 ghost use Rattle.dw_tree.specs.Emptiness.{is_bare};
 ghost use Rattle.dw_tree.specs.declared.row.RowKind.TheVariants.{Null};
-ghost use Rattle.dw_tree.specs.Completed.{row_with, settled_rows, settled_open, settled_unfinished};
+ghost use Rattle.dw_tree.specs.Completed.{one_given, row_with, settled_rows, settled_open, settled_unfinished};
 ghost use Rattle.dw_tree.specs.Steps.{begun_at, with_value, partial_in, partial_attribute, started, extended, ended, closed_at, undone, end_of, NextFits, IsPlainNext, SpellsPlain, next_bytes, next_front, next_pair, next_pairs, finished};
 
 use crate::row::{PartialValue, Row, RowKind, Unfinished};
@@ -130,15 +130,10 @@ impl TreeDraft {
         ensures ok { OnOk result (self.new ≡ with_value (attribute_of value.now) self.old) }
         ensures err { OnErr result (self.new ≡ self.old) }
     {
-        if let Some(unfinished) = self.unfinished {
+        if let Some(_unfinished) = self.unfinished {
             put_head(value, front, &mut self.heads, &mut self.pool)?;
             self.here += size;
-            let given = unfinished.given + 1;
-            let unfinished = Unfinished {
-                given,
-                ..unfinished
-            };
-            self.unfinished = settle(&mut self.rows, &mut self.nested, unfinished);
+            count_value(&mut self.rows, &mut self.nested, &mut self.unfinished);
         }
         Ok(())
     }
@@ -152,15 +147,10 @@ impl TreeDraft {
         ensures ok { (v : Attribute) → IsPlainNext self.old.context self.old.table self.old.place.unfinished v spelling.now → OnOk result (self.new ≡ with_value v self.old) }
         ensures err { OnErr result (self.new ≡ self.old) }
     {
-        if let Some(unfinished) = self.unfinished {
-            self.heads.extend_from_slice(spelling)?;
+        if let Some(_unfinished) = self.unfinished {
+            append_few(&mut self.heads, spelling)?;
             self.here += spelling.len() as u64;
-            let given = unfinished.given + 1;
-            let unfinished = Unfinished {
-                given,
-                ..unfinished
-            };
-            self.unfinished = settle(&mut self.rows, &mut self.nested, unfinished);
+            count_value(&mut self.rows, &mut self.nested, &mut self.unfinished);
         }
         Ok(())
     }
@@ -443,6 +433,44 @@ fn null_row(null: Uleb, offset: u64, end: usize, depth: u16) -> Row
         width: null.width,
         depth,
         kind: RowKind::Null,
+    }
+}
+
+/// Appends bytes. A few are moved at once, as those of a number.
+#[inline(always)]
+fn append_few(list: &mut Vec<u8>, bytes: &[u8]) -> Result<(), AllocError>
+    ensures items { OnOk result (list.new.items ≡ list.old.items ++ bytes.now) }
+    ensures err { OnErr result (list.new.items ≡ list.old.items) }
+{
+    match bytes.len() {
+        1 => list.extend_from_slice(&bytes[..1]),
+        2 => list.extend_from_slice(&bytes[..2]),
+        4 => list.extend_from_slice(&bytes[..4]),
+        8 => list.extend_from_slice(&bytes[..8]),
+        _ => list.extend_from_slice(bytes),
+    }
+}
+
+/// The unfinished entry has one value more. Where it has all then, its row is put; else it is read on, and
+/// nothing else of it is touched.
+#[inline(always)]
+fn count_value(rows: &mut Vec<Row>, nested: &mut Vec<usize>, unfinished: &mut Option<Unfinished>)
+    requires short { IfSome unfinished.old (λ r. r.given < r.count) }
+    requires row { vec_len rows.old < vec_capacity rows.old }
+    requires place { vec_len nested.old < vec_capacity nested.old }
+    requires level { vec_len nested.old < 2 ^ 15 }
+    ensures rows { IfSome unfinished.old (λ r. rows.new.items ≡ settled_rows (one_given r) (vec_len nested.old + 1) rows.old.items) }
+    ensures nested { IfSome unfinished.old (λ r. nested.new.items ≡ settled_open (one_given r) (vec_len rows.old) nested.old.items) }
+    ensures unfinished { IfSome unfinished.old (λ r. unfinished.new ≡ settled_unfinished (one_given r)) }
+    ensures room { IsSome unfinished.new → (vec_len rows.new < vec_capacity rows.new) }
+    ensures open_room { IsSome unfinished.new → (vec_len nested.new < vec_capacity nested.new) }
+{
+    if let Some(entry) = unfinished {
+        let count = entry.count;
+        entry.given += 1;
+        if entry.given == count {
+            *unfinished = settle(rows, nested, *entry);
+        }
     }
 }
 
