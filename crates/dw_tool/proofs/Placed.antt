@@ -8,11 +8,11 @@ use Rattle.dw_tree.specs.Lent.{EntryAt, LentAttribute}
 use Rattle.dw_unit.specs.Unit.{WholeUnit}
 use Rattle.dw_section.specs.Item.{Item, Known, item_bytes}
 use Rattle.dw_section.specs.Section.{items_bytes}
-use Rattle.dw_section.specs.Reference.{Target, named}
+use Rattle.dw_section.specs.Reference.{Target, named, ref_forms}
 use Rattle.dw_section.specs.Lookup.{known_of, unit_at, starts_from, start_of, entry}
 use Rattle.dw_section.specs.Found.{InUnit, entry_in_unit}
 use Rattle.dw_strings.specs.Text.{StringSections, stored_forms}
-use Rattle.dw_tool.specs.Show.{named_quoted, start_at, stored_text, target_if, target_of, text_if}
+use Rattle.dw_tool.specs.Show.{named_quoted, start_at, stored_text, target_if, target_of, target_text, text_if}
 
 -- ---- starts
 
@@ -64,6 +64,15 @@ target_is items item a t some is = by (unit_at items item) refl some
     by : (o : Option WholeUnit) → unit_at items item ≡ o → IsSome o → t ≡ target_if items item a o
     by None e h = absurd cc
     by (Some u) e h = is u e
+
+-- a value under a form that no reference has names nothing
+pub no_target : (items : List Item) (item : ℕ) (a : LentAttribute) → at_number a.form ref_forms ≡ None → target_text items (target_of items item a) ≡ []
+no_target items item a none = by (unit_at items item) (number_in a.attr.value) refl
+  where
+    by : (o : Option WholeUnit) (v : Option ℕ) → number_in a.attr.value ≡ v → target_text items (target_if items item a o) ≡ []
+    by None v e = refl
+    by (Some u) None e = rw e refl
+    by (Some u) (Some n) e = rw (e, none) refl
 
 -- the item of an entry that is named starts somewhere
 pub target_starts : (items : List Item) (t : Target) → IfOk t (λ id. (e : EntryAt) × (entry items id ≡ Some e) × (e.offset ≡ id.offset)) → IfOk t (λ id. IsSome (start_of items id.item))

@@ -5,11 +5,12 @@ ghost use Rattle.dw_form.specs.Form.{at_number};
 ghost use Rattle.dw_form.specs.Lent.{value_of};
 ghost use Rattle.dw_tree.specs.Lent.{attr_of};
 ghost use Rattle.dw_section.specs.Lookup.{start_of, unit_at};
+ghost use Rattle.dw_section.specs.Reference.{ref_forms};
 ghost use Rattle.dw_strings.specs.Text.{stored_forms};
 ghost use Rattle.dw_strings.specs.TextView.{sections_of};
 ghost use Rattle.dw_tool.specs.Output.{Puts, IsClear};
 ghost use Rattle.dw_tool.specs.Place.{IsPlace};
-ghost use Rattle.dw_tool.specs.Show.{attribute_line, attribute_lines, entries_text, entry_line, entry_text, no_text, placed_value, stored_text, target_text, unresolved, value_text};
+ghost use Rattle.dw_tool.specs.Show.{attribute_line, attribute_lines, entries_text, entry_line, entry_text, no_text, placed_value, stored_text, target_of, target_text, unresolved, value_text};
 ghost use Rattle.dw_tool.specs.Text.{labelled, quoted};
 
 use crate::output::Output;
@@ -87,6 +88,7 @@ fn push_entry_line<W: Write>(
 }
 
 /// Appends the label, and the offset in the section of what has this offset in a unit that starts here.
+#[inline(always)]
 fn push_offset<W: Write>(
     out: &mut Output<'_, W>,
     label: &[u8],
@@ -113,8 +115,8 @@ fn push_attributes<W: Write>(
     ensures { Puts W.contents out.old out.new (attribute_lines (sections_of strings.now) section.now.items from.item attributes.entry) result }
 {
     let mut left = attributes;
-    while let Some(attribute) = left.next() {
-        push_attribute_line(out, section, strings, from, &attribute)?;
+    while let Some(attribute) = &left.next() {
+        push_attribute_line(out, section, strings, from, attribute)?;
     }
     Ok(())
 }
@@ -151,7 +153,7 @@ fn push_placed_value<W: Write>(
     ensures { Puts W.contents out.old out.new (placed_value (sections_of strings.now) section.now.items from.item (attr_of attribute.now)) result }
 {
     push_value(out, &attribute.attr.value)?;
-    push_target(out, section, section.resolve(from, attribute))?;
+    push_reference(out, section, from, attribute)?;
     push_stored_text(out, section, strings, from, attribute)
 }
 
@@ -173,6 +175,45 @@ pub fn push_value<W: Write>(out: &mut Output<'_, W>, value: &Value<'_>) -> Resul
     }
 }
 
+/// Appends what stands behind the value of an attribute of an entry where it is a reference; nothing behind any
+/// other value.
+#[inline(always)]
+fn push_reference<W: Write>(
+    out: &mut Output<'_, W>,
+    section: &Section,
+    from: EntryId,
+    attribute: &AttrRef<'_>,
+) -> Result<(), WriteError>
+    requires clear { IsClear out.old }
+    requires unit { IsSome (unit_at section.now.items from.item) }
+    ensures { Puts W.contents out.old out.new (target_text section.now.items (target_of section.now.items from.item (attr_of attribute.now))) result }
+{
+    if !is_reference(attribute.form) {
+        return Ok(());
+    }
+    push_target(out, section, section.resolve(from, attribute))
+}
+
+/// Whether the values of this form are references.
+#[inline(always)]
+fn is_reference(form: u64) -> bool
+    ensures { result ≡ is_some (at_number form ref_forms) }
+{
+    matches!(
+        form,
+        DW_FORM_REF1
+            | DW_FORM_REF2
+            | DW_FORM_REF4
+            | DW_FORM_REF8
+            | DW_FORM_REF_UDATA
+            | DW_FORM_REF_ADDR
+            | DW_FORM_REF_SIG8
+            | DW_FORM_REF_SUP4
+            | DW_FORM_REF_SUP8
+            | DW_FORM_GNU_REF_ALT
+    )
+}
+
 /// Appends an arrow and where the entry begins that is named, or why there is none; nothing behind what is no
 /// reference.
 fn push_target<W: Write>(
@@ -189,7 +230,6 @@ fn push_target<W: Write>(
             Some(start) => push_offset(out, b" -> ", start, id.offset),
             None => unreachable!(),
         },
-        Err(RefFault::NotReference) => Ok(()),
         Err(fault) => out.append(unresolved(fault).as_bytes()),
     }
 }

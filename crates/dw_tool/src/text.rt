@@ -59,6 +59,7 @@ fn push_decimal_digits<W: Write>(out: &mut Output<'_, W>, number: u64) -> Result
 }
 
 /// Appends the label and the number, as by `push_hexadecimal`.
+#[inline(always)]
 pub(crate) fn push_labelled<W: Write>(
     out: &mut Output<'_, W>,
     label: &[u8],
@@ -72,6 +73,7 @@ pub(crate) fn push_labelled<W: Write>(
 }
 
 /// Appends the label and the number, as by `push_decimal`.
+#[inline(always)]
 pub(crate) fn push_labelled_decimal<W: Write>(
     out: &mut Output<'_, W>,
     label: &[u8],
