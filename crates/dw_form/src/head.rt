@@ -1,10 +1,11 @@
 //! A value by its head: the bytes of its spelling that are no content, with what finds the content in
 //! a pool. A value without content is kept as its spelling.
-ghost use Rattle.std.specs.Prelude.{◌≡◌, ◌≤◌, ◌<◌, ◌^◌, ◌+◌, ◌++◌, ℕ, List, length, take, drop, None, Some, option_map, IfSome, IsSomeAnd, ◌==◌};
+ghost use Rattle.std.specs.Prelude.{◌≡◌, ◌≤◌, ◌<◌, ◌^◌, ◌+◌, ◌++◌, ℕ, List, length, take, drop, Option, None, Some, option_map, IfSome, IsSomeAnd, ◌==◌};
 ghost use Rattle.dw_leb.specs.declared.order.Order.TheVariants.{Little};
 ghost use Rattle.dw_leb.specs.View.{uleb_of, sleb_of};
 ghost use Rattle.dw_form.specs.declared.shape.Ctx.{Ctx};
-ghost use Rattle.dw_form.specs.Form.{Attribute, attribute, IsContext, ShapeFits, shape};
+ghost use Rattle.dw_leb.specs.Number.{Signed};
+ghost use Rattle.dw_form.specs.Form.{Attribute, attribute, IsContext, Num, ShapeFits, shape};
 ghost use Rattle.dw_form.specs.Pieces.{form_in, HasSpelling, spelling};
 ghost use Rattle.dw_form.specs.HeadSize.{finder_size, content_count};
 ghost use Rattle.dw_form.specs.StoredView.{bytes_in};
@@ -207,32 +208,17 @@ fn behind<'a>(
     }
 }
 
-// A value whose form alone tells its size, in at most eight bytes: nearly every value is one.
+// A value of no bytes: that the attribute is there, or the constant of its declaration.
 #[inline(always)]
-fn plain<'a>(
-    ctx: Ctx,
-    form: u64,
-    implicit: Option<Sleb>,
-    heads: &[u8],
-) -> Option<(Value<'a>, usize)>
+fn no_bytes<'a>(ctx: Ctx, form: u64, implicit: Option<Sleb>, _heads: &[u8]) -> Option<Value<'a>>
     requires { IsContext ctx }
-    ensures exact { IfSome result (λ x. (pool : List ℕ) →
-        head_at ctx form (option_map sleb_of implicit) heads.now pool ≡ Some (record { via = None; value = value_of x.0 }, x.1)) }
-    ensures room { IfSome result (λ x. x.1 ≤ length heads.now) }
+    ensures { IfSome result (λ v. (pool : List ℕ) →
+        head_at ctx form (option_map sleb_of implicit) _heads.now pool ≡ Some (record { via = None; value = value_of v }, 0)) }
 {
     match Shape::of(form, ctx.address_size, ctx.format)? {
-        Shape::Fixed(n) => {
-            if n > 8 {
-                return None;
-            }
-            match number(ctx.order, n, heads, heads.len() as u64) {
-                Ok(x) => Some((Value::Num(x as u64), n as usize)),
-                Err(_) => None,
-            }
-        }
-        Shape::Present => Some((Value::Present, 0)),
+        Shape::Present => Some(Value::Present),
         Shape::Implicit => match implicit {
-            Some(constant) => Some((Value::Implicit(constant), 0)),
+            Some(constant) => Some(Value::Implicit(constant)),
             None => None,
         },
         _ => None,
@@ -255,7 +241,7 @@ fn by_head<'a>(
     behind(ctx, form, implicit, via, heads, pool)
 }
 
-// The same, a plain value first.
+// The same, a value of no bytes first.
 #[inline(always)]
 fn at_front<'a>(
     ctx: Ctx,
@@ -268,8 +254,8 @@ fn at_front<'a>(
     ensures exact { option_map (λ x. (attribute_of x.0, x.1)) result ≡ head_at ctx form (option_map sleb_of implicit) heads.now pool.now }
     ensures room { IfSome result (λ x. x.1 ≤ length heads.now) }
 {
-    match plain(ctx, form, implicit, heads) {
-        Some((value, size)) => Some((AttrValue { via: None, value }, size)),
+    match no_bytes(ctx, form, implicit, heads) {
+        Some(value) => Some((AttrValue { via: None, value }, 0)),
         None => by_head(ctx, form, implicit, heads, pool),
     }
 }
@@ -307,6 +293,46 @@ pub fn lend_head<'a>(
 {
     let _bounded = size(pool);
     at_front(ctx, form, implicit, heads, pool)
+}
+
+/// The number whose head is at the front of `heads`, and the count of its head's bytes, where its form is one of
+/// fixed numbers of 1 to 8 bytes: `lend_head` gives the same, as a value. None under any other form, and where there
+/// is no such head.
+#[inline(always)]
+pub fn lend_number(ctx: Ctx, form: u64, heads: &[u8]) -> Option<(u64, usize)>
+    requires { IsContext ctx }
+    ensures exact { IfSome result (λ x. (c : Option Signed) (pool : List ℕ) →
+        head_at ctx form c heads.now pool ≡ Some (record { via = None; value = Num x.0 }, x.1)) }
+    ensures put { IfSome result (λ x. (c : Option Signed) (a : Attribute) (start : ℕ) (pool rest : List ℕ) →
+        (attribute ctx form c).Fits a →
+        Lies pool start (bytes_in a) →
+        length pool < 256 ^ 8 →
+        heads.now ≡ head ctx form start a ++ rest →
+        (record { via = None; value = Num x.0 } ≡ a) × (x.1 ≡ length (head ctx form start a))) }
+    ensures room { IfSome result (λ x. x.1 ≤ length heads.now) }
+{
+    number_by_form(ctx, form, heads)
+}
+
+#[inline(always)]
+fn number_by_form(ctx: Ctx, form: u64, heads: &[u8]) -> Option<(u64, usize)>
+    requires { IsContext ctx }
+    ensures exact { IfSome result (λ x. (c : Option Signed) (pool : List ℕ) →
+        head_at ctx form c heads.now pool ≡ Some (record { via = None; value = Num x.0 }, x.1)) }
+    ensures room { IfSome result (λ x. x.1 ≤ length heads.now) }
+{
+    match Shape::of(form, ctx.address_size, ctx.format)? {
+        Shape::Fixed(n) => {
+            if n > 8 {
+                return None;
+            }
+            match number(ctx.order, n, heads, heads.len() as u64) {
+                Ok(x) => Some((x as u64, n as usize)),
+                Err(_) => None,
+            }
+        }
+        _ => None,
+    }
 }
 
 /// How many bytes the spelling of a value has whose head has `own` bytes. A text or block stands in the
