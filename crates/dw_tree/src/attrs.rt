@@ -12,7 +12,7 @@ ghost use Rattle.dw_tree.specs.Lent.{AreLent, attr_of};
 
 use crate::write::behind;
 use dw_abbrev::Pair;
-use dw_form::{AttrValue, Ctx, lend_head, size_by_head};
+use dw_form::{AttrValue, Ctx, Value, lend_head, lend_number, size_by_head};
 use dw_leb::Uleb;
 use std::marker::Model;
 
@@ -88,8 +88,23 @@ impl<'a> Iterator for Attrs<'a> {
 
     ghost remaining = { item_count (λ s. s) };
 
+    // A caller that is at hand takes the attribute apart, which is too large to be moved around.
+    #[inline(always)]
     fn next(&mut self) -> Option<AttrRef<'a>> {
         let (pair, pairs) = self.pairs.split_first()?;
+        // Nearly every value is a number, which goes into the attribute at once.
+        if let Some((number, width)) = lend_number(self.ctx, pair.form.value, self.heads) {
+            let attr = AttrValue {
+                via: None,
+                value: Value::Num(number),
+            };
+            let size = spelled_size(self.ctx, pair.form.value, &attr, width);
+            let first = attr_at(pair, &attr, self.at);
+            self.pairs = pairs;
+            self.heads = behind(self.heads, width);
+            self.at += size;
+            return Some(first);
+        }
         match lend_head(
             self.ctx,
             pair.form.value,
@@ -111,6 +126,7 @@ impl<'a> Iterator for Attrs<'a> {
 }
 
 /// The attribute of a pair, with its value that begins at `at`.
+#[inline(always)]
 fn attr_at<'a>(pair: &Pair, attr: &AttrValue<'a>, at: u64) -> AttrRef<'a>
     ensures { attr_of result ≡ lent_attribute at (pair_of pair.now) (attribute_of attr.now) }
 {
@@ -134,6 +150,7 @@ fn spelled_size(_ctx: Ctx, _form: u64, value: &AttrValue<'_>, own: usize) -> u64
 }
 
 /// The form in effect where the declaration gives one and the value may name another.
+#[inline(always)]
 pub(crate) fn form_of(form: Uleb, via: Option<Uleb>) -> u64
     ensures { result ≡ form_in form.value (option_map uleb_of via) }
 {
