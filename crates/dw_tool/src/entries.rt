@@ -115,8 +115,8 @@ fn push_attributes<W: Write>(
     ensures { Puts W.contents out.old out.new (attribute_lines (sections_of strings.now) section.now.items from.item attributes.entry) result }
 {
     let mut left = attributes;
-    while let Some(attribute) = &left.next() {
-        push_attribute_line(out, section, strings, from, attribute)?;
+    while let Some(attribute) = left.next() {
+        push_attribute_line(out, section, strings, from, &attribute)?;
     }
     Ok(())
 }
