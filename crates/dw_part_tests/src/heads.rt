@@ -1,8 +1,8 @@
 //! What no clause says of heads: which bytes they have, for values whose spelling is known from the standard.
 use crate::common::same;
 use dw_form::{
-    AttrValue, Ctx, front_len, lend_head, lend_value, put_found, put_head, size_by_head,
-    value_front,
+    AttrValue, Ctx, front_len, lend_head, lend_number, lend_value, put_found, put_head,
+    size_by_head, value_front,
 };
 use dw_leb::{Format, Order};
 use std::alloc::Global;
@@ -112,4 +112,17 @@ fn heads_of_values(rt: HostRuntime) -> Result<(), Fail> {
         fronts(&rt, rt.alloc(), row)?;
     }
     Ok(())
+}
+
+/// Numbers by their heads: data2, and addresses of eight bytes; none under udata, under data16, and where a byte is
+/// missing.
+#[test]
+fn numbers_by_their_heads(rt: HostRuntime) {
+    assert!(&rt; lend_number(USUAL, 0x05, &[0x34, 0x12, 0xff]) == Some((0x1234, 2)));
+    assert!(&rt;
+        lend_number(USUAL, 0x01, &[1, 0, 0, 0, 0, 0, 0, 0x80]) == Some((0x8000_0000_0000_0001, 8))
+    );
+    assert!(&rt; lend_number(USUAL, 0x0f, &[5]) == None);
+    assert!(&rt; lend_number(USUAL, 0x1e, &[0; 16]) == None);
+    assert!(&rt; lend_number(USUAL, 0x05, &[0x34]) == None);
 }

@@ -71,7 +71,7 @@ fn shows(alloc: Global, info: &[u8], text: &[u8]) -> bool {
 // the text that is longer than the buffer.
 fn stops(alloc: Global, info: &[u8], text: &[u8]) -> bool {
     let mut reader = Watched::new(info);
-    let failing = Stepped::failing(Vec::new(alloc), 1_000, 7, ErrorKind::StorageFull);
+    let failing = Stepped::failing(Vec::new(alloc), 4_000, 7, ErrorKind::StorageFull);
     let mut writer = Watched::new(failing);
     let strings = no_strings();
     let inputs = Inputs {
@@ -85,13 +85,13 @@ fn stops(alloc: Global, info: &[u8], text: &[u8]) -> bool {
     let stopped = writer.into_inner();
     let written = stopped.inner().as_slice();
     answer == Err(ToolError::Write(ErrorKind::StorageFull))
-        && written.len() > 4_096
+        && written.len() > 16_384
         && written.len() < text.len()
         && text.starts_with(written)
 }
 
 // One long value, many short ones, and both.
-const UNITS: [(u16, u16); 3] = [(20_000, 0), (1, 400), (10_000, 300)];
+const UNITS: [(u16, u16); 3] = [(60_000, 0), (1, 1_000), (40_000, 600)];
 
 #[test]
 fn texts_longer_than_the_buffer(rt: HostRuntime) -> Result<(), Fail> {
@@ -139,7 +139,7 @@ fn keeps(alloc: Global, length: u16) -> Result<bool, Fail> {
 
 #[test]
 fn pieces_as_long_as_the_buffer(rt: HostRuntime) -> Result<(), Fail> {
-    for length in [0, 1, 4_094, 4_095, 4_096, 4_097, 10_000] {
+    for length in [0, 1, 16_382, 16_383, 16_384, 16_385, 20_000] {
         assert!(rt; keeps(rt.alloc(), length)?);
     }
     Ok(())
