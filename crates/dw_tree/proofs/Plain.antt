@@ -1,10 +1,10 @@
 -- A value that is no text or block: its head is its spelling, and the pool has nothing of it.
-use Rattle.std.proofs.Common.{◌≡◌, ℕ, ◌+◌, ◌<◌, ◌^◌, true, List, [], ◌∷◌, ◌++◌, length, take, drop, Option, Some, refl, sym, ap, ◌∙◌, arith, append-nil}
+use Rattle.std.proofs.Common.{◌≡◌, ℕ, ◌+◌, true, List, [], ◌∷◌, ◌++◌, length, take, drop, Option, Some, refl, sym, ap, ◌∙◌, arith, append-nil}
 use Rattle.std.proofs.lemmas.List.{take_all}
 use Rattle.dw_leb.specs.View.{uleb_of}
 use Rattle.dw_form.specs.declared.shape.Ctx.{Ctx}
 use Rattle.dw_form.specs.Form.{Attribute, Value, Num, Wide, Uleb, Sleb, Block, Text, Present, Implicit}
-use Rattle.dw_form.specs.StoredView.{bytes_in, value_bytes}
+use Rattle.dw_form.specs.StoredView.{value_bytes}
 use Rattle.dw_form.specs.Head.{finder, via_width}
 use Rattle.dw_form.specs.HeadFront.{own_size, front_bytes}
 use Rattle.dw_form.specs.HeadSize.{is_plain}

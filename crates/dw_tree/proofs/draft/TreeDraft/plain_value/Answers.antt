@@ -1,4 +1,4 @@
-use Rattle.std.proofs.Common.{◌≡◌, ℕ, ◌+◌, ◌<◌, ◌^◌, Some, Option, List, ◌++◌, length, sym, ap, subst, ◌∙◌, refl, arith, vec_len, option_map}
+use Rattle.std.proofs.Common.{ℕ, ◌+◌, ◌<◌, ◌^◌, Some, Option, length, sym, ap, subst, ◌∙◌, refl, arith, vec_len, option_map}
 use Rattle.dw_form.specs.Form.{Attribute}
 use Rattle.dw_tree.specs.declared.row.Unfinished.{Unfinished}
 use Rattle.dw_tree.specs.Place.{Place, spot_after}
