@@ -1,5 +1,6 @@
 //! The entry at an offset.
-ghost use Rattle.std.specs.Prelude.{◌≡◌, ◌<◌, length, slice_index_or, IfSome, IfNone};
+ghost use Rattle.std.specs.Prelude.{◌≡◌, ◌<◌, ◌≤◌, true, false, nat_lt, length, slice_index_or, IfSome, IfNone};
+ghost use Rattle.std.specs.List.Sorted.{IsPartitionPoint};
 ghost use Rattle.dw_tree.specs.declared.row.Row.{Row};
 ghost use Rattle.dw_tree.specs.Flat.{OffsetsGrow, NoneBegins};
 ghost use Rattle.dw_tree.specs.Lent.{entries_of, find_at};
@@ -29,19 +30,24 @@ pub(crate) fn row_at(rows: &[Row], offset: u64) -> Option<usize>
     ensures found { IfSome result (λ i. (d : Row) → (slice_index_or rows.now i d).offset ≡ offset) }
     ensures none { IfNone result (NoneBegins offset rows.now) }
 {
-    let mut low = 0;
-    let mut high = rows.len();
-    while low < high {
-        let middle = low + (high - low) / 2;
-        let here = rows[middle].offset;
-        if here == offset {
-            return Some(middle);
-        }
-        if here < offset {
-            low = middle + 1;
-        } else {
-            high = middle;
-        }
+    let at = rows_before(rows, offset);
+    if at < rows.len() && rows[at].offset == offset {
+        Some(at)
+    } else {
+        None
     }
-    None
+}
+
+/// How many rows begin before an offset. Each step of the search only chooses between two numbers, which takes
+/// no branch.
+fn rows_before(rows: &[Row], offset: u64) -> usize
+    requires { OffsetsGrow rows.now }
+    ensures bound { result ≤ length rows.now }
+    ensures point { IsPartitionPoint (λ r. nat_lt r.offset offset ≡ true) (λ r. nat_lt r.offset offset ≡ false) rows.now result }
+{
+    rows.partition_point(
+        |row: &Row| -> bool
+            ensures { result ≡ nat_lt row.now.offset offset }
+        { row.offset < offset },
+    )
 }
