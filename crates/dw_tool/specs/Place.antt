@@ -1,5 +1,8 @@
 -- A unit in its section.
-use Rattle.std.specs.Prelude.{◌≡◌, IsSome}
+use Rattle.std.specs.Prelude.{◌≡◌, ℕ, List, Some, IsSome}
+use Rattle.dw_unit.specs.Unit.{WholeUnit}
+use Rattle.dw_section.specs.Begins.{AreBegins}
+use Rattle.dw_section.specs.Item.{Item}
 use Rattle.dw_section.specs.Lookup.{unit_at}
 use Rattle.dw_tool.specs.declared.entries.Place.{Place}
 use Rattle.dw_tool.specs.Show.{start_at}
@@ -8,3 +11,7 @@ use Rattle.dw_tool.specs.Show.{start_at}
 pub record IsPlace (place : Place) : Type 0 where
   pub known : IsSome (unit_at place.section.now.items place.item)
   pub start_is : place.start ≡ start_at place.section.now.items place.item
+
+-- entries of the unit that is this item begin at the offsets that are marked
+abbrev pub BeginIn : List Item → ℕ → List ℕ → Type 0
+BeginIn items i words = (u : WholeUnit) → unit_at items i ≡ Some u → AreBegins u words

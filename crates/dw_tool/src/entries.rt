@@ -9,7 +9,7 @@ ghost use Rattle.dw_section.specs.Reference.{ref_forms};
 ghost use Rattle.dw_strings.specs.Text.{stored_forms};
 ghost use Rattle.dw_strings.specs.TextView.{sections_of};
 ghost use Rattle.dw_tool.specs.Output.{Puts, IsClear};
-ghost use Rattle.dw_tool.specs.Place.{IsPlace};
+ghost use Rattle.dw_tool.specs.Place.{BeginIn, IsPlace};
 ghost use Rattle.dw_tool.specs.Show.{attribute_line, attribute_lines, entries_text, entry_line, entry_text, no_text, placed_value, stored_text, target_of, target_text, unresolved, value_text};
 ghost use Rattle.dw_tool.specs.Text.{labelled, quoted};
 
@@ -21,7 +21,7 @@ use crate::text::{
 use dw_form::Value;
 use dw_leb::WriteError;
 use dw_leb::constants::form::*;
-use dw_section::{EntryId, RefFault, Section};
+use dw_section::{Begins, EntryId, RefFault, Section};
 use dw_strings::{StrFault, Strings};
 use dw_unit::{AttrRef, Attrs, Entries, EntryRef};
 use std::io::Write;
@@ -37,18 +37,20 @@ pub(crate) struct Place<'a> {
     pub(crate) start: u64,
 }
 
-/// Appends the texts of entries of a unit, one after the other.
+/// Appends the texts of entries of a unit, one after the other. `begins` are offsets at which entries of the unit begin.
 pub(crate) fn push_entries<W: Write>(
     out: &mut Output<'_, W>,
     place: &Place<'_>,
+    begins: &Begins,
     entries: Entries<'_>,
 ) -> Result<(), WriteError>
     requires clear { IsClear out.old }
     requires place { IsPlace place.now }
+    requires begins { BeginIn place.now.section.now.items place.now.item begins.now }
     ensures { Puts W.contents out.old out.new (entries_text (sections_of place.now.strings.now) place.now.section.now.items place.now.item entries.entry) result }
 {
     for entry in entries {
-        push_entry(out, place, &entry)?;
+        push_entry(out, place, begins, &entry)?;
     }
     Ok(())
 }
@@ -57,10 +59,12 @@ pub(crate) fn push_entries<W: Write>(
 fn push_entry<W: Write>(
     out: &mut Output<'_, W>,
     place: &Place<'_>,
+    begins: &Begins,
     entry: &EntryRef<'_>,
 ) -> Result<(), WriteError>
     requires clear { IsClear out.old }
     requires place { IsPlace place.now }
+    requires begins { BeginIn place.now.section.now.items place.now.item begins.now }
     ensures { Puts W.contents out.old out.new (entry_text (sections_of place.now.strings.now) place.now.section.now.items place.now.item entry.now) result }
 {
     push_entry_line(out, place.start, entry)?;
@@ -68,7 +72,14 @@ fn push_entry<W: Write>(
         item: place.item,
         offset: entry.offset(),
     };
-    push_attributes(out, place.section, place.strings, from, entry.attrs())
+    push_attributes(
+        out,
+        place.section,
+        place.strings,
+        begins,
+        from,
+        entry.attrs(),
+    )
 }
 
 /// Appends the line of an entry of a unit that starts here: its depth, its offset in the section, and its tag.
@@ -107,16 +118,18 @@ fn push_attributes<W: Write>(
     out: &mut Output<'_, W>,
     section: &Section,
     strings: &Strings<'_>,
+    begins: &Begins,
     from: EntryId,
     attributes: Attrs<'_>,
 ) -> Result<(), WriteError>
     requires clear { IsClear out.old }
     requires unit { IsSome (unit_at section.now.items from.item) }
+    requires begins { BeginIn section.now.items from.item begins.now }
     ensures { Puts W.contents out.old out.new (attribute_lines (sections_of strings.now) section.now.items from.item attributes.entry) result }
 {
     let mut left = attributes;
     while let Some(attribute) = left.next() {
-        push_attribute_line(out, section, strings, from, &attribute)?;
+        push_attribute_line(out, section, strings, begins, from, &attribute)?;
     }
     Ok(())
 }
@@ -126,17 +139,19 @@ fn push_attribute_line<W: Write>(
     out: &mut Output<'_, W>,
     section: &Section,
     strings: &Strings<'_>,
+    begins: &Begins,
     from: EntryId,
     attribute: &AttrRef<'_>,
 ) -> Result<(), WriteError>
     requires clear { IsClear out.old }
     requires unit { IsSome (unit_at section.now.items from.item) }
+    requires begins { BeginIn section.now.items from.item begins.now }
     ensures { Puts W.contents out.old out.new (attribute_line (sections_of strings.now) section.now.items from.item (attr_of attribute.now)) result }
 {
     out.append(b"  ")?;
     push_attribute(out, attribute.name)?;
     out.append(b" ")?;
-    push_placed_value(out, section, strings, from, attribute)?;
+    push_placed_value(out, section, strings, begins, from, attribute)?;
     out.append(b"\n")
 }
 
@@ -145,15 +160,17 @@ fn push_placed_value<W: Write>(
     out: &mut Output<'_, W>,
     section: &Section,
     strings: &Strings<'_>,
+    begins: &Begins,
     from: EntryId,
     attribute: &AttrRef<'_>,
 ) -> Result<(), WriteError>
     requires clear { IsClear out.old }
     requires unit { IsSome (unit_at section.now.items from.item) }
+    requires begins { BeginIn section.now.items from.item begins.now }
     ensures { Puts W.contents out.old out.new (placed_value (sections_of strings.now) section.now.items from.item (attr_of attribute.now)) result }
 {
     push_value(out, &attribute.attr.value)?;
-    push_reference(out, section, from, attribute)?;
+    push_reference(out, section, begins, from, attribute)?;
     push_stored_text(out, section, strings, from, attribute)
 }
 
@@ -181,17 +198,19 @@ pub fn push_value<W: Write>(out: &mut Output<'_, W>, value: &Value<'_>) -> Resul
 fn push_reference<W: Write>(
     out: &mut Output<'_, W>,
     section: &Section,
+    begins: &Begins,
     from: EntryId,
     attribute: &AttrRef<'_>,
 ) -> Result<(), WriteError>
     requires clear { IsClear out.old }
     requires unit { IsSome (unit_at section.now.items from.item) }
+    requires begins { BeginIn section.now.items from.item begins.now }
     ensures { Puts W.contents out.old out.new (target_text section.now.items (target_of section.now.items from.item (attr_of attribute.now))) result }
 {
     if !is_reference(attribute.form) {
         return Ok(());
     }
-    push_target(out, section, section.resolve(from, attribute))
+    push_target(out, section, section.resolve_among(begins, from, attribute))
 }
 
 /// Whether the values of this form are references.

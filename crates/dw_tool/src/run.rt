@@ -99,7 +99,7 @@ fn write_output<W: Write>(
     ensures fault { fault_of writer.new ≡ run_writer_fault result }
 {
     match command {
-        Command::Show => show(section, strings, writer)?,
+        Command::Show => show(alloc, section, strings, writer)?,
         Command::Find(name) => return Ok(find(section, strings, name, writer)?),
         Command::TypeOf(offset) => {
             let line = type_line(alloc, section, strings, offset)?;
@@ -120,6 +120,7 @@ fn write_output<W: Write>(
 }
 
 fn show<W: Write>(
+    alloc: Global,
     section: &Section,
     strings: &Strings<'_>,
     writer: &mut Watched<W>,
@@ -129,7 +130,7 @@ fn show<W: Write>(
     ensures fault { fault_of writer.new ≡ writer_fault result }
 {
     let mut out = Output::new(writer);
-    push_section(&mut out, section, strings)?;
+    push_section(alloc, &mut out, section, strings)?;
     out.flush()
 }
 

@@ -4,7 +4,7 @@ ghost use Rattle.std.specs.Prelude.{◌≡◌, ◌++◌, Some, codes, slice_get}
 ghost use Rattle.dw_section.specs.ItemView.{item_of};
 ghost use Rattle.dw_strings.specs.TextView.{sections_of};
 ghost use Rattle.dw_tool.specs.Output.{Puts, IsClear};
-ghost use Rattle.dw_tool.specs.Place.{IsPlace};
+ghost use Rattle.dw_tool.specs.Place.{BeginIn, IsPlace};
 ghost use Rattle.dw_tool.specs.Show.{added_text, format_text, header_line, header_sizes, item_text, kind_text, other_line, section_text, unit_text};
 ghost use Rattle.dw_tool.specs.Text.{labelled};
 
@@ -12,15 +12,18 @@ use crate::entries::{Place, push_entries};
 use crate::output::Output;
 use crate::text::{push_labelled, push_labelled_decimal};
 use dw_leb::{Format, WriteError};
-use dw_section::{Item, Section};
+use dw_section::{Begins, Item, Section};
 use dw_strings::Strings;
 use dw_unit::{Header, Kind, Unit};
+use std::alloc::Global;
 use std::io::Write;
 
 /// Appends the text of a section: of its items, one after the other. Of a unit that are the line of its header
 /// and its entries with their attributes, of another item one line. Offsets count from the section's first
-/// byte. The texts that attributes name are those of `strings`.
+/// byte. The texts that attributes name are those of `strings`. The memory that is asked for only makes it faster: where
+/// it is refused the text is the same.
 pub fn push_section<W: Write>(
+    alloc: Global,
     out: &mut Output<'_, W>,
     section: &Section,
     strings: &Strings<'_>,
@@ -28,10 +31,11 @@ pub fn push_section<W: Write>(
     requires { IsClear out.old }
     ensures { Puts W.contents out.old out.new (section_text (sections_of strings.now) section.now) result }
 {
+    let mut begins = Begins::new(alloc);
     let mut number = 0;
     let mut left = section.items();
     while let Some((item, others)) = left.split_first() {
-        push_item(out, section, strings, number, item)?;
+        push_item(out, section, strings, &mut begins, number, item)?;
         number += 1;
         left = others;
     }
@@ -43,6 +47,7 @@ fn push_item<W: Write>(
     out: &mut Output<'_, W>,
     section: &Section,
     strings: &Strings<'_>,
+    begins: &mut Begins,
     number: usize,
     item: &Item,
 ) -> Result<(), WriteError>
@@ -61,7 +66,8 @@ fn push_item<W: Write>(
                 item: number,
                 start,
             };
-            push_unit(out, &place, unit)
+            begins.learn(unit);
+            push_unit(out, &place, begins, unit)
         }
         Item::Other(_) => push_other(out, start, item.size()),
     }
@@ -71,14 +77,16 @@ fn push_item<W: Write>(
 fn push_unit<W: Write>(
     out: &mut Output<'_, W>,
     place: &Place<'_>,
+    begins: &Begins,
     unit: &Unit,
 ) -> Result<(), WriteError>
     requires clear { IsClear out.old }
     requires place { IsPlace place.now }
+    requires begins { BeginIn place.now.section.now.items place.now.item begins.now }
     ensures { Puts W.contents out.old out.new (unit_text (sections_of place.now.strings.now) place.now.section.now.items place.now.item unit.now) result }
 {
     push_header(out, place.start, unit.header(), unit.size())?;
-    push_entries(out, place, unit.entries())
+    push_entries(out, place, begins, unit.entries())
 }
 
 /// Appends the line of an item that isn't read.

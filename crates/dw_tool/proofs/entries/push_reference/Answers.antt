@@ -18,8 +18,8 @@ returns-then-not-is_reference g c =
 
 pub returns : goal.returns
 returns g c =
-    let is = target_is c.args.section.now.items c.args.from.item (attr_of c.args.attribute.now) c.resolve.result c.requires.unit c.resolve.ensures.named in
+    let is = target_is c.args.section.now.items c.args.from.item (attr_of c.args.attribute.now) c.resolve_among.result c.requires.unit c.resolve_among.ensures.named in
     rw is at c.push_target.ensures
 
 pub push_target-requires-clause-there : goal.push_target-requires-clause-there
-push_target-requires-clause-there g c = target_starts c.args.section.now.items c.resolve.result c.resolve.ensures.entry
+push_target-requires-clause-there g c = target_starts c.args.section.now.items c.resolve_among.result c.resolve_among.ensures.entry

@@ -1,0 +1,13 @@
+use Rattle.std.proofs.Common.{ℕ, length}
+use Rattle.dw_tree.specs.Lent.{entries_of}
+use Rattle.dw_unit.specs.Unit.{tree_of}
+use Rattle.dw_section.specs.Begins.{AreBegins}
+use Rattle.dw_section.proofs.Marked.{IsFound}
+use Rattle.dw_section.proofs.begins.Begins.learn.Given as goal
+
+-- what is known begins in the unit, and so does what is left
+abbrev pub invariant-loop-entry : goal.invariant-loop-entry
+invariant-loop-entry l = record {
+  known : AreBegins l.fn.unit l.self;
+  left : (offset : ℕ) → IsFound offset l.entry-iterator → IsFound offset (entries_of (tree_of l.fn.unit));
+}
