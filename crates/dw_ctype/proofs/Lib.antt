@@ -1,6 +1,7 @@
 mod KindRows
 pub mod Answering
 pub mod Appending
+pub mod Gathered
 pub mod InOrder
 pub mod Levels
 pub mod Pieces

@@ -1,41 +1,88 @@
 //! The dimensions of arrays (section 5.13).
-ghost use Rattle.std.specs.Prelude.{◌≡◌, ◌^◌, ◌-◌, [], pos, decimal, IfSome, option_map, unwrap_or, ◌≤ℤ◌};
+ghost use Rattle.std.specs.Prelude.{◌≡◌, ◌^◌, ◌-◌, [], ◌∷◌, Some, pos, decimal, IfSome, option_map, unwrap_or, ◌≤ℤ◌};
 ghost use Rattle.dw_form.specs.Lent.{value_of};
 ghost use Rattle.dw_tree.specs.Lent.{children_of};
+ghost use Rattle.dw_section.specs.Lookup.{entry};
+ghost use Rattle.dw_ctype.specs.declared.kind.Kind.TheVariants.{Array};
 ghost use Rattle.dw_ctype.specs.Append.{Puts};
 ghost use Rattle.dw_ctype.specs.Types as definition;
 
 use crate::append::push;
+use crate::parts::Kept;
 use dw_form::Value;
 use dw_leb::constants::attribute::{DW_AT_COUNT, DW_AT_UPPER_BOUND};
 use dw_leb::constants::form::*;
 use dw_leb::constants::tag::DW_TAG_SUBRANGE_TYPE;
+use dw_section::EntryId;
 use dw_unit::EntryRef;
 use itoa::Buffer;
 use std::alloc::AllocError;
 
 /// Appends the dimensions of an array: of each subrange, or empty brackets where it has none.
-pub(crate) fn push_dimensions(array: &EntryRef<'_>, out: &mut Vec<u8>) -> Result<(), AllocError>
+pub(crate) fn push_dimensions(
+    kept: &Kept<'_>,
+    id: EntryId,
+    array: &EntryRef<'_>,
+    out: &mut Vec<u8>,
+) -> Result<(), AllocError>
+    requires there { entry kept.now.items id ≡ Some array.now }
+    requires kind { definition.kind_of array.now ≡ Array }
     ensures { Puts out.old out.new (definition.dimensions array.now) result }
 {
     let before = out.len();
-    push_each_dimension(array, out)?;
+    push_each_dimension(kept, id, array, out)?;
     if out.len() > before {
         return Ok(());
     }
     push(b"[]", out)
 }
 
-/// Appends the dimension of each subrange.
-fn push_each_dimension(array: &EntryRef<'_>, out: &mut Vec<u8>) -> Result<(), AllocError>
+/// Appends the dimension of each subrange, by the array's parts where they are kept.
+fn push_each_dimension(
+    kept: &Kept<'_>,
+    id: EntryId,
+    array: &EntryRef<'_>,
+    out: &mut Vec<u8>,
+) -> Result<(), AllocError>
+    requires there { entry kept.now.items id ≡ Some array.now }
+    requires kind { definition.kind_of array.now ≡ Array }
+    ensures { Puts out.old out.new (definition.dimensions_of (children_of array.now)) result }
+{
+    match kept.parts(id) {
+        Some(parts) => push_dimensions_of(&parts.shown, out),
+        None => push_dimensions_among(array, out),
+    }
+}
+
+/// Appends the dimension of each of these that is a subrange.
+fn push_dimensions_of(shown: &[EntryRef<'_>], out: &mut Vec<u8>) -> Result<(), AllocError>
+    ensures { Puts out.old out.new (definition.dimensions_of shown.now) result }
+{
+    for entry in shown {
+        push_if_subrange(entry, out)?;
+    }
+    Ok(())
+}
+
+/// Appends the dimension of each child that is a subrange.
+fn push_dimensions_among(array: &EntryRef<'_>, out: &mut Vec<u8>) -> Result<(), AllocError>
     ensures { Puts out.old out.new (definition.dimensions_of (children_of array.now)) result }
 {
     for child in array.children() {
-        if child.tag() == DW_TAG_SUBRANGE_TYPE {
-            push_dimension(&child, out)?;
-        }
+        push_if_subrange(&child, out)?;
     }
     Ok(())
+}
+
+/// Appends the dimension of an entry that is a subrange.
+fn push_if_subrange(entry: &EntryRef<'_>, out: &mut Vec<u8>) -> Result<(), AllocError>
+    ensures { Puts out.old out.new (definition.dimensions_of (entry.now ∷ [])) result }
+{
+    if entry.tag() == DW_TAG_SUBRANGE_TYPE {
+        push_dimension(entry, out)
+    } else {
+        Ok(())
+    }
 }
 
 /// Appends the dimension of a subrange: its size between square brackets.

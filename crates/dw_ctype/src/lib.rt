@@ -6,6 +6,7 @@ mod dimension;
 mod fault;
 mod kind;
 mod left;
+mod parts;
 mod right;
 mod text;
 mod typed;

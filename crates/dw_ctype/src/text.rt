@@ -7,6 +7,7 @@ ghost use Rattle.dw_ctype.specs.Types as definition;
 ghost use Rattle.dw_ctype.specs.View.{source_of};
 
 use crate::fault::TypeError;
+use crate::parts::Kept;
 use crate::right::say;
 use crate::typed::{Typed, type_of};
 use crate::visits::count;
@@ -31,7 +32,7 @@ const MOST_VISITS: u16 = 1024;
 /// where there is a text, and the vector has no room for it and isn't given more. After an error the vector
 /// has the bytes that it had.
 pub fn type_text<'a>(
-    _alloc: Global,
+    alloc: Global,
     section: &'a Section,
     strings: &Strings<'a>,
     id: EntryId,
@@ -49,11 +50,12 @@ pub fn type_text<'a>(
         return Err(TypeError::NoEntry);
     };
     let typed = subject(section, id, &entry);
-    if count(section, typed, MOST_LEVELS, MOST_VISITS).is_none() {
+    let kept = Kept::gather(alloc, section, typed, MOST_LEVELS);
+    if count(section, &kept, typed, MOST_LEVELS, MOST_VISITS).is_none() {
         return Err(TypeError::TypeTooBig);
     }
     let before = out.len();
-    if say(section, strings, typed, MOST_LEVELS, name, out).is_err() {
+    if say(section, strings, &kept, typed, MOST_LEVELS, name, out).is_err() {
         out.truncate(before);
         return Err(TypeError::NoMemory);
     }

@@ -1,7 +1,7 @@
 use Rattle.dw_tree.specs.Lent.{children_of}
 use Rattle.dw_ctype.specs.Types.{dimensions_of}
 use Rattle.dw_ctype.proofs.Appending.{Reaches}
-use Rattle.dw_ctype.proofs.dimension.push_each_dimension.Given as goal
+use Rattle.dw_ctype.proofs.dimension.push_dimensions_among.Given as goal
 
 -- the dimensions of the children that are left are still to come
 abbrev pub invariant-loop-child : goal.invariant-loop-child
