@@ -1,10 +1,11 @@
-use Rattle.std.proofs.Common.{◌≡◌, ◌+◌, ◌<◌, ℕ, List, drop, Some, None, refl, sym, ap, ◌∙◌, arith}
+use Rattle.std.proofs.Common.{◌≡◌, ◌+◌, ◌<◌, ℕ, List, Some, None, refl, sym, ap, ◌∙◌, arith}
 use Rattle.dw_tree.specs.Lent.{EntryAt, children_of}
 use Rattle.dw_ctype.specs.declared.typed.Typed.{Typed}
-use Rattle.dw_ctype.specs.Parts.{visits_of}
+use Rattle.dw_section.specs.Lookup.{entry}
+use Rattle.dw_ctype.specs.Parts.{ArePartsOf, visits_of}
 use Rattle.dw_ctype.specs.Types.{type_of}
 use Rattle.dw_ctype.specs.Visits.{less, visits, parameter_visits}
-use Rattle.dw_ctype.proofs.Gathered.{one_left, none_left}
+use Rattle.dw_ctype.proofs.Gathered.{kept_visits, none_left, type_counted, type_stops}
 use Rattle.dw_ctype.proofs.Spent.{less_in, less_then, less_stops, visits_taken, parameter_first, parameter_passed}
 use Rattle.dw_ctype.proofs.visits.+visits.Goals as goal
 
@@ -41,22 +42,22 @@ count-returns t c =
     let sum : c.args.left ≡ 1 + c.in_ok-rest.rest = omega (arith, c.in_ok-rest.ensures) in
     c.count_type.ensures ∙ sym (visits_taken c.args.section.now.items c.args.depth c.args.typed _ c.args.left c.in_ok-rest.rest deep sum refl)
 
+pub count_entry-returns-in-Some : goal.count_entry-returns-in-Some
+count_entry-returns-in-Some t c =
+    let items = c.args.section.now.items in
+    let id = c.args.id in
+    let one : Typed → ℕ = visits items c.args.depth in
+    let are : ArePartsOf items id.item (entry items id) c.in-Some.parts.now = rw (← c.requires.kept) c.in-Some.ensures in
+    c.count_each.ensures ∙ ap (λ (n : ℕ). less n c.args.left) (ap (visits_of one) c.deref.ensures.value ∙ kept_visits items id c.args.entry.now c.in-Some.parts.now c.requires.there are one)
+
 pub count_each-returns-in_err-rest : goal.count_each-returns-in_err-rest
 count_each-returns-in_err-rest t c =
-    let one : Typed → ℕ = visits c.args.section.now.items c.args.depth in
-    let ts = c.args.types.now in
-    let i = c.loop-typed.typed-index in
-    let x = c.typed-item.result in
     c.from_residual.ensures
-    ∙ sym (c.loop-typed.invariant ∙ ap (λ (l : List Typed). less (visits_of one l) c.loop-typed.rest) (one_left ts i x c.loop-typed-test.true c.typed-item.is) ∙ less_stops (one x) (visits_of one (drop (i + 1) ts)) c.loop-typed.rest (sym c.in_err-rest.ensures))
+    ∙ sym (type_stops (visits c.args.section.now.items c.args.depth) c.args.types.now c.loop-typed.typed-index _ c.args.left c.loop-typed.rest c.loop-typed-test.true c.loop-typed.invariant (sym c.in_err-rest.ensures))
 
 pub count_each-loop-typed-preserved : goal.count_each-loop-typed-preserved
 count_each-loop-typed-preserved t c =
-    let one : Typed → ℕ = visits c.args.section.now.items c.args.depth in
-    let ts = c.args.types.now in
-    let i = c.loop-typed.typed-index in
-    let x = c.typed-item.result in
-    c.loop-typed.invariant ∙ ap (λ (l : List Typed). less (visits_of one l) c.loop-typed.rest) (one_left ts i x c.loop-typed-test.true c.typed-item.is) ∙ less_then (one x) (visits_of one (drop (i + 1) ts)) c.loop-typed.rest c.in_ok-rest.rest (sym c.in_ok-rest.ensures)
+    type_counted (visits c.args.section.now.items c.args.depth) c.args.types.now c.loop-typed.typed-index _ c.args.left c.loop-typed.rest c.loop-typed-test.true c.loop-typed.invariant c.in_ok-rest.rest (sym c.in_ok-rest.ensures)
 
 pub count_each-returns : goal.count_each-returns
 count_each-returns t c =
