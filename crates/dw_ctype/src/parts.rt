@@ -50,8 +50,8 @@ impl<'a> Model for Kept<'a> {
 }
 
 impl<'a> Kept<'a> {
-    /// The parts of the entries that the text of a type goes on to, down to so many levels. Where a growth is
-    /// refused, it ends: the parts of the others are not kept.
+    /// The parts of the entries that the text of a type goes on to, down to so many levels, each looked up once. Where a
+    /// growth is refused it ends, and the others are not kept.
     pub(crate) fn gather(
         alloc: Global,
         section: &'a Section,
@@ -64,7 +64,7 @@ impl<'a> Kept<'a> {
             section,
             parts: IndexMap::new(alloc),
         };
-        let _whole = kept.keep_levels(alloc, typed, levels).is_ok();
+        let _ = kept.keep_levels(alloc, typed, levels);
         kept
     }
 
@@ -98,8 +98,8 @@ impl<'a> Kept<'a> {
         Ok(next)
     }
 
-    /// Keeps the parts of a type, unless they are kept already or are none, and appends the types that it goes on
-    /// to.
+    /// Keeps the parts of a type, unless they are kept already or it goes on to no types, and appends the types that
+    /// it goes on to.
     fn keep(
         &mut self,
         alloc: Global,
@@ -118,30 +118,15 @@ impl<'a> Kept<'a> {
         let Some(entry) = section.entry(id) else {
             return Ok(());
         };
-        let parts = parts_of(alloc, section, id.item, &entry)?;
-        if parts.types.is_empty() {
+        let types = types_of(alloc, section, id.item, &entry)?;
+        if types.is_empty() {
             return Ok(());
         }
-        next.extend_from_slice(&parts.types)?;
-        self.parts.insert(id, parts)?;
+        let shown = shown_of(alloc, &entry)?;
+        next.extend_from_slice(&types)?;
+        self.parts.insert(id, Parts { types, shown })?;
         Ok(())
     }
-}
-
-/// The parts of an entry of this item.
-fn parts_of<'a>(
-    alloc: Global,
-    section: &Section,
-    item: usize,
-    entry: &EntryRef<'a>,
-) -> Result<Parts<'a>, AllocError>
-    requires { IsSome (unit_at section.now.items item) }
-    ensures types { IfOk result (λ p. p.types.items ≡ types_of section.now.items item entry.now) }
-    ensures shown { IfOk result (λ p. p.shown.items ≡ shown_of entry.now) }
-{
-    let types = types_of(alloc, section, item, entry)?;
-    let shown = shown_of(alloc, entry)?;
-    Ok(Parts { types, shown })
 }
 
 /// The types whose texts the text of an entry of this item counts.

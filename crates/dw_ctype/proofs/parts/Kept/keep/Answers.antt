@@ -11,6 +11,7 @@ invariant_of-self-2 c =
     let items = c.self.inside.section.now.items in
     let id : EntryId = c.in-Entry.id in
     let there : entry items id ≡ Some c.in-Some.entry = sym c.entry.ensures ∙ c.in-Some.is in
+    let parts : Parts = record { types = c.in_ok-types.types; shown = c.in_ok-shown.shown } in
     rw c.in_ok-insert.ensures.entries
-    (kept_more (λ (k : EntryId) (p : Parts). ArePartsOf items k.item (entry items k) p) _ c.self.inside.parts.entries id c.in_ok-parts.parts (λ other is. same_id id other is) c.self.invariant
-    (parts_kept items id c.in-Some.entry c.in_ok-parts.parts there c.in_ok-parts.ensures.types c.in_ok-parts.ensures.shown))
+    (kept_more (λ (k : EntryId) (p : Parts). ArePartsOf items k.item (entry items k) p) _ c.self.inside.parts.entries id parts (λ other is. same_id id other is) c.self.invariant
+    (parts_kept items id c.in-Some.entry parts there c.in_ok-types.ensures c.in_ok-shown.ensures))
