@@ -1,6 +1,6 @@
 -- Where a text is given, and appended.
-use Rattle.std.proofs.Common.{◌≡◌, ◌∙◌, ◌+◌, ℕ, Bool, true, false, List, ◌++◌, Option, Some, None, Result, Ok, Err, refl, ap}
-use Rattle.std.specs.Prelude.{nat_le, is_some, is_err, if◌then◌else◌}
+use Rattle.std.proofs.Common.{◌≡◌, ◌∙◌, ℕ, Bool, true, false, List, ◌++◌, Some, Result, Ok, Err, refl, ap}
+use Rattle.std.specs.Prelude.{nat_le, is_some, is_err}
 use Rattle.std.specs.declared.alloc.AllocError.{AllocError}
 use Rattle.dw_tree.specs.Lent.{EntryAt}
 use Rattle.dw_section.specs.Lookup.{entry}

@@ -16,7 +16,7 @@ use Rattle.dw_ctype.specs.declared.parts.Parts.{Parts}
 use Rattle.dw_ctype.specs.declared.typed.Typed.{Typed}
 use Rattle.dw_ctype.specs.InOrder.{is_parameter, parameter_text, to_come}
 use Rattle.dw_ctype.specs.Parts.{ArePartsOf, parameter_types, kind_types, types_of, visits_of, is_shown, shown_among, shown_of}
-use Rattle.dw_ctype.specs.Types.{tag, kind_of, type_of, behind_commas, joined, dimension, dimensions_of, parameter_texts}
+use Rattle.dw_ctype.specs.Types.{tag, kind_of, type_of, behind_commas, dimension, dimensions_of, parameter_texts}
 use Rattle.dw_ctype.specs.Visits.{less, kind_visits, parameter_visits}
 use Rattle.dw_ctype.proofs.Spent.{less_stops, less_then}
 

@@ -3,8 +3,7 @@
 ghost use Rattle.std.specs.Prelude.{◌≡◌, ◌++◌, IfOk, IfSome, IsSome, OnOk};
 ghost use Rattle.dw_tree.specs.Lent.{children_of};
 ghost use Rattle.dw_section.specs.Lookup.{entry, unit_at};
-ghost use Rattle.dw_ctype.specs.Parts.{ArePartsOf, is_shown, parameter_types, shown_among, shown_of, types_of};
-ghost use Rattle.dw_ctype.specs.Types.{kind_of as kind_there};
+ghost use Rattle.dw_ctype.specs.Parts.{ArePartsOf, is_shown, parameter_types, shown_of, types_of};
 
 use crate::kind::Kind;
 use crate::typed::{Typed, kind_of, type_of};
@@ -52,12 +51,7 @@ impl<'a> Model for Kept<'a> {
 impl<'a> Kept<'a> {
     /// The parts of the entries that the text of a type goes on to, down to so many levels, each looked up once. Where a
     /// growth is refused it ends, and the others are not kept.
-    pub(crate) fn gather(
-        alloc: Global,
-        section: &'a Section,
-        typed: Typed,
-        levels: u8,
-    ) -> Kept<'a>
+    pub(crate) fn gather(alloc: Global, section: &'a Section, typed: Typed, levels: u8) -> Kept<'a>
         ensures { result ≡ section.now }
     {
         let mut kept = Kept {
@@ -100,12 +94,7 @@ impl<'a> Kept<'a> {
 
     /// Keeps the parts of a type, unless they are kept already or it goes on to no types, and appends the types that
     /// it goes on to.
-    fn keep(
-        &mut self,
-        alloc: Global,
-        typed: Typed,
-        next: &mut Vec<Typed>,
-    ) -> Result<(), AllocError>
+    fn keep(&mut self, alloc: Global, typed: Typed, next: &mut Vec<Typed>) -> Result<(), AllocError>
         ensures { self.new ≡ self.old }
     {
         let Typed::Entry(id) = typed else {
@@ -190,10 +179,7 @@ fn is_shown(kind: Kind, tag: u64) -> bool
     ensures { result ≡ is_shown kind tag }
 {
     match kind {
-        Kind::Function => matches!(
-            tag,
-            DW_TAG_FORMAL_PARAMETER | DW_TAG_UNSPECIFIED_PARAMETERS
-        ),
+        Kind::Function => matches!(tag, DW_TAG_FORMAL_PARAMETER | DW_TAG_UNSPECIFIED_PARAMETERS),
         Kind::Array => tag == DW_TAG_SUBRANGE_TYPE,
         _ => false,
     }

@@ -1,5 +1,5 @@
 //! What the text of a type has behind its declarator, and the whole text.
-ghost use Rattle.std.specs.Prelude.{◌≡◌, ◌||◌, ◌&&◌, [], IfOk, IsSome, Some, codes, not};
+ghost use Rattle.std.specs.Prelude.{◌≡◌, ◌||◌, [], IfOk, IsSome, Some};
 ghost use Rattle.dw_tree.specs.Lent.{children_of};
 ghost use Rattle.dw_section.specs.Lookup.{entry as entry_there, unit_at};
 ghost use Rattle.dw_ctype.specs.declared.kind.Kind.TheVariants.{Function};
@@ -153,14 +153,7 @@ fn push_each_parameter<'a>(
             out,
         ),
         None => push_parameters_among(
-            section,
-            strings,
-            kept,
-            id.item,
-            function,
-            prototyped,
-            depth,
-            out,
+            section, strings, kept, id.item, function, prototyped, depth, out,
         ),
     }
 }

@@ -35,13 +35,7 @@ pub(crate) fn count(
 
 /// The same for what a type names, whose texts are one level deeper.
 #[cycle(visits)]
-fn count_type(
-    section: &Section,
-    kept: &Kept<'_>,
-    typed: Typed,
-    depth: u8,
-    left: u16,
-) -> Option<u16>
+fn count_type(section: &Section, kept: &Kept<'_>, typed: Typed, depth: u8, left: u16) -> Option<u16>
     requires { kept.now ≡ section.now }
     ensures { result ≡ less (type_visits (visits section.now.items depth) section.now.items typed) left }
 {

@@ -13,3 +13,5 @@ mod details;
 mod kinds;
 #[cfg(test)]
 mod large;
+#[cfg(test)]
+mod parts;

@@ -1,4 +1,4 @@
-use Rattle.std.proofs.Common.{◌≡◌, [], ◌∷◌, ap, drop, ◌+◌, refl, suc}
+use Rattle.std.proofs.Common.{[], ◌∷◌, ap, drop, ◌+◌, refl}
 use Rattle.dw_ctype.specs.Types.{dimensions_of}
 use Rattle.dw_ctype.proofs.Appending.{reaches_none, reaches_more, reaches_last, reaches_stopped, nothing}
 use Rattle.dw_ctype.proofs.Gathered.{one_left, none_left}

@@ -1,4 +1,4 @@
-use Rattle.std.proofs.Common.{◌≡◌, ◌<◌, Bool, Result, subst, arith}
+use Rattle.std.proofs.Common.{◌≡◌, ◌<◌, Bool, subst, arith}
 use Rattle.std.specs.Prelude.{IfOk}
 use Rattle.dw_ctype.specs.View.{source_of}
 use Rattle.dw_ctype.proofs.Appending.{puts_text}
