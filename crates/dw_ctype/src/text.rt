@@ -25,7 +25,8 @@ const MOST_VISITS: u16 = 1024;
 
 /// Appends the text of a type with a name, as a declaration would be written in C: of the type of a variable,
 /// a formal parameter or a member, and else of the entry itself. `strings` are the texts that names are in.
-/// The vector grows by its own allocator.
+/// The vector grows by its own allocator. `alloc` keeps what is needed of the children of functions and arrays while
+/// the text is made, so that each visit needn't look for it; where it has no memory the answer is the same.
 ///
 /// Errors: `NoEntry` exactly where no entry begins at the id; `TypeTooBig` exactly where there is one, and its
 /// text needs more than 1,024 visits of types (they are counted before anything is appended); `NoMemory` only
