@@ -1,10 +1,12 @@
-mod KindRows
 pub mod Answering
 pub mod Appending
 pub mod Gathered
 pub mod InOrder
+mod KindRows
+pub mod LastZero
 pub mod Levels
 pub mod Pieces
+pub mod SameNames
 pub mod Spent
 pub mod TypeRows
 pub mod Typing

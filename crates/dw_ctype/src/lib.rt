@@ -3,6 +3,7 @@
 
 mod append;
 mod dimension;
+mod ended;
 mod fault;
 mod kind;
 mod left;

@@ -3,9 +3,11 @@ ghost use Rattle.std.specs.Prelude.{◌≡◌, ◌++◌, List, ℕ, Ok, IfErr, I
 ghost use Rattle.dw_section.specs.Lookup.{unit_at};
 ghost use Rattle.std.specs.Vec.{vec_len, vec_capacity};
 ghost use Rattle.dw_ctype.specs.Answer.{answer, IsRefusal};
+ghost use Rattle.dw_ctype.specs.Append.{Puts};
 ghost use Rattle.dw_ctype.specs.Types as definition;
 ghost use Rattle.dw_ctype.specs.View.{source_of};
 
+use crate::ended::ended;
 use crate::fault::TypeError;
 use crate::parts::Kept;
 use crate::right::say;
@@ -15,7 +17,7 @@ use dw_leb::constants::tag::{DW_TAG_FORMAL_PARAMETER, DW_TAG_MEMBER, DW_TAG_VARI
 use dw_section::{EntryId, Section};
 use dw_strings::Strings;
 use dw_unit::EntryRef;
-use std::alloc::Global;
+use std::alloc::{AllocError, Global};
 
 /// The most levels of a text: deeper down it is `...`.
 const MOST_LEVELS: u8 = 64;
@@ -56,11 +58,28 @@ pub fn type_text<'a>(
         return Err(TypeError::TypeTooBig);
     }
     let before = out.len();
-    if say(section, strings, &kept, typed, MOST_LEVELS, name, out).is_err() {
+    if append(section, strings, &kept, typed, name, out).is_err() {
         out.truncate(before);
         return Err(TypeError::NoMemory);
     }
     Ok(())
+}
+
+/// Appends the text of a type with a name. Names are looked up in the sections up to their last zero bytes: a name
+/// without an end isn't looked for to the end of its section, as often as there are visits.
+fn append<'a>(
+    section: &'a Section,
+    strings: &Strings<'a>,
+    kept: &Kept<'a>,
+    typed: Typed,
+    name: &[u8],
+    out: &mut Vec<u8>,
+) -> Result<(), AllocError>
+    requires { kept.now ≡ section.now }
+    ensures { Puts out.old out.new (definition.say (source_of section.now strings.now) 64 typed name.now) result }
+{
+    let texts = ended(strings);
+    say(section, &texts, kept, typed, MOST_LEVELS, name, out)
 }
 
 /// The type of which the text of an entry is.

@@ -1,2 +1,4 @@
+pub mod LastZero
+pub mod SamePlaces
 pub mod Text
 pub mod TextView

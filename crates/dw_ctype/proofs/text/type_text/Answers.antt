@@ -18,5 +18,5 @@ returns-clause-appended c =
     let some : is_some c.count.result ≡ true = c.is_none.ensures ∙ ap not c.if-is_none.false in
     let counted : c.count.result ≡ less (entry_text_visits s.items c.args.id e) 1024 = c.count.ensures ∙ ap (λ (t : Typed). less (visits s.items 64 t) 1024) c.subject-typed.ensures in
     let enough : nat_le (entry_text_visits s.items c.args.id e) 1024 ≡ true = few (entry_text_visits s.items c.args.id e) 1024 (ap (λ (o : Option ℕ). is_some o) (sym counted) ∙ some) in
-    let whole : c.say.new.out.items ≡ c.args.out.now.items ++ say s 64 c.subject-typed.result name = grown c.say.result c.args.out.now.items c.say.new.out.items (say s 64 c.subject-typed.result name) (sym c.is_err.ensures.value ∙ c.if-is_err.false) c.say.ensures.bytes in
+    let whole : c.append.new.out.items ≡ c.args.out.now.items ++ say s 64 c.subject-typed.result name = grown c.append.result c.args.out.now.items c.append.new.out.items (say s 64 c.subject-typed.result name) (sym c.is_err.ensures.value ∙ c.if-is_err.false) c.append.ensures.bytes in
     (type_text s c.args.id e name, (answered s c.args.id name e there enough, whole ∙ ap (λ (t : Typed). c.args.out.now.items ++ say s 64 t name) c.subject-typed.ensures))
