@@ -70,29 +70,30 @@ const ELSEWHERE: [u8; 20] = [
     0x01, 0x11, 0x01, 0, 0, 0x02, 0x24, 0, 0x03, 0x0e, 0, 0, 0x03, 0x0f, 0, 0x49, 0x10, 0, 0, 0,
 ];
 
-/// Base types whose names are at 0, 2 and 3.
-const NAMES: [u8; 29] = [
-    0x19, 0, 0, 0, 0x05, 0, 0x01, 0x08, 0, 0, 0, 0, 0x01, 0x02, 0, 0, 0, 0, 0x02, 0x02, 0, 0, 0,
-    0x02, 0x03, 0, 0, 0, 0,
+/// Base types whose names are at 0, 2, 3 and 4.
+const NAMES: [u8; 34] = [
+    0x1e, 0, 0, 0, 0x05, 0, 0x01, 0x08, 0, 0, 0, 0, 0x01, 0x02, 0, 0, 0, 0, 0x02, 0x02, 0, 0, 0,
+    0x02, 0x03, 0, 0, 0, 0x02, 0x04, 0, 0, 0, 0,
 ];
 
-/// Pointers to 13 and to 42, counted from the first byte of the section.
+/// Pointers to 13 and to 47, counted from the first byte of the section.
 const POINTERS: [u8; 24] = [
-    0x14, 0, 0, 0, 0x05, 0, 0x01, 0x08, 0, 0, 0, 0, 0x01, 0x03, 0x0d, 0, 0, 0, 0x03, 0x2a, 0, 0, 0,
+    0x14, 0, 0, 0, 0x05, 0, 0x01, 0x08, 0, 0, 0, 0, 0x01, 0x03, 0x0d, 0, 0, 0, 0x03, 0x2f, 0, 0, 0,
     0,
 ];
 
 const TEXTS: Strings<'static> = Strings {
-    str: b"a\0\0",
+    str: b"a\0\0b",
     line_str: &[],
     str_offsets: &[],
 };
 
-/// The names "a" and "", and one that can't be looked up.
-const NAME_TEXTS: [Said; 3] = [
+/// The names "a" and "", one without an end, and one past the section.
+const NAME_TEXTS: [Said; 4] = [
     (13, &[], Ok(b"a")),
     (18, b"x", Ok(b" x")),
     (23, &[], Ok(b"<noname>")),
+    (28, &[], Ok(b"<noname>")),
 ];
 
 #[test]
