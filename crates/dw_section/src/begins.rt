@@ -1,5 +1,6 @@
 //! Where the entries of a unit begin, for many references in one unit (section 7.5.5).
 ghost use Rattle.std.specs.Prelude.{◌≡◌, []};
+ghost use Rattle.dw_unit.specs.Unit.{WholeUnit};
 ghost use Rattle.dw_section.specs.Begins.{AreBegins, Adds, is_marked};
 
 use dw_unit::Unit;
@@ -25,7 +26,8 @@ impl Model for Begins {
 impl Begins {
     /// Of no unit: none is known. It takes no memory.
     pub fn new(alloc: Global) -> Begins
-        ensures { result ≡ [] }
+        ensures none { result ≡ [] }
+        ensures known { (u : WholeUnit) → AreBegins u result }
     {
         Begins {
             words: Vec::new(alloc),

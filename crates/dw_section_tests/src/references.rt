@@ -2,17 +2,27 @@
 use crate::common::{FIFTEEN, REFERS, TWO_TABLES, takes};
 use dw_leb::Order;
 use dw_leb::constants::attribute::DW_AT_TYPE;
-use dw_section::{EntryId, RefFault, Section};
+use dw_section::{Begins, EntryId, RefFault, Section};
 use std::alloc::Global;
 use std::process::Abort;
 use std::test::Fail;
 
-/// What the type of an entry resolves to. None where there is no entry, or it has none.
-fn type_of(section: &Section, from: EntryId) -> Option<Result<EntryId, RefFault>> {
+/// What the type of an entry resolves to. None where there is no entry, where it has none, and where it matters
+/// whether entries of the unit are known.
+fn type_of(alloc: Global, section: &Section, from: EntryId) -> Option<Result<EntryId, RefFault>> {
     let unit = section.unit(from.item)?;
     let entry = unit.entry_at(from.offset)?;
     let named = entry.attr(DW_AT_TYPE)?;
-    Some(section.resolve(from, &named))
+    let target = section.resolve(from, &named);
+    let mut begins = Begins::new(alloc);
+    let among_none = section.resolve_among(&begins, from, &named);
+    begins.learn(unit);
+    let among_all = section.resolve_among(&begins, from, &named);
+    if among_none == target && among_all == target {
+        Some(target)
+    } else {
+        None
+    }
 }
 
 const fn at(item: usize, offset: u64) -> EntryId {
@@ -27,7 +37,7 @@ fn in_section(alloc: Global, number: u8) -> Result<Option<Result<EntryId, RefFau
     let first = takes(alloc, &mut section, &TWO_TABLES, &FIFTEEN)?;
     let second = takes(alloc, &mut section, &TWO_TABLES, &refers)?;
     if first && second {
-        Ok(type_of(&section, at(1, 12)))
+        Ok(type_of(alloc, &section, at(1, 12)))
     } else {
         Ok(None)
     }
@@ -52,7 +62,7 @@ fn alone(
 ) -> Result<Option<Result<EntryId, RefFault>>, Fail> {
     let mut section = Section::new(alloc, Order::Little);
     if takes(alloc, &mut section, table, bytes)? {
-        Ok(type_of(&section, at(0, from)))
+        Ok(type_of(alloc, &section, at(0, from)))
     } else {
         Ok(None)
     }
@@ -145,7 +155,7 @@ fn signed(
         }
     }
     if takes(alloc, &mut section, &SIGNED, &BY_SIGNATURE)? {
-        Ok(type_of(&section, at(types, 12)))
+        Ok(type_of(alloc, &section, at(types, 12)))
     } else {
         Ok(None)
     }
