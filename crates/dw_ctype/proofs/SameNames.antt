@@ -16,7 +16,7 @@ use Rattle.dw_ctype.specs.declared.typed.Typed.{Typed}
 use Rattle.dw_ctype.specs.declared.typed.Typed.TheVariants.{Missing, Bad, Entry}
 use Rattle.dw_ctype.specs.Ended.{SameTexts}
 use Rattle.dw_ctype.specs.Names.{keyword, qualifier}
-use Rattle.dw_ctype.specs.Types.{Source, readable, named_by, name_of, first, tag, kind_of, type_of, worded, marked, is_bracketed, under, under_type, dimensions, is_prototyped, joined, parameters, parameter_texts, qualified, say, say_kind, say_entry}
+use Rattle.dw_ctype.specs.Types.{Source, readable, named_by, name_of, first, tag, kind_of, type_of, worded, marked, under, under_type, dimensions, is_prototyped, joined, parameters, parameter_texts, qualified, say, say_kind, say_entry}
 
 -- ---- names
 

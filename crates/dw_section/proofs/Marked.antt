@@ -1,5 +1,5 @@
 -- Bits of offsets that are set one after the other, for the entries of a unit.
-use Rattle.std.proofs.Common.{◌≡◌, ◌≢◌, ◌∙◌, ◌+◌, ◌*◌, ◌/◌, ◌%◌, ◌<◌, ◌^◌, ℕ, zero, suc, List, [], ◌∷◌, get_or, Bool, true, false, Option, Some, None, length, refl, sym, ap, subst, arith}
+use Rattle.std.proofs.Common.{◌≡◌, ◌≢◌, ◌∙◌, ◌/◌, ◌%◌, ◌<◌, ◌^◌, ℕ, zero, suc, List, [], ◌∷◌, get_or, Bool, true, false, Option, Some, None, length, refl, sym, ap, subst, arith}
 use Rattle.std.specs.Prelude.{Ok, bit_or, is_some, slice_index, slice_set, ◌==◌, if◌then◌else◌}
 use Rattle.std.specs.Int.{bit_at}
 use Rattle.std.proofs.lemmas.Bool.{eqb-true, eqb-false, eq-eqb, lt-leb}
@@ -9,7 +9,7 @@ use Rattle.dw_tree.specs.Lent.{EntryAt, entries_of, find_at}
 use Rattle.dw_unit.specs.Unit.{WholeUnit, bytes_of, tree_of}
 use Rattle.dw_section.specs.declared.id.RefFault.TheVariants.{NotAnEntry}
 use Rattle.dw_section.specs.Begins.{AreBegins, Adds, is_marked}
-use Rattle.dw_section.specs.Reference.{Target, entry_in, in_unit, unless_found}
+use Rattle.dw_section.specs.Reference.{in_unit, unless_found}
 
 -- a number that is there doesn't depend on the default
 pub there_is : (xs : List ℕ) (i d : ℕ) → i < length xs → get_or xs i d ≡ slice_index xs i
@@ -34,7 +34,7 @@ one_added new words word mask is power inside offset apart marked = by (offset /
         let set : slice_index (slice_set words (new / 64) (bit_or word mask)) (offset / 64) ≡ bit_or word mask = ap (slice_index (slice_set words (new / 64) (bit_or word mask))) same ∙ get_or-set_same words (new / 64) (bit_or word mask) 0 inside in
         let old : word ≡ slice_index words (offset / 64) = is ∙ ap (slice_index words) (sym same) in
         let bit : bit_at (slice_index words (offset / 64)) (offset % 64) ≡ bit_at (slice_index (slice_set words (new / 64) (bit_or word mask)) (offset / 64)) (offset % 64) =
-            ap (λ (n : ℕ). bit_at n (offset % 64)) (sym old) ∙ sym (other_bit word (new % 64) mask (offset % 64) power other) ∙ ap (λ (n : ℕ). bit_at n (offset % 64)) (sym set) in
+        ap (λ (n : ℕ). bit_at n (offset % 64)) (sym old) ∙ sym (other_bit word (new % 64) mask (offset % 64) power other) ∙ ap (λ (n : ℕ). bit_at n (offset % 64)) (sym set) in
         ap (λ (n : ℕ). n == 1) bit ∙ marked
     by false e =
         let kept : slice_index (slice_set words (new / 64) (bit_or word mask)) (offset / 64) ≡ slice_index words (offset / 64) = get_or-set_other words (new / 64) (offset / 64) (bit_or word mask) 0 (eqb-false (offset / 64) (new / 64) e) in

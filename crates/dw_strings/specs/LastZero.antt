@@ -1,6 +1,6 @@
 -- Texts behind the last zero byte of a section, and before it.
 use Rattle.std.specs.Prelude.{◌≡◌, ℕ, zero, suc, ◌≤◌, ◌<◌, Bool, true, false, List, [], ◌∷◌, Option, Some, None, length, drop, take, slice_index, ◌==◌, if◌then◌else◌}
-use Rattle.std.proofs.Common.{refl, ap, ◌∙◌, arith}
+use Rattle.std.proofs.Common.{refl, ap, arith}
 use Rattle.dw_leb.specs.ReadNumber.{before_zero}
 
 not_true : (v : Bool) → ¬ (v ≡ true) → v ≡ false

@@ -24,10 +24,10 @@ returns-else-at-rows-clause-none c i d inside is =
     elim (cases_lt i at) [
       | inl before ↦ (let less : (get_or rows i d).offset < c.args.offset = ltb-true _ c.args.offset (c.rows_before-at.ensures.point.0 i d (omega arith) before) in omega (arith, less, is))
       | inr from ↦ elim c.else-at-rows.branch [
-          | else-at-rows-via-then-at-rows+else-rows-at w ↦
-              let e : Row = w.index-rows-at.result in
-              let low : c.args.offset ≤ (get_or rows at e).offset = ltb-false _ c.args.offset (rest at e (omega arith) w.if-at-rows.true) in
-              behind rows c.requires at c.args.offset e w.if-at-rows.true low w.if-rows-at.false i d from inside is
-          | else-at-rows-via-else-at-rows w ↦ omega (arith, w.if-at-rows.false, from, inside)
-        ]
+        | else-at-rows-via-then-at-rows+else-rows-at w ↦
+            let e : Row = w.index-rows-at.result in
+            let low : c.args.offset ≤ (get_or rows at e).offset = ltb-false _ c.args.offset (rest at e (omega arith) w.if-at-rows.true) in
+            behind rows c.requires at c.args.offset e w.if-at-rows.true low w.if-rows-at.false i d from inside is
+        | else-at-rows-via-else-at-rows w ↦ omega (arith, w.if-at-rows.false, from, inside)
+      ]
     ]

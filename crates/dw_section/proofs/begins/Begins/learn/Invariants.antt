@@ -1,4 +1,4 @@
-use Rattle.std.proofs.Common.{ℕ, length}
+use Rattle.std.proofs.Common.{ℕ}
 use Rattle.dw_tree.specs.Lent.{entries_of}
 use Rattle.dw_unit.specs.Unit.{tree_of}
 use Rattle.dw_section.specs.Begins.{AreBegins}
