@@ -1,13 +1,10 @@
 -- Texts that are appended to an output, one after the other.
-use Rattle.std.proofs.Common.{◌≡◌, ◌∙◌, ℕ, zero, suc, ◌+◌, ◌-◌, ◌*◌, ◌/◌, ◌%◌, ◌^◌, ◌<◌, ◌≤◌, Bool, true, false, List, [], ◌∷◌, ◌++◌, length, take, drop, get_or, Option, Result, Ok, Err, inl, inr, refl, sym, subst, ap, append_assoc, append-nil, arith}
+use Rattle.std.proofs.Common.{◌≡◌, ◌∙◌, ℕ, zero, suc, ◌+◌, ◌/◌, ◌%◌, ◌^◌, ◌<◌, ◌≤◌, Bool, true, false, List, [], ◌∷◌, ◌++◌, length, take, drop, get_or, Option, Result, Ok, Err, inl, inr, refl, sym, subst, ap, append_assoc, append-nil, arith}
 use Rattle.std.proofs.Math.Seq.{take-suc}
 use Rattle.std.specs.Prelude.{IsErrAnd, IsTrue, ◌&&◌, cond}
 use Rattle.std.specs.Fmt.{digits, digits_onto, digit_glyph}
 use Rattle.std.specs.Io.KnownBytes.{Appends}
 use Rattle.std.proofs.lemmas.Bool.{cases_lt}
-use Rattle.std.proofs.lemmas.List.{drop-set, length-set}
-use Rattle.std.proofs.Math.ListN.{set}
-use native.Mathlib.Numerals.{unary_clauses}
 use borrow.Author.Tests.{eq-eqb, ne_eqb}
 use Rattle.dw_leb.specs.declared.errors.WriteError.{WriteError}
 use Rattle.dw_leb.specs.declared.watch.Watched.{Watched}
@@ -15,7 +12,7 @@ use Rattle.dw_leb.specs.Watch.{AppendsFront, Wrote, inner_of, writer_fault}
 use Rattle.dw_leb.specs.Transfers.{appends_more, appends_none, front_behind, front_of_both}
 use Rattle.dw_tool.specs.declared.output.Output.{Output}
 use Rattle.dw_tool.specs.Output.{IsClear, Passes, Puts, buffered, writer_of}
-use Rattle.dw_tool.specs.Text.{each}
+use Rattle.dw_tool.specs.Text.{each, four_digits}
 
 -- what is written of two texts
 both : (w1 w2 x y z a b : List ℕ) → w1 ++ y ≡ x ++ a → w2 ++ z ≡ y ++ b → (w1 ++ w2) ++ z ≡ x ++ (a ++ b)
@@ -181,57 +178,47 @@ hexadecimal_more n h small =
     sym (digits_onto-nil n) ∙ spell_next 63 n [] h ∙ spell_enough 62 63 (n / 16) (last n ∷ []) (omega arith) (omega arith) ∙ spell-append 64 (n / 16) (last n ∷ [])
     ∙ ap (λ (x : List ℕ). x ++ last n ∷ []) (digits_onto-nil (n / 16))
 
-pub hexadecimal_one : (n : ℕ) → n < 16 → digits 16 false n ≡ digit_glyph false (n % 16) ∷ []
+pub hexadecimal_one : (n : ℕ) → n < 16 → digits 16 false n ≡ last n ∷ []
 hexadecimal_one n h = sym (digits_onto-nil n) ∙ spell_last 63 n [] h
 
-room : (k left : ℕ) → 16 ≤ left → left < 16 ^ suc k → (1 ≤ k) × (left / 16 < 16 ^ k)
-room zero left more small = absurd (omega (arith, more, small))
-room (suc k) left more small =
-    let m : ℕ = 16 ^ suc k in
-    let e : 16 ^ suc (suc k) ≡ m * 16 = simp unary_clauses refl in
-    (omega arith, omega (arith, small, e))
+pub hexadecimal_two : (n : ℕ) → 16 ≤ n → n < 16 ^ 2 → digits 16 false n ≡ last (n / 16) ∷ last n ∷ []
+hexadecimal_two n h small = hexadecimal_more n h (omega arith) ∙ ap (λ (t : List ℕ). t ++ last n ∷ []) (hexadecimal_one (n / 16) (omega arith))
 
--- where a digit is put, there is room for those that are left
-pub hexadecimal_room : (at last left : ℕ) → 17 ≤ last → last ≤ at + 15 → 16 ≤ left → left < 16 ^ (at + 16 - last) → (last ≤ at - 1 + 15) × (left / 16 < 16 ^ (at - 1 + 16 - last))
-hexadecimal_room at last left most within more small =
-    let k : ℕ = at + 15 - last in
-    let e1 : at + 16 - last ≡ suc k = omega (arith, within) in
-    let e2 : k ≡ at - 1 + 16 - last = omega (arith, most, within) in
-    let r = room k left more (subst (λ (x : ℕ). left < 16 ^ x) e1 small) in
-    (omega (arith, r.0, most, within), subst (λ (x : ℕ). left / 16 < 16 ^ x) e2 r.1)
+pub hexadecimal_three : (n : ℕ) → 16 ^ 2 ≤ n → n < 16 ^ 3 → digits 16 false n ≡ last (n / 16 ^ 2) ∷ last (n / 16) ∷ last n ∷ []
+hexadecimal_three n h small =
+    let e : n / 16 / 16 ≡ n / 16 ^ 2 = omega arith in
+    hexadecimal_more n (omega arith) (omega arith) ∙ ap (λ (t : List ℕ). t ++ last n ∷ []) (hexadecimal_two (n / 16) (omega arith) (omega arith))
+    ∙ ap (λ (k : ℕ). last k ∷ last (n / 16) ∷ last n ∷ []) e
 
-room_wide : (k left : ℕ) → 2 ^ 64 ≤ left → left < 2 ^ 64 * 16 ^ k → (j : ℕ) × (k ≡ suc j) × (left / 16 < 2 ^ 64 * 16 ^ j)
-room_wide zero left more small = absurd (omega (arith, more, small))
-room_wide (suc k) left more small =
-    let e : 16 ^ suc k ≡ 16 ^ k * 16 = simp unary_clauses refl in
-    (k, refl, omega (arith, small, e))
+pub hexadecimal_four : (n : ℕ) → 16 ^ 3 ≤ n → n < 16 ^ 4 → digits 16 false n ≡ four_digits n
+hexadecimal_four n h small =
+    let e2 : n / 16 / 16 ≡ n / 16 ^ 2 = omega arith in
+    let e3 : n / 16 / 16 ^ 2 ≡ n / 16 ^ 3 = omega arith in
+    hexadecimal_more n (omega arith) (omega arith) ∙ ap (λ (t : List ℕ). t ++ last n ∷ []) (hexadecimal_three (n / 16) (omega arith) (omega arith))
+    ∙ ap (λ (k : ℕ). last k ∷ last (n / 16 / 16) ∷ last (n / 16) ∷ last n ∷ []) e3 ∙ ap (λ (k : ℕ). last (n / 16 ^ 3) ∷ last k ∷ last (n / 16) ∷ last n ∷ []) e2
 
--- the same where more than sixteen are left
-pub hexadecimal_room_wide : (at left : ℕ) → 17 ≤ at → 2 ^ 64 ≤ left → left < 2 ^ 64 * 16 ^ (at - 17) → (17 ≤ at - 1) × (left / 16 < 2 ^ 64 * 16 ^ (at - 1 - 17))
-hexadecimal_room_wide at left most more small =
-    let r = room_wide (at - 17) left more small in
-    let e : r.0 ≡ at - 1 - 17 = omega (arith, r.1) in
-    (omega (arith, r.1), subst (λ (x : ℕ). left / 16 < 2 ^ 64 * 16 ^ x) e r.2)
-
--- a digit is put before those that are there
-pub hexadecimal_next : (text : List ℕ) (at left digit : ℕ) (all : List ℕ) → 1 ≤ at → at < length text → 16 ≤ left → left < 2 ^ 128 → digit ≡ digit_glyph false (left % 16)
-    → digits 16 false left ++ drop (at + 1) text ≡ all → digits 16 false (left / 16) ++ drop (at - 1 + 1) (set text at digit) ≡ all
-hexadecimal_next text at left digit all one short more small is split =
-    let back : at - 1 + 1 ≡ at = omega (arith, one) in
-    let last : List ℕ = digit_glyph false (left % 16) ∷ [] in
-    let e : digits 16 false left ≡ digits 16 false (left / 16) ++ last = hexadecimal_more left more small in
-    rw (back, drop-set text at digit short, is)
-    (sym (append_assoc (digits 16 false (left / 16)) last (drop (at + 1) text)) ∙ ap (λ (t : List ℕ). t ++ drop (at + 1) text) (sym e) ∙ split)
-
--- the last digit, and the mark before it
-pub hexadecimal_put : (text : List ℕ) (at digit : ℕ) → 2 ≤ at → at < length text → drop (at - 2) (set (set (set text at digit) (at - 1) 120) (at - 2) 48) ≡ 48 ∷ 120 ∷ digit ∷ drop (at + 1) text
-hexadecimal_put text at digit two short =
-    let one : List ℕ = set text at digit in
-    let e1 : at - 2 + 1 ≡ at - 1 = omega (arith, two) in
-    let e2 : at - 1 + 1 ≡ at = omega (arith, two) in
-    let n1 : length one ≡ length text = length-set text at digit in
-    let n2 : length (set one (at - 1) 120) ≡ length one = length-set one (at - 1) 120 in
-    rw (drop-set (set one (at - 1) 120) (at - 2) 48 (omega (arith, two, short, n1, n2)), e1, drop-set one (at - 1) 120 (omega (arith, two, short, n1)), e2, drop-set text at digit short) refl
+-- four digits more
+pub hexadecimal_behind : (n : ℕ) → 16 ^ 4 ≤ n → n < 2 ^ 128 → digits 16 false n ≡ digits 16 false (n / 16 ^ 4) ++ four_digits (n % 16 ^ 4)
+hexadecimal_behind n h small =
+    let one : List ℕ = last n ∷ [] in
+    let two : List ℕ = last (n / 16) ∷ one in
+    let three : List ℕ = last (n / 16 ^ 2) ∷ two in
+    let m : ℕ = n % 16 ^ 4 in
+    let e2 : n / 16 / 16 ≡ n / 16 ^ 2 = omega arith in
+    let e3 : n / 16 ^ 2 / 16 ≡ n / 16 ^ 3 = omega arith in
+    let e4 : n / 16 ^ 3 / 16 ≡ n / 16 ^ 4 = omega arith in
+    let d1 : n % 16 ≡ m % 16 = omega arith in
+    let d2 : n / 16 % 16 ≡ m / 16 % 16 = omega arith in
+    let d3 : n / 16 ^ 2 % 16 ≡ m / 16 ^ 2 % 16 = omega arith in
+    let d4 : n / 16 ^ 3 % 16 ≡ m / 16 ^ 3 % 16 = omega arith in
+    let s1 : digits 16 false n ≡ digits 16 false (n / 16) ++ one = hexadecimal_more n (omega arith) small in
+    let s2 : digits 16 false (n / 16) ≡ digits 16 false (n / 16 ^ 2) ++ last (n / 16) ∷ [] = subst (λ (k : ℕ). digits 16 false (n / 16) ≡ digits 16 false k ++ last (n / 16) ∷ []) e2 (hexadecimal_more (n / 16) (omega arith) (omega arith)) in
+    let s3 : digits 16 false (n / 16 ^ 2) ≡ digits 16 false (n / 16 ^ 3) ++ last (n / 16 ^ 2) ∷ [] = subst (λ (k : ℕ). digits 16 false (n / 16 ^ 2) ≡ digits 16 false k ++ last (n / 16 ^ 2) ∷ []) e3 (hexadecimal_more (n / 16 ^ 2) (omega arith) (omega arith)) in
+    let s4 : digits 16 false (n / 16 ^ 3) ≡ digits 16 false (n / 16 ^ 4) ++ last (n / 16 ^ 3) ∷ [] = subst (λ (k : ℕ). digits 16 false (n / 16 ^ 3) ≡ digits 16 false k ++ last (n / 16 ^ 3) ∷ []) e4 (hexadecimal_more (n / 16 ^ 3) (omega arith) (omega arith)) in
+    s1 ∙ ap (λ (t : List ℕ). t ++ one) s2 ∙ append_assoc (digits 16 false (n / 16 ^ 2)) (last (n / 16) ∷ []) one
+    ∙ ap (λ (t : List ℕ). t ++ two) s3 ∙ append_assoc (digits 16 false (n / 16 ^ 3)) (last (n / 16 ^ 2) ∷ []) two
+    ∙ ap (λ (t : List ℕ). t ++ three) s4 ∙ append_assoc (digits 16 false (n / 16 ^ 4)) (last (n / 16 ^ 3) ∷ []) three
+    ∙ rw (d1, d2, d3, d4) refl
 
 -- ---- a text of which a part is to come
 

@@ -1,5 +1,5 @@
 -- The texts of numbers, names and bytes.
-use Rattle.std.specs.Prelude.{ℕ, ◌/◌, ◌%◌, ◌==◌, ◌||◌, ◌&&◌, nat_le, Bool, false, List, [], ◌∷◌, ◌++◌, length, unwrap_or, codes, decimal, if◌then◌else◌}
+use Rattle.std.specs.Prelude.{ℕ, ◌/◌, ◌%◌, ◌^◌, ◌==◌, ◌||◌, ◌&&◌, nat_le, Bool, false, List, [], ◌∷◌, ◌++◌, length, unwrap_or, codes, decimal, if◌then◌else◌}
 use Rattle.std.specs.Fmt.{digits, digit_glyph}
 use Rattle.dw_tool.specs.Names.{attribute_names, name_in, tag_names}
 
@@ -17,6 +17,11 @@ labelled_decimal label number = label ++ decimal number
 -- the byte in two lower-case hexadecimal digits
 abbrev pub two_digits : ℕ → List ℕ
 two_digits byte = digit_glyph false (byte / 16) ∷ digit_glyph false (byte % 16) ∷ []
+
+-- the number in four of them
+abbrev pub four_digits : ℕ → List ℕ
+four_digits number =
+    digit_glyph false (number / 16 ^ 3 % 16) ∷ digit_glyph false (number / 16 ^ 2 % 16) ∷ digit_glyph false (number / 16 % 16) ∷ digit_glyph false (number % 16) ∷ []
 
 -- a tag, and an attribute, by its name or else its number
 abbrev pub tag_text : ℕ → List ℕ

@@ -93,7 +93,6 @@ fn push_entry_line<W: Write>(
 {
     push_labelled_decimal(out, b"<", entry.depth())?;
     push_offset(out, b"> ", start, entry.offset())?;
-    out.append(b" ")?;
     push_tag(out, entry.tag())?;
     out.append(b"\n")
 }
@@ -148,7 +147,6 @@ fn push_attribute_line<W: Write>(
     requires begins { BeginIn section.now.items from.item begins.now }
     ensures { Puts W.contents out.old out.new (attribute_line (sections_of strings.now) section.now.items from.item (attr_of attribute.now)) result }
 {
-    out.append(b"  ")?;
     push_attribute(out, attribute.name)?;
     out.append(b" ")?;
     push_placed_value(out, section, strings, begins, from, attribute)?;

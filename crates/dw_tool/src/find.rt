@@ -138,7 +138,6 @@ fn push_found_line<W: Write>(
     ensures { Puts W.contents out.old out.new (found_line start entry.now) result }
 {
     push_hexadecimal(out, start as u128 + entry.offset() as u128)?;
-    out.append(b" ")?;
     push_tag(out, entry.tag())?;
     out.append(b"\n")
 }

@@ -1,9 +1,9 @@
 //! The texts of numbers, names and bytes, each appended to an output. Each call returns the writer's fault
 //! where there is one, as `Output::append` does.
-ghost use Rattle.std.specs.Prelude.{◌≡◌, ◌<◌, ◌≤◌, ◌+◌, ◌++◌, ◌∷◌, [], ℕ, IsTrue, codes, decimal, drop, false, unwrap_or, option_map};
+ghost use Rattle.std.specs.Prelude.{◌≡◌, ◌<◌, ◌%◌, ◌++◌, ◌∷◌, [], ℕ, IsTrue, codes, decimal, false, unwrap_or, option_map};
 ghost use Rattle.std.specs.Fmt.{digit_glyph, signed_decimal};
 ghost use Rattle.dw_tool.specs.Output.{Puts, IsClear};
-ghost use Rattle.dw_tool.specs.Text.{attribute_text, block, each, escaped, hexadecimal, labelled, labelled_decimal, quoted, spaced_digits, tag_text, two_digits};
+ghost use Rattle.dw_tool.specs.Text.{attribute_text, block, each, escaped, four_digits, hexadecimal, labelled, labelled_decimal, quoted, spaced_digits, tag_text, two_digits};
 
 use crate::names::{attribute_name, tag_name};
 use crate::output::Output;
@@ -27,14 +27,49 @@ pub fn push_hexadecimal<W: Write>(out: &mut Output<'_, W>, number: u128) -> Resu
     }
 }
 
-// The same of a number of any size.
+// The same of a number of any size: the last four digits behind those of what is above them.
 fn push_digits<W: Write>(out: &mut Output<'_, W>, number: u128) -> Result<(), WriteError>
     requires { IsClear out.old }
     ensures { Puts W.contents out.old out.new (hexadecimal number) result }
 {
-    let mut text = [0; 34];
-    let start = put_hexadecimal(&mut text, number);
-    out.append(&text[start..])
+    if number < 0x1_0000 {
+        return push_first_digits(out, number as u16);
+    }
+    push_digits(out, number / 0x1_0000)?;
+    push_four_digits(out, (number % 0x1_0000) as u16)
+}
+
+// The same of a number of at most four digits. Each length is an append of its own, since a constant number of bytes is
+// moved at once.
+#[inline(always)]
+fn push_first_digits<W: Write>(out: &mut Output<'_, W>, number: u16) -> Result<(), WriteError>
+    requires { IsClear out.old }
+    ensures { Puts W.contents out.old out.new (hexadecimal number) result }
+{
+    let one = last_digit(number);
+    let two = last_digit(number / 0x10);
+    let three = last_digit(number / 0x100);
+    let four = last_digit(number / 0x1000);
+    match number {
+        0..=0xf => out.append(&[b'0', b'x', one]),
+        0x10..=0xff => out.append(&[b'0', b'x', two, one]),
+        0x100..=0xfff => out.append(&[b'0', b'x', three, two, one]),
+        _ => out.append(&[b'0', b'x', four, three, two, one]),
+    }
+}
+
+// Appends the number in four hexadecimal digits.
+#[inline(always)]
+fn push_four_digits<W: Write>(out: &mut Output<'_, W>, number: u16) -> Result<(), WriteError>
+    requires { IsClear out.old }
+    ensures { Puts W.contents out.old out.new (four_digits number) result }
+{
+    out.append(&[
+        last_digit(number / 0x1000),
+        last_digit(number / 0x100),
+        last_digit(number / 0x10),
+        last_digit(number),
+    ])
 }
 
 /// Appends the number in decimal digits.
@@ -97,23 +132,23 @@ pub fn push_signed<W: Write>(out: &mut Output<'_, W>, value: i64) -> Result<(), 
     }
 }
 
-/// Appends the tag as `DW_TAG_` and its name, or its number where it has no name.
+/// Appends a space, and the tag as `DW_TAG_` and its name, or its number where it has no name.
 #[inline(always)]
 pub fn push_tag<W: Write>(out: &mut Output<'_, W>, tag: u64) -> Result<(), WriteError>
     requires { IsClear out.old }
-    ensures { Puts W.contents out.old out.new (tag_text tag) result }
+    ensures { Puts W.contents out.old out.new (codes " " ++ tag_text tag) result }
 {
-    out.append(b"DW_TAG_")?;
+    out.append(b" DW_TAG_")?;
     push_name(out, tag_name(tag), tag)
 }
 
-/// Appends the attribute as `DW_AT_` and its name, or its number where it has no name.
+/// Appends two spaces, and the attribute as `DW_AT_` and its name, or its number where it has no name.
 #[inline(always)]
 pub fn push_attribute<W: Write>(out: &mut Output<'_, W>, attribute: u64) -> Result<(), WriteError>
     requires { IsClear out.old }
-    ensures { Puts W.contents out.old out.new (attribute_text attribute) result }
+    ensures { Puts W.contents out.old out.new (codes "  " ++ attribute_text attribute) result }
 {
-    out.append(b"DW_AT_")?;
+    out.append(b"  DW_AT_")?;
     push_name(out, attribute_name(attribute), attribute)
 }
 
@@ -155,41 +190,15 @@ fn push_name<W: Write>(
     }
 }
 
-// Puts the text of the number at the end of these bytes, and answers where it begins.
-fn put_hexadecimal(text: &mut [u8; 34], number: u128) -> usize
-    ensures within { result ≤ 34 }
-    ensures text { drop result text.new ≡ hexadecimal number }
+// The last hexadecimal digit of the number.
+#[inline(always)]
+fn last_digit(number: u16) -> u8
+    ensures { result ≡ digit_glyph false (number % 16) }
 {
-    let mut at = 33;
-    let mut left = number;
-    while left > u64::MAX as u128 {
-        text[at] = hexadecimal_digit((left % 16) as u8);
-        at -= 1;
-        left /= 16;
-    }
-    put_short(text, at, left as u64)
+    hexadecimal_digit((number % 16) as u8)
 }
 
-// The same of a number whose last digit is put at this place.
-fn put_short(text: &mut [u8; 34], last: usize, number: u64) -> usize
-    requires within { last ≤ 33 }
-    requires room { 17 ≤ last }
-    ensures within { result ≤ 34 }
-    ensures text { drop result text.new ≡ hexadecimal number ++ drop (last + 1) text.old }
-{
-    let mut at = last;
-    let mut left = number;
-    while left >= 16 {
-        text[at] = hexadecimal_digit((left % 16) as u8);
-        at -= 1;
-        left /= 16;
-    }
-    text[at] = hexadecimal_digit(left as u8);
-    text[at - 1] = b'x';
-    text[at - 2] = b'0';
-    at - 2
-}
-
+#[inline(always)]
 fn hexadecimal_digit(value: u8) -> u8
     requires { value < 16 }
     ensures { result ≡ digit_glyph false value }

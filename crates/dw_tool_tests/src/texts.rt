@@ -68,11 +68,8 @@ fn put_names<W: Write>(out: &mut Output<'_, W>) -> Result<(), WriteError>
     requires { IsClear out.old }
 {
     push_tag(out, 0x11)?;
-    out.append(b" ")?;
     push_tag(out, 0x4109)?;
-    out.append(b" ")?;
     push_attribute(out, 0x03)?;
-    out.append(b" ")?;
     push_attribute(out, 0x2117)?;
     out.flush()
 }
@@ -83,7 +80,7 @@ fn spells_names(rt: HostRuntime) -> Result<(), Fail> {
     put_names(&mut Output::new(&mut writer))?;
     assert!(rt;
         writer.into_inner().as_slice()
-            == "DW_TAG_compile_unit DW_TAG_0x4109 DW_AT_name DW_AT_0x2117".as_bytes()
+            == " DW_TAG_compile_unit DW_TAG_0x4109  DW_AT_name  DW_AT_0x2117".as_bytes()
     );
     Ok(())
 }

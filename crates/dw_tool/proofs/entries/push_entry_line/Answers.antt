@@ -8,9 +8,8 @@ pub returns-in_err-push_labelled_decimal : goal.returns-in_err-push_labelled_dec
 returns-in_err-push_labelled_decimal g c =
     let e = c.args.entry.now in
     let contents = g.W.Write.contents in
-    let behind_4 = codes "\n" in
-    let behind_3 = tag_text (tag_at e) ++ behind_4 in
-    let behind_2 = codes " " ++ behind_3 in
+    let tag = codes " " ++ tag_text (tag_at e) in
+    let behind_2 = tag ++ codes "\n" in
     let behind_1 = labelled (codes "> ") (c.args.start + e.offset) ++ behind_2 in
     let r = c.from_residual.result in
     puts_stopped contents r _ (labelled_decimal (codes "<") e.depth) behind_1 _ c.from_residual.ensures.1 (rw c.depth.ensures at c.in_err-push_labelled_decimal.ensures)
@@ -19,51 +18,33 @@ pub returns-in_err-push_offset : goal.returns-in_err-push_offset
 returns-in_err-push_offset g c =
     let e = c.args.entry.now in
     let contents = g.W.Write.contents in
-    let behind_4 = codes "\n" in
-    let behind_3 = tag_text (tag_at e) ++ behind_4 in
-    let behind_2 = codes " " ++ behind_3 in
+    let tag = codes " " ++ tag_text (tag_at e) in
+    let behind_2 = tag ++ codes "\n" in
     let behind_1 = labelled (codes "> ") (c.args.start + e.offset) ++ behind_2 in
     let r = c.from_residual-in_err-push_offset.result in
     puts_after contents r _ _ (labelled_decimal (codes "<") e.depth) behind_1 _ (rw c.depth.ensures at c.in_ok-push_labelled_decimal.ensures)
     (puts_stopped contents r _ (labelled (codes "> ") (c.args.start + e.offset)) behind_2 _ c.from_residual-in_err-push_offset.ensures.1 (rw c.offset.ensures at c.in_err-push_offset.ensures))
 
-pub returns-in_err-append : goal.returns-in_err-append
-returns-in_err-append g c =
-    let e = c.args.entry.now in
-    let contents = g.W.Write.contents in
-    let behind_4 = codes "\n" in
-    let behind_3 = tag_text (tag_at e) ++ behind_4 in
-    let behind_2 = codes " " ++ behind_3 in
-    let behind_1 = labelled (codes "> ") (c.args.start + e.offset) ++ behind_2 in
-    let r = c.from_residual-in_err-append.result in
-    puts_after contents r _ _ (labelled_decimal (codes "<") e.depth) behind_1 _ (rw c.depth.ensures at c.in_ok-push_labelled_decimal.ensures)
-    (puts_after contents r _ _ (labelled (codes "> ") (c.args.start + e.offset)) behind_2 _ (rw c.offset.ensures at c.in_ok-push_offset.ensures)
-    (puts_stopped contents r _ (codes " ") behind_3 _ c.from_residual-in_err-append.ensures.1 c.in_err-append.ensures))
-
 pub returns-in_err-push_tag : goal.returns-in_err-push_tag
 returns-in_err-push_tag g c =
     let e = c.args.entry.now in
     let contents = g.W.Write.contents in
-    let behind_4 = codes "\n" in
-    let behind_3 = tag_text (tag_at e) ++ behind_4 in
-    let behind_2 = codes " " ++ behind_3 in
+    let tag = codes " " ++ tag_text (tag_at e) in
+    let behind_2 = tag ++ codes "\n" in
     let behind_1 = labelled (codes "> ") (c.args.start + e.offset) ++ behind_2 in
     let r = c.from_residual-in_err-push_tag.result in
     puts_after contents r _ _ (labelled_decimal (codes "<") e.depth) behind_1 _ (rw c.depth.ensures at c.in_ok-push_labelled_decimal.ensures)
     (puts_after contents r _ _ (labelled (codes "> ") (c.args.start + e.offset)) behind_2 _ (rw c.offset.ensures at c.in_ok-push_offset.ensures)
-    (puts_after contents r _ _ (codes " ") behind_3 _ c.in_ok-append.ensures
-    (puts_stopped contents r _ (tag_text (tag_at e)) behind_4 _ c.from_residual-in_err-push_tag.ensures.1 (rw c.tag.ensures at c.in_err-push_tag.ensures))))
+    (puts_stopped contents r _ tag (codes "\n") _ c.from_residual-in_err-push_tag.ensures.1 (rw c.tag.ensures at c.in_err-push_tag.ensures)))
 
 pub returns : goal.returns
 returns g c =
     let e = c.args.entry.now in
     let contents = g.W.Write.contents in
-    let behind_4 = codes "\n" in
-    let behind_3 = tag_text (tag_at e) ++ behind_4 in
-    let behind_2 = codes " " ++ behind_3 in
+    let tag = codes " " ++ tag_text (tag_at e) in
+    let behind_2 = tag ++ codes "\n" in
     let behind_1 = labelled (codes "> ") (c.args.start + e.offset) ++ behind_2 in
-    let r = c.append-2.result in
+    let r = c.append.result in
     puts_after contents r _ _ (labelled_decimal (codes "<") e.depth) behind_1 _ (rw c.depth.ensures at c.in_ok-push_labelled_decimal.ensures)
     (puts_after contents r _ _ (labelled (codes "> ") (c.args.start + e.offset)) behind_2 _ (rw c.offset.ensures at c.in_ok-push_offset.ensures)
-    (puts_after contents r _ _ (codes " ") behind_3 _ c.in_ok-append.ensures
-    (puts_after contents r _ _ (tag_text (tag_at e)) behind_4 _ (rw c.tag.ensures at c.in_ok-push_tag.ensures) c.append-2.ensures)))
+    (puts_after contents r _ _ tag (codes "\n") _ (rw c.tag.ensures at c.in_ok-push_tag.ensures) c.append.ensures))

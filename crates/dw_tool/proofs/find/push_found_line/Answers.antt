@@ -7,42 +7,23 @@ use Rattle.dw_tool.proofs.find.push_found_line.Goals as goal
 pub returns-in_err-push_hexadecimal : goal.returns-in_err-push_hexadecimal
 returns-in_err-push_hexadecimal g c =
     let e = c.args.entry.now in
-    let behind_3 = codes "\n" in
-    let behind_2 = tag_text (tag_at e) ++ behind_3 in
-    let behind_1 = codes " " ++ behind_2 in
+    let behind_1 = codes " " ++ (tag_text (tag_at e) ++ codes "\n") in
     puts_stopped g.W.Write.contents c.from_residual.result _ (hexadecimal (c.args.start + e.offset)) behind_1 _ c.from_residual.ensures.1 (rw c.offset.ensures at c.in_err-push_hexadecimal.ensures)
-
-pub returns-in_err-append : goal.returns-in_err-append
-returns-in_err-append g c =
-    let e = c.args.entry.now in
-    let contents = g.W.Write.contents in
-    let behind_3 = codes "\n" in
-    let behind_2 = tag_text (tag_at e) ++ behind_3 in
-    let behind_1 = codes " " ++ behind_2 in
-    let r = c.from_residual-in_err-append.result in
-    puts_after contents r _ _ (hexadecimal (c.args.start + e.offset)) behind_1 _ (rw c.offset.ensures at c.in_ok-push_hexadecimal.ensures)
-    (puts_stopped contents r _ (codes " ") behind_2 _ c.from_residual-in_err-append.ensures.1 c.in_err-append.ensures)
 
 pub returns-in_err-push_tag : goal.returns-in_err-push_tag
 returns-in_err-push_tag g c =
     let e = c.args.entry.now in
     let contents = g.W.Write.contents in
-    let behind_3 = codes "\n" in
-    let behind_2 = tag_text (tag_at e) ++ behind_3 in
-    let behind_1 = codes " " ++ behind_2 in
+    let tag = codes " " ++ tag_text (tag_at e) in
     let r = c.from_residual-in_err-push_tag.result in
-    puts_after contents r _ _ (hexadecimal (c.args.start + e.offset)) behind_1 _ (rw c.offset.ensures at c.in_ok-push_hexadecimal.ensures)
-    (puts_after contents r _ _ (codes " ") behind_2 _ c.in_ok-append.ensures
-    (puts_stopped contents r _ (tag_text (tag_at e)) behind_3 _ c.from_residual-in_err-push_tag.ensures.1 (rw c.tag.ensures at c.in_err-push_tag.ensures)))
+    puts_after contents r _ _ (hexadecimal (c.args.start + e.offset)) (tag ++ codes "\n") _ (rw c.offset.ensures at c.in_ok-push_hexadecimal.ensures)
+    (puts_stopped contents r _ tag (codes "\n") _ c.from_residual-in_err-push_tag.ensures.1 (rw c.tag.ensures at c.in_err-push_tag.ensures))
 
 pub returns : goal.returns
 returns g c =
     let e = c.args.entry.now in
     let contents = g.W.Write.contents in
-    let behind_3 = codes "\n" in
-    let behind_2 = tag_text (tag_at e) ++ behind_3 in
-    let behind_1 = codes " " ++ behind_2 in
-    let r = c.append-2.result in
-    puts_after contents r _ _ (hexadecimal (c.args.start + e.offset)) behind_1 _ (rw c.offset.ensures at c.in_ok-push_hexadecimal.ensures)
-    (puts_after contents r _ _ (codes " ") behind_2 _ c.in_ok-append.ensures
-    (puts_after contents r _ _ (tag_text (tag_at e)) behind_3 _ (rw c.tag.ensures at c.in_ok-push_tag.ensures) c.append-2.ensures))
+    let tag = codes " " ++ tag_text (tag_at e) in
+    let r = c.append.result in
+    puts_after contents r _ _ (hexadecimal (c.args.start + e.offset)) (tag ++ codes "\n") _ (rw c.offset.ensures at c.in_ok-push_hexadecimal.ensures)
+    (puts_after contents r _ _ tag (codes "\n") _ (rw c.tag.ensures at c.in_ok-push_tag.ensures) c.append.ensures)
