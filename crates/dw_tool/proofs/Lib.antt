@@ -1,5 +1,6 @@
 pub mod Appending
 pub mod Placed
+pub mod Pieces
 pub mod Finding
 pub mod Named
 mod ShowRows

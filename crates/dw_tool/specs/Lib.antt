@@ -2,6 +2,7 @@ pub mod Names
 pub mod Text
 pub mod TypeOf
 pub mod Show
+pub mod Pieces
 pub mod Find
 pub mod Findings
 pub mod Place

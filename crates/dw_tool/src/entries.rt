@@ -10,13 +10,13 @@ ghost use Rattle.dw_strings.specs.Text.{stored_forms};
 ghost use Rattle.dw_strings.specs.TextView.{sections_of};
 ghost use Rattle.dw_tool.specs.Output.{Puts, IsClear};
 ghost use Rattle.dw_tool.specs.Place.{BeginIn, IsPlace};
-ghost use Rattle.dw_tool.specs.Show.{attribute_line, attribute_lines, entries_text, entry_line, entry_text, no_text, placed_value, stored_text, target_of, target_text, unresolved, value_text};
+ghost use Rattle.dw_tool.specs.Pieces.{entry_head, next_attribute, next_attributes};
+ghost use Rattle.dw_tool.specs.Show.{entries_text, entry_text, no_text, placed_value, stored_text, target_of, target_text, unresolved, value_text};
 ghost use Rattle.dw_tool.specs.Text.{labelled, quoted};
 
 use crate::output::Output;
 use crate::text::{
-    push_attribute, push_block, push_hexadecimal, push_labelled_decimal, push_quoted, push_signed,
-    push_tag,
+    push_attribute, push_block, push_depth, push_hexadecimal, push_quoted, push_signed, push_tag,
 };
 use dw_form::Value;
 use dw_leb::WriteError;
@@ -55,7 +55,8 @@ pub(crate) fn push_entries<W: Write>(
     Ok(())
 }
 
-/// Appends the line of an entry, and one for each of its attributes, in their order.
+/// Appends the line of an entry, and one for each of its attributes, in their order. Each newline is appended in one
+/// piece with the beginning of the line behind it.
 fn push_entry<W: Write>(
     out: &mut Output<'_, W>,
     place: &Place<'_>,
@@ -67,7 +68,7 @@ fn push_entry<W: Write>(
     requires begins { BeginIn place.now.section.now.items place.now.item begins.now }
     ensures { Puts W.contents out.old out.new (entry_text (sections_of place.now.strings.now) place.now.section.now.items place.now.item entry.now) result }
 {
-    push_entry_line(out, place.start, entry)?;
+    push_entry_head(out, place.start, entry)?;
     let from = EntryId {
         item: place.item,
         offset: entry.offset(),
@@ -79,22 +80,23 @@ fn push_entry<W: Write>(
         begins,
         from,
         entry.attrs(),
-    )
+    )?;
+    out.append(b"\n")
 }
 
-/// Appends the line of an entry of a unit that starts here: its depth, its offset in the section, and its tag.
-fn push_entry_line<W: Write>(
+/// Appends the line of an entry of a unit that starts here, without its newline: its depth, its offset in the section,
+/// and its tag.
+fn push_entry_head<W: Write>(
     out: &mut Output<'_, W>,
     start: u64,
     entry: &EntryRef<'_>,
 ) -> Result<(), WriteError>
     requires { IsClear out.old }
-    ensures { Puts W.contents out.old out.new (entry_line start entry.now) result }
+    ensures { Puts W.contents out.old out.new (entry_head start entry.now) result }
 {
-    push_labelled_decimal(out, b"<", entry.depth())?;
-    push_offset(out, b"> ", start, entry.offset())?;
-    push_tag(out, entry.tag())?;
-    out.append(b"\n")
+    push_depth(out, entry.depth())?;
+    push_hexadecimal(out, start as u128 + entry.offset() as u128)?;
+    push_tag(out, entry.tag())
 }
 
 /// Appends the label, and the offset in the section of what has this offset in a unit that starts here.
@@ -112,7 +114,7 @@ fn push_offset<W: Write>(
     push_hexadecimal(out, start as u128 + offset as u128)
 }
 
-/// Appends the lines of attributes of an entry.
+/// Appends a newline before each attribute of an entry, and its line without its own.
 fn push_attributes<W: Write>(
     out: &mut Output<'_, W>,
     section: &Section,
@@ -124,17 +126,17 @@ fn push_attributes<W: Write>(
     requires clear { IsClear out.old }
     requires unit { IsSome (unit_at section.now.items from.item) }
     requires begins { BeginIn section.now.items from.item begins.now }
-    ensures { Puts W.contents out.old out.new (attribute_lines (sections_of strings.now) section.now.items from.item attributes.entry) result }
+    ensures { Puts W.contents out.old out.new (next_attributes (sections_of strings.now) section.now.items from.item attributes.entry) result }
 {
     let mut left = attributes;
     while let Some(attribute) = left.next() {
-        push_attribute_line(out, section, strings, begins, from, &attribute)?;
+        push_next_attribute(out, section, strings, begins, from, &attribute)?;
     }
     Ok(())
 }
 
-/// Appends the line of an attribute of an entry: its name, and its value in its place.
-fn push_attribute_line<W: Write>(
+/// Appends a newline, and the line of an attribute of an entry without its own: its name, and its value in its place.
+fn push_next_attribute<W: Write>(
     out: &mut Output<'_, W>,
     section: &Section,
     strings: &Strings<'_>,
@@ -145,12 +147,10 @@ fn push_attribute_line<W: Write>(
     requires clear { IsClear out.old }
     requires unit { IsSome (unit_at section.now.items from.item) }
     requires begins { BeginIn section.now.items from.item begins.now }
-    ensures { Puts W.contents out.old out.new (attribute_line (sections_of strings.now) section.now.items from.item (attr_of attribute.now)) result }
+    ensures { Puts W.contents out.old out.new (next_attribute (sections_of strings.now) section.now.items from.item (attr_of attribute.now)) result }
 {
     push_attribute(out, attribute.name)?;
-    out.append(b" ")?;
-    push_placed_value(out, section, strings, begins, from, attribute)?;
-    out.append(b"\n")
+    push_placed_value(out, section, strings, begins, from, attribute)
 }
 
 /// Appends the value of an attribute of an entry, and behind it what it names: an entry or a text.
@@ -174,7 +174,7 @@ fn push_placed_value<W: Write>(
 
 /// Appends the value as text. A number is written in hexadecimal digits, or in decimal ones where
 /// it has a sign; a block as by `push_block`, a text as by `push_quoted`, a flag as `present`.
-pub fn push_value<W: Write>(out: &mut Output<'_, W>, value: &Value<'_>) -> Result<(), WriteError>
+fn push_value<W: Write>(out: &mut Output<'_, W>, value: &Value<'_>) -> Result<(), WriteError>
     requires { IsClear out.old }
     ensures { Puts W.contents out.old out.new (value_text (value_of value.now)) result }
 {

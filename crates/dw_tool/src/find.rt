@@ -20,7 +20,7 @@ use std::io::Write;
 /// Appends a line for each entry of a section whose first DW_AT_name has this text: its offset, counted from the
 /// section's first byte, and its tag. The entries come in the order of the section, each before those below it.
 /// A name that can't be looked up in `strings` is none.
-pub fn push_found<W: Write>(
+pub(crate) fn push_found<W: Write>(
     out: &mut Output<'_, W>,
     section: &Section,
     strings: &Strings<'_>,

@@ -11,7 +11,7 @@ use std::io::Write;
 
 /// Appends a line for each finding, in their order: where its entry begins, counted from the section's first byte,
 /// the position of the attribute, and the number and the name of its kind, as `0xc 2 6 RepeatedName`.
-pub fn push_findings<W: Write>(
+pub(crate) fn push_findings<W: Write>(
     out: &mut Output<'_, W>,
     findings: &[Finding],
 ) -> Result<(), WriteError>

@@ -2,15 +2,15 @@
 #![tactic(auto)]
 
 pub mod command;
-pub mod entries;
+mod entries;
 pub mod failure;
-pub mod find;
-pub mod findings;
+mod find;
+mod findings;
 pub mod names;
 pub mod output;
 pub mod run;
-pub mod set;
-pub mod show;
+mod set;
+mod show;
 pub mod status;
-pub mod text;
-pub mod type_of;
+mod text;
+mod type_of;

@@ -10,7 +10,12 @@ use dw_section::Section;
 ///
 /// Errors: those of `Section::set_number`, and then the section is as it was; `NoEntry` exactly where no entry begins
 /// at the offset.
-pub fn set_at(section: &mut Section, offset: u64, name: u64, value: i128) -> Result<(), Refused>
+pub(crate) fn set_at(
+    section: &mut Section,
+    offset: u64,
+    name: u64,
+    value: i128,
+) -> Result<(), Refused>
     ensures set { OnOk result (definition.set_at offset name value section.old ≡ Ok section.new) }
     ensures refused { IfErr result (λ why. definition.set_at offset name value section.old ≡ Err why) }
     ensures unchanged { OnErr result (section.new ≡ section.old) }

@@ -22,7 +22,7 @@ use std::io::Write;
 /// and its entries with their attributes, of another item one line. Offsets count from the section's first
 /// byte. The texts that attributes name are those of `strings`. The memory that is asked for only makes it faster: where
 /// it is refused the text is the same.
-pub fn push_section<W: Write>(
+pub(crate) fn push_section<W: Write>(
     alloc: Global,
     out: &mut Output<'_, W>,
     section: &Section,

@@ -1,11 +1,12 @@
 //! The texts of numbers, names and bytes, each appended to an output. Each call returns the writer's fault
 //! where there is one, as `Output::append` does.
-ghost use Rattle.std.specs.Prelude.{◌≡◌, ◌<◌, ◌%◌, ◌++◌, ◌∷◌, [], ℕ, IsTrue, codes, decimal, false, unwrap_or, option_map};
+ghost use Rattle.std.specs.Prelude.{◌≡◌, ◌<◌, ◌%◌, ◌++◌, ◌∷◌, [], ℕ, IsTrue, codes, decimal, false};
 ghost use Rattle.std.specs.Fmt.{digit_glyph, signed_decimal};
 ghost use Rattle.dw_tool.specs.Output.{Puts, IsClear};
+ghost use Rattle.dw_tool.specs.Pieces.{attribute_label, depth_text};
 ghost use Rattle.dw_tool.specs.Text.{attribute_text, block, each, escaped, four_digits, hexadecimal, labelled, labelled_decimal, quoted, spaced_digits, tag_text, two_digits};
 
-use crate::names::{attribute_name, tag_name};
+use crate::names::{attribute_label, tag_label};
 use crate::output::Output;
 use dw_leb::WriteError;
 use itoa::Buffer;
@@ -15,7 +16,10 @@ const HEXADECIMAL_DIGITS: [u8; 16] = *b"0123456789abcdef";
 
 /// Appends `0x` and the number in lower-case hexadecimal digits, with no leading zeros.
 #[inline(always)]
-pub fn push_hexadecimal<W: Write>(out: &mut Output<'_, W>, number: u128) -> Result<(), WriteError>
+pub(crate) fn push_hexadecimal<W: Write>(
+    out: &mut Output<'_, W>,
+    number: u128,
+) -> Result<(), WriteError>
     requires { IsClear out.old }
     ensures { Puts W.contents out.old out.new (hexadecimal number) result }
 {
@@ -74,7 +78,7 @@ fn push_four_digits<W: Write>(out: &mut Output<'_, W>, number: u16) -> Result<()
 
 /// Appends the number in decimal digits.
 #[inline(always)]
-pub fn push_decimal<W: Write>(out: &mut Output<'_, W>, number: u64) -> Result<(), WriteError>
+pub(crate) fn push_decimal<W: Write>(out: &mut Output<'_, W>, number: u64) -> Result<(), WriteError>
     requires { IsClear out.old }
     ensures { Puts W.contents out.old out.new (decimal number) result }
 {
@@ -122,7 +126,7 @@ pub(crate) fn push_labelled_decimal<W: Write>(
 }
 
 /// Appends the value in decimal digits, after a `-` where it is negative.
-pub fn push_signed<W: Write>(out: &mut Output<'_, W>, value: i64) -> Result<(), WriteError>
+pub(crate) fn push_signed<W: Write>(out: &mut Output<'_, W>, value: i64) -> Result<(), WriteError>
     requires { IsClear out.old }
     ensures { Puts W.contents out.old out.new (signed_decimal value) result }
 {
@@ -132,29 +136,68 @@ pub fn push_signed<W: Write>(out: &mut Output<'_, W>, value: i64) -> Result<(), 
     }
 }
 
+/// Appends `<`, the depth in decimal digits, `>` and a space.
+#[inline(always)]
+pub(crate) fn push_depth<W: Write>(out: &mut Output<'_, W>, depth: u64) -> Result<(), WriteError>
+    requires { IsClear out.old }
+    ensures { Puts W.contents out.old out.new (depth_text depth) result }
+{
+    // Most depths have one digit.
+    if depth < 10 {
+        out.append(&[b'<', b'0' + depth as u8, b'>', b' '])
+    } else {
+        push_great_depth(out, depth)
+    }
+}
+
+// The same of any depth.
+fn push_great_depth<W: Write>(out: &mut Output<'_, W>, depth: u64) -> Result<(), WriteError>
+    requires { IsClear out.old }
+    ensures { Puts W.contents out.old out.new (depth_text depth) result }
+{
+    push_labelled_decimal(out, b"<", depth)?;
+    out.append(b"> ")
+}
+
 /// Appends a space, and the tag as `DW_TAG_` and its name, or its number where it has no name.
 #[inline(always)]
-pub fn push_tag<W: Write>(out: &mut Output<'_, W>, tag: u64) -> Result<(), WriteError>
+pub(crate) fn push_tag<W: Write>(out: &mut Output<'_, W>, tag: u64) -> Result<(), WriteError>
     requires { IsClear out.old }
     ensures { Puts W.contents out.old out.new (codes " " ++ tag_text tag) result }
 {
-    out.append(b" DW_TAG_")?;
-    push_name(out, tag_name(tag), tag)
+    match tag_label(tag) {
+        Some(label) => out.append(label.as_bytes()),
+        None => push_labelled(out, b" DW_TAG_", tag),
+    }
 }
 
-/// Appends two spaces, and the attribute as `DW_AT_` and its name, or its number where it has no name.
+/// Appends a newline, two spaces, the attribute as `DW_AT_` and its name, or its number where it has no name, and a space.
 #[inline(always)]
-pub fn push_attribute<W: Write>(out: &mut Output<'_, W>, attribute: u64) -> Result<(), WriteError>
+pub(crate) fn push_attribute<W: Write>(
+    out: &mut Output<'_, W>,
+    attribute: u64,
+) -> Result<(), WriteError>
     requires { IsClear out.old }
-    ensures { Puts W.contents out.old out.new (codes "  " ++ attribute_text attribute) result }
+    ensures { Puts W.contents out.old out.new (codes "\n  " ++ (attribute_text attribute ++ codes " ")) result }
 {
-    out.append(b"  DW_AT_")?;
-    push_name(out, attribute_name(attribute), attribute)
+    match attribute_label(attribute) {
+        Some(label) => out.append(label.as_bytes()),
+        None => push_unnamed(out, attribute),
+    }
+}
+
+// The same of an attribute by its number.
+fn push_unnamed<W: Write>(out: &mut Output<'_, W>, attribute: u64) -> Result<(), WriteError>
+    requires { IsClear out.old }
+    ensures { Puts W.contents out.old out.new (attribute_label (hexadecimal attribute)) result }
+{
+    push_labelled(out, b"\n  DW_AT_", attribute)?;
+    out.append(b" ")
 }
 
 /// Appends the bytes between double quotes. A double quote and a backslash get a backslash before
 /// them, and bytes outside 0x20 to 0x7e are written as `\x` and two hexadecimal digits.
-pub fn push_quoted<W: Write>(out: &mut Output<'_, W>, bytes: &[u8]) -> Result<(), WriteError>
+pub(crate) fn push_quoted<W: Write>(out: &mut Output<'_, W>, bytes: &[u8]) -> Result<(), WriteError>
     requires { IsClear out.old }
     ensures { Puts W.contents out.old out.new (quoted bytes.now) result }
 {
@@ -165,7 +208,7 @@ pub fn push_quoted<W: Write>(out: &mut Output<'_, W>, bytes: &[u8]) -> Result<()
 
 /// Appends `[N]` with the number of bytes, and where there are any a space and two hexadecimal
 /// digits for each.
-pub fn push_block<W: Write>(out: &mut Output<'_, W>, bytes: &[u8]) -> Result<(), WriteError>
+pub(crate) fn push_block<W: Write>(out: &mut Output<'_, W>, bytes: &[u8]) -> Result<(), WriteError>
     requires { IsClear out.old }
     ensures { Puts W.contents out.old out.new (block bytes.now) result }
 {
@@ -173,21 +216,6 @@ pub fn push_block<W: Write>(out: &mut Output<'_, W>, bytes: &[u8]) -> Result<(),
     push_decimal(out, bytes.len() as u64)?;
     out.append(b"]")?;
     push_spaced_digits(out, bytes)
-}
-
-#[inline(always)]
-fn push_name<W: Write>(
-    out: &mut Output<'_, W>,
-    name: Option<&str>,
-    number: u64,
-) -> Result<(), WriteError>
-    requires { IsClear out.old }
-    ensures { Puts W.contents out.old out.new (unwrap_or (option_map (λ text. text.now) name.entry) (hexadecimal number)) result }
-{
-    match name {
-        Some(text) => out.append(text.as_bytes()),
-        None => push_hexadecimal(out, u128::from(number)),
-    }
 }
 
 // The last hexadecimal digit of the number.

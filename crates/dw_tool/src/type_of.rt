@@ -20,7 +20,7 @@ use std::alloc::Global;
 ///
 /// Errors: those of `type_text`; `NoEntry` exactly where no entry begins at the offset, `NoMemory` only where
 /// there is a line.
-pub fn type_line<'a>(
+pub(crate) fn type_line<'a>(
     alloc: Global,
     section: &'a Section,
     strings: &Strings<'a>,

@@ -1,15 +1,9 @@
 //! Names and numbers as the program spells them: those of the standard's tables 7.3 and 7.5, and others
 //! as numbers.
-ghost use Rattle.dw_tool.specs.Output.{IsClear};
-
-use dw_leb::{Watched, WriteError};
+use crate::common::writes;
+use dw_tool::command::Command;
 use dw_tool::names::{attribute_name, tag_name};
-use dw_tool::output::Output;
-use dw_tool::text::{
-    push_attribute, push_block, push_decimal, push_hexadecimal, push_quoted, push_signed, push_tag,
-};
-use std::io::Write;
-use std::test::Fail;
+use dw_unit::Versions;
 
 #[test]
 fn names_tags_and_attributes(rt: HostRuntime) {
@@ -35,76 +29,43 @@ fn names_tags_and_attributes(rt: HostRuntime) {
     }
 }
 
-// What is appended, behind a flush.
-fn put_numbers<W: Write>(out: &mut Output<'_, W>) -> Result<(), WriteError>
-    requires { IsClear out.old }
-{
-    push_hexadecimal(out, 0x1122334455667788)?;
-    out.append(b" ")?;
-    push_hexadecimal(out, 0)?;
-    out.append(b" ")?;
-    push_hexadecimal(out, u128::MAX)?;
-    out.append(b" ")?;
-    push_decimal(out, 18446744073709551615)?;
-    out.append(b" ")?;
-    push_signed(out, -1)?;
-    out.append(b" ")?;
-    push_signed(out, -9223372036854775808)?;
-    out.flush()
-}
+// Code 1: the tag 0x4109, no children, the attribute 0x2117 as DW_FORM_data16, DW_AT_const_value as DW_FORM_data8, data1,
+// udata, sdata and sdata, DW_AT_name as DW_FORM_string twice, DW_AT_const_value as DW_FORM_block1 twice.
+const TABLE: [u8; 29] = [
+    0x01, 0x89, 0x82, 0x01, 0, 0x97, 0x42, 0x1e, 0x1c, 0x07, 0x1c, 0x0b, 0x1c, 0x0f, 0x1c, 0x0d,
+    0x1c, 0x0d, 0x03, 0x08, 0x03, 0x08, 0x1c, 0x0a, 0x1c, 0x0a, 0, 0, 0,
+];
+
+// A compile unit with one entry.
+const UNIT: [u8; 74] = [
+    70, 0, 0, 0, 5, 0, 1, 8, 0, 0, 0, 0, 0x01, // the header, and the code
+    0xff, 0xff, 0xff, 0xff, 0xff, 0xff, 0xff, 0xff, 0xff, 0xff, 0xff, 0xff, 0xff, 0xff, 0xff, 0xff,
+    0x88, 0x77, 0x66, 0x55, 0x44, 0x33, 0x22, 0x11, // data8
+    0x00, // data1
+    0xff, 0xff, 0xff, 0xff, 0xff, 0xff, 0xff, 0xff, 0xff, 0x01, // udata: 2^64 - 1
+    0x7f, // sdata: -1
+    0x80, 0x80, 0x80, 0x80, 0x80, 0x80, 0x80, 0x80, 0x80, 0x7f, // sdata: -2^63
+    b'a', b' ', b'"', b'\\', b'~', 0x7f, 0x01, 0xff, 0, // string
+    0, // string
+    0, // block1
+    3, 0x03, 0xa0, 0xff, // block1
+];
+
+const TEXT: &str = "unit 0x0 compile 32 size 74 abbrev 0x0 addr 8
+<1> 0xc DW_TAG_0x4109
+  DW_AT_0x2117 0xffffffffffffffffffffffffffffffff
+  DW_AT_const_value 0x1122334455667788
+  DW_AT_const_value 0x0
+  DW_AT_const_value 0xffffffffffffffff
+  DW_AT_const_value -1
+  DW_AT_const_value -9223372036854775808
+  DW_AT_name \"a \\\"\\\\~\\x7f\\x01\\xff\"
+  DW_AT_name \"\"
+  DW_AT_const_value [0]
+  DW_AT_const_value [3] 03a0ff
+";
 
 #[test]
-fn spells_numbers(rt: HostRuntime) -> Result<(), Fail> {
-    let mut writer = Watched::new(Vec::new(rt.alloc()));
-    put_numbers(&mut Output::new(&mut writer))?;
-    assert!(rt;
-        writer.into_inner().as_slice()
-            == "0x1122334455667788 0x0 0xffffffffffffffffffffffffffffffff 18446744073709551615 -1 -9223372036854775808".as_bytes()
-    );
-    Ok(())
-}
-
-fn put_names<W: Write>(out: &mut Output<'_, W>) -> Result<(), WriteError>
-    requires { IsClear out.old }
-{
-    push_tag(out, 0x11)?;
-    push_tag(out, 0x4109)?;
-    push_attribute(out, 0x03)?;
-    push_attribute(out, 0x2117)?;
-    out.flush()
-}
-
-#[test]
-fn spells_names(rt: HostRuntime) -> Result<(), Fail> {
-    let mut writer = Watched::new(Vec::new(rt.alloc()));
-    put_names(&mut Output::new(&mut writer))?;
-    assert!(rt;
-        writer.into_inner().as_slice()
-            == " DW_TAG_compile_unit DW_TAG_0x4109  DW_AT_name  DW_AT_0x2117".as_bytes()
-    );
-    Ok(())
-}
-
-fn put_bytes<W: Write>(out: &mut Output<'_, W>) -> Result<(), WriteError>
-    requires { IsClear out.old }
-{
-    push_quoted(out, b"a \"\\~\x7f\x00\xff")?;
-    out.append(b" ")?;
-    push_quoted(out, b"")?;
-    out.append(b" ")?;
-    push_block(out, b"")?;
-    out.append(b" ")?;
-    push_block(out, b"\x03\xa0\xff")?;
-    out.flush()
-}
-
-#[test]
-fn spells_bytes(rt: HostRuntime) -> Result<(), Fail> {
-    let mut writer = Watched::new(Vec::new(rt.alloc()));
-    put_bytes(&mut Output::new(&mut writer))?;
-    assert!(rt;
-        writer.into_inner().as_slice()
-            == "\"a \\\"\\\\~\\x7f\\x00\\xff\" \"\" [0] [3] 03a0ff".as_bytes()
-    );
-    Ok(())
+fn spells_names_numbers_and_bytes(rt: HostRuntime) {
+    assert!(rt; writes(rt.alloc(), Command::Show, Versions::Five, &UNIT, &TABLE, TEXT.as_bytes()));
 }

@@ -1,12 +1,12 @@
 use Rattle.std.proofs.Common.{length}
 use Rattle.dw_strings.specs.TextView.{sections_of}
-use Rattle.dw_tool.specs.Show.{attribute_lines}
+use Rattle.dw_tool.specs.Pieces.{next_attributes}
 use Rattle.dw_tool.proofs.Appending.{Reaches}
 use Rattle.dw_tool.proofs.entries.push_attributes.Given as goal
 
 -- the lines of the attributes before these are there
 abbrev pub invariant-loop-attribute : goal.invariant-loop-attribute
-invariant-loop-attribute g l = let text = attribute_lines (sections_of l.fn.strings) l.fn.section.items l.fn.from.item in
+invariant-loop-attribute g l = let text = next_attributes (sections_of l.fn.strings) l.fn.section.items l.fn.from.item in
     Reaches g.W.Write.contents l.fn.out l.out (text l.left) (text l.fn.attributes)
 
 abbrev pub decreases-loop-attribute : goal.decreases-loop-attribute

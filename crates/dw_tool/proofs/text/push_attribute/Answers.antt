@@ -1,13 +1,17 @@
-use Rattle.std.proofs.Common.{codes, unwrap_or}
-use Rattle.dw_tool.specs.Text.{hexadecimal}
+use Rattle.std.proofs.Common.{List, ℕ, subst}
 use Rattle.dw_tool.specs.Names.{attribute_names, name_in}
-use Rattle.dw_tool.proofs.Appending.{puts_after, puts_stopped}
+use Rattle.dw_tool.specs.Output.{Puts}
+use Rattle.dw_tool.specs.Pieces.{attribute_label}
+use Rattle.dw_tool.specs.Text.{hexadecimal}
+use Rattle.dw_tool.proofs.Pieces.{label_is, no_label}
 use Rattle.dw_tool.proofs.text.push_attribute.Goals as goal
 
-pub returns-in_err-append : goal.returns-in_err-append
-returns-in_err-append g c = puts_stopped g.W.Write.contents c.from_residual.result _ (codes "  DW_AT_") (unwrap_or (name_in attribute_names c.args.attribute) (hexadecimal c.args.attribute)) _ c.from_residual.ensures.1 c.in_err-append.ensures
+pub returns-in-Some : goal.returns-in-Some
+returns-in-Some g c =
+    let n = c.args.attribute in
+    subst (λ (t : List ℕ). Puts g.W.Write.contents c.args.out.now c.append.new.self t c.append.result) (label_is attribute_label (name_in attribute_names n) (hexadecimal n) c.in-Some.label.now (rw c.in-Some.is at c.attribute_label.ensures)) (rw c.as_bytes.ensures.value at c.append.ensures)
 
-pub returns : goal.returns
-returns g c =
-    puts_after g.W.Write.contents c.push_name.result _ _ (codes "  DW_AT_") (unwrap_or (name_in attribute_names c.args.attribute) (hexadecimal c.args.attribute)) _ c.in_ok-append.ensures
-    (rw c.attribute_name.ensures at c.push_name.ensures)
+pub returns-in-None : goal.returns-in-None
+returns-in-None g c =
+    let n = c.args.attribute in
+    subst (λ (t : List ℕ). Puts g.W.Write.contents c.args.out.now c.push_unnamed.new.out t c.push_unnamed.result) (no_label attribute_label (name_in attribute_names n) (hexadecimal n) (rw c.in-None.is at c.attribute_label.ensures)) c.push_unnamed.ensures
