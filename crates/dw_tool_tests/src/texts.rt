@@ -67,5 +67,14 @@ const TEXT: &str = "unit 0x0 compile 32 size 74 abbrev 0x0 addr 8
 
 #[test]
 fn spells_names_numbers_and_bytes(rt: HostRuntime) {
-    assert!(rt; writes(rt.alloc(), Command::Show, Versions::Five, &UNIT, &TABLE, TEXT.as_bytes()));
+    assert!(rt;
+        writes(
+            rt.alloc(),
+            Command::Show,
+            Versions::Five,
+            &UNIT,
+            &TABLE,
+            TEXT.as_bytes()
+        )
+    );
 }
