@@ -5,9 +5,9 @@ Usage: scripts/mutate.py PROGRAM [COUNT [SEED]]
 
 PROGRAM is the built `dwarf` (crates/dwarf/out/dwarf). COUNT times (600 by default) .debug_info of an example,
 and at times .debug_abbrev too, gets a few bytes changed, put in, taken out or cut off, and `copy` and `show`
-read them. Both have to accept, and then `copy` writes the very bytes of .debug_info and `show` the unit; or
-both have to refuse with status 1, nothing on standard output and the same line on standard error. The status
-is 0 where all is so, else 1.
+read them, with units of version 4 among them where the example has some. Both have to accept, and then `copy`
+writes the very bytes of .debug_info and `show` the section from its first item on; or both have to refuse with
+status 1, nothing on standard output and the same line on standard error. The status is 0 where all is so, else 1.
 """
 
 import os
@@ -18,6 +18,8 @@ import sys
 import tempfile
 
 EXAMPLES = os.path.join(os.path.dirname(os.path.abspath(__file__)), "..", "examples")
+
+OF_VERSION_FOUR = ("clang4", "gcc4")
 
 FAULT = re.compile(rb"fault (info|abbrev) 0x[0-9a-f]+ [A-Za-z]+\n")
 
@@ -39,8 +41,8 @@ def mutated(section, chance):
     return bytes(b)
 
 
-def answer(program, command, room):
-    words = [program, command, "--info", f"{room}/debug_info", "--abbrev", f"{room}/debug_abbrev"]
+def answer(program, command, options, room):
+    words = [program, command, "--info", f"{room}/debug_info", "--abbrev", f"{room}/debug_abbrev", *options]
     ran = subprocess.run(words, stdout=subprocess.PIPE, stderr=subprocess.PIPE, timeout=60)
     return ran.returncode, ran.stdout, ran.stderr
 
@@ -50,13 +52,15 @@ def mistake(info, copy, show):
     if copy[0] != show[0]:
         return f"statuses {copy[0]} and {show[0]}"
     if copy[0] == 0:
-        shown = show[1].startswith(b"unit 0x0 ") or not info
-        return None if copy[1] == info and shown else "accepted, and other bytes are written"
+        if copy[1] != info:
+            return "accepted, and other bytes are written"
+        shown = show[1].startswith((b"unit 0x0 ", b"other 0x0 ")) or not info
+        return None if shown else f"accepted, and shown as {show[1][:40]!r}"
     refused = copy[0] == 1 and not copy[1] and not show[1] and copy[2] == show[2] and FAULT.fullmatch(copy[2])
     return None if refused else f"status {copy[0]}, {copy[2]!r} and {show[2]!r}"
 
 
-def tried(program, sections, chance, room):
+def tried(program, sections, options, chance, room):
     """Writes mutated sections into the room; gives what is wrong with the answers, and whether they accept."""
     info, abbrev = mutated(sections["debug_info"], chance), sections["debug_abbrev"]
     if chance.random() < 0.3:
@@ -64,8 +68,8 @@ def tried(program, sections, chance, room):
     for name, section in [("debug_info", info), ("debug_abbrev", abbrev)]:
         with open(f"{room}/{name}", "wb") as it:
             it.write(section)
-    copy = answer(program, "copy", room)
-    return mistake(info, copy, answer(program, "show", room)), copy[0] == 0
+    copy = answer(program, "copy", options, room)
+    return mistake(info, copy, answer(program, "show", options, room)), copy[0] == 0
 
 
 def main(program, count=600, seed=1):
@@ -78,7 +82,8 @@ def main(program, count=600, seed=1):
     with tempfile.TemporaryDirectory() as room:
         for turn in range(count):
             name, sections = examples[turn % len(examples)]
-            found, is_accepted = tried(program, sections, chance, room)
+            options = ["--v4"] if name in OF_VERSION_FOUR else []
+            found, is_accepted = tried(program, sections, options, chance, room)
             accepted += is_accepted
             if found:
                 wrong += 1
