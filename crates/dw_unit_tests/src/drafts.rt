@@ -36,7 +36,7 @@ fn wide_one() -> Result<Uleb, Fail> {
 }
 
 /// An entry of this code begins, where one can.
-fn partial_value(draft: &mut Draft, code: Uleb) -> Result<(), Fail> {
+fn begun(draft: &mut Draft, code: Uleb) -> Result<(), Fail> {
     if draft.next_pair().is_some() {
         return Err("an entry is read".into());
     }
@@ -160,7 +160,7 @@ fn whole(draft: Draft) -> Result<Unit, Fail> {
 
 /// Behind the root's name, its child of the size 4, their null in two bytes, and nulls of one and two bytes.
 fn child_and_padding(draft: &mut Draft) -> Result<(), Fail> {
-    partial_value(draft, Uleb::least(2))?;
+    begun(draft, Uleb::least(2))?;
     given(draft, four())?;
     closed(draft, 2)?;
     padded(draft, 1)?;
@@ -200,11 +200,11 @@ fn is_empty_of(rt: &impl Abort, draft: &Draft, size: u64) {
 /// A root and its child begin, with the depth after each step.
 fn goes_down(rt: &impl Abort, draft: &mut Draft) -> Result<(), Fail> {
     is_empty_of(rt, draft, 12);
-    partial_value(draft, wide_one()?)?;
+    begun(draft, wide_one()?)?;
     is_empty_of(rt, draft, 14);
     given(draft, name())?;
     assert!(rt; draft.depth() == 1);
-    partial_value(draft, Uleb::least(2))?;
+    begun(draft, Uleb::least(2))?;
     given(draft, four())?;
     assert!(rt; draft.depth() == 1);
     Ok(())
@@ -232,7 +232,7 @@ fn a_unit_step_by_step(rt: HostRuntime) -> Result<(), Fail> {
 
 /// The root's name is given in two pieces, of which the first is empty.
 fn is_named_in_pieces(rt: &impl Abort, draft: &mut Draft) -> Result<(), Fail> {
-    partial_value(draft, wide_one()?)?;
+    begun(draft, wide_one()?)?;
     started(draft)?;
     lengthened(draft, &[])?;
     same(rt, draft.content(), &[]);
@@ -251,7 +251,7 @@ fn is_named_in_pieces(rt: &impl Abort, draft: &mut Draft) -> Result<(), Fail> {
 
 /// An entry is taken back in the middle of its name, of which nothing is kept.
 fn takes_a_name_back(rt: &impl Abort, draft: &mut Draft) -> Result<(), Fail> {
-    partial_value(draft, Uleb::least(1))?;
+    begun(draft, Uleb::least(1))?;
     started(draft)?;
     lengthened(draft, &[0x62, 0x63])?;
     draft.undo();
@@ -269,7 +269,7 @@ fn a_name_in_pieces(rt: HostRuntime) -> Result<(), Fail> {
 }
 
 fn cannot_end(rt: &impl Abort, draft: &mut Draft) -> Result<(), Fail> {
-    partial_value(draft, Uleb::least(1))?;
+    begun(draft, Uleb::least(1))?;
     started(draft)?;
     lengthened(draft, &[0x61, 0])?;
     assert!(rt; !can_end(draft));
@@ -286,7 +286,7 @@ fn a_wrong_name_in_pieces(rt: HostRuntime) -> Result<(), Fail> {
 
 /// The root begins and is taken back before its name.
 fn takes_the_root_back(rt: &impl Abort, draft: &mut Draft) -> Result<(), Fail> {
-    partial_value(draft, Uleb::least(1))?;
+    begun(draft, Uleb::least(1))?;
     let pair = draft.next_pair().ok_or("no entry is read")?;
     assert!(rt; pair.form.value == 0x08);
     draft.undo();
@@ -297,9 +297,9 @@ fn takes_the_root_back(rt: &impl Abort, draft: &mut Draft) -> Result<(), Fail> {
 
 /// The root, and an entry in its child's place that is taken back.
 fn takes_a_child_back(draft: &mut Draft) -> Result<(), Fail> {
-    partial_value(draft, wide_one()?)?;
+    begun(draft, wide_one()?)?;
     given(draft, name())?;
-    partial_value(draft, Uleb::least(1))?;
+    begun(draft, Uleb::least(1))?;
     draft.undo();
     Ok(())
 }
