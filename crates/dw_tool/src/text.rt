@@ -39,6 +39,10 @@ fn push_digits<W: Write>(out: &mut Output<'_, W>, number: u128) -> Result<(), Wr
     if number < 0x1_0000 {
         return push_first_digits(out, number as u16);
     }
+    // Most addresses and offsets have eight digits at most.
+    if number < 0x1_0000_0000 {
+        return push_next_digits(out, (number / 0x1_0000) as u16, (number % 0x1_0000) as u16);
+    }
     push_digits(out, number / 0x1_0000)?;
     push_four_digits(out, (number % 0x1_0000) as u16)
 }
@@ -59,6 +63,32 @@ fn push_first_digits<W: Write>(out: &mut Output<'_, W>, number: u16) -> Result<(
         0x10..=0xff => out.append(&[b'0', b'x', two, one]),
         0x100..=0xfff => out.append(&[b'0', b'x', three, two, one]),
         _ => out.append(&[b'0', b'x', four, three, two, one]),
+    }
+}
+
+// The same of the first of two numbers, and behind it four digits of the second, as one piece.
+#[inline(always)]
+fn push_next_digits<W: Write>(
+    out: &mut Output<'_, W>,
+    first: u16,
+    next: u16,
+) -> Result<(), WriteError>
+    requires { IsClear out.old }
+    ensures { Puts W.contents out.old out.new (hexadecimal first ++ four_digits next) result }
+{
+    let one = last_digit(next);
+    let two = last_digit(next / 0x10);
+    let three = last_digit(next / 0x100);
+    let four = last_digit(next / 0x1000);
+    let five = last_digit(first);
+    let six = last_digit(first / 0x10);
+    let seven = last_digit(first / 0x100);
+    let eight = last_digit(first / 0x1000);
+    match first {
+        0..=0xf => out.append(&[b'0', b'x', five, four, three, two, one]),
+        0x10..=0xff => out.append(&[b'0', b'x', six, five, four, three, two, one]),
+        0x100..=0xfff => out.append(&[b'0', b'x', seven, six, five, four, three, two, one]),
+        _ => out.append(&[b'0', b'x', eight, seven, six, five, four, three, two, one]),
     }
 }
 
