@@ -1,27 +1,27 @@
 -- What of the heads of an entry's values becomes another, and that the values are then those with the number put.
-use Rattle.std.proofs.Common.{◌≡◌, ℕ, ℤ, ◌+◌, ◌≤◌, ◌<◌, ◌^◌, List, [], ◌∷◌, ◌++◌, length, take, drop, refl, sym, ◌∙◌, ap, ap₂, subst, arith, length-append, append_assoc, append-nil, take_all, Bool, true, false, Option, Some, None, option_map}
+use Rattle.std.proofs.Common.{◌≡◌, ℕ, ℤ, ◌+◌, ◌≤◌, ◌<◌, ◌^◌, List, [], ◌∷◌, ◌++◌, length, take, drop, refl, sym, ◌∙◌, ap, ap₂, subst, arith, length-append, append_assoc, take_all, Bool, true, false, Option, Some, None, option_map}
 use Rattle.std.specs.Prelude.{◌==◌, if◌then◌else◌, IsSome}
-use Rattle.std.proofs.lemmas.Bool.{ne_eqb, eqb-true}
+use Rattle.std.proofs.lemmas.Bool.{ne_eqb}
 use Rattle.std.proofs.lemmas.List.{drop_at, drop-drop}
 use Rattle.std.proofs.Math.Seq.{drop-append-add, take-append-add}
 use Rattle.dw_leb.specs.Number.{Signed}
 use Rattle.dw_form.specs.declared.shape.Ctx.{Ctx}
 use Rattle.dw_form.specs.Form.{Value, Num, Wide, Uleb, Sleb, Block, Text, Present, Implicit, Attribute, attribute}
 use Rattle.dw_form.specs.StoredView.{bytes_in}
-use Rattle.dw_form.specs.Pieces.{form_in, HasSpelling, spelling, has_spelling}
+use Rattle.dw_form.specs.Pieces.{form_in, spelling, has_spelling}
 use Rattle.dw_form.specs.Head.{head, head_at, Lies, via_width}
 use Rattle.dw_form.specs.HeadLent.{head_there}
-use Rattle.dw_form.specs.HeadFront.{own_size, front_size, front_bytes}
+use Rattle.dw_form.specs.HeadFront.{own_size, front_bytes}
 use Rattle.dw_form.specs.HeadSize.{is_plain}
-use Rattle.dw_form.specs.Renumber.{renumbered, with_value, renumbered_in}
-use Rattle.dw_form.specs.Renumbered.{Kept, number_kept, old_content, new_content, new_head as plain_head, head_kept}
+use Rattle.dw_form.specs.Renumber.{renumbered, with_value}
+use Rattle.dw_form.specs.Renumbered.{number_kept, old_content, new_content, new_head as plain_head, head_kept}
 use Rattle.dw_abbrev.specs.Table.{Pair}
 use Rattle.dw_tree.specs.Tree.{values}
 use Rattle.dw_tree.specs.PoolBytes.{joined}
 use Rattle.dw_tree.specs.RowHeads.{heads, lies_first, lies_next, behind_found, behind_first}
 use Rattle.dw_tree.specs.Lent.{LentAttribute, lent_attribute, lent_attributes, first_named}
 use Rattle.dw_tree.specs.Put.{or_own, put_value, put_first}
-use Rattle.dw_tree.specs.Patch.{Patch, patch_by, patch_in, from_front, moved, new_head}
+use Rattle.dw_tree.specs.Patch.{Patch, patch_by, patch_in, from_front, moved}
 
 -- ---- a value without content is all front
 

@@ -1,11 +1,10 @@
 -- A number put in the fields of a tree.
-use Rattle.std.proofs.Common.{◌≡◌, ◌≢◌, ℕ, ◌+◌, ◌-◌, ◌<◌, List, [], ◌++◌, length, get_or, drop, map, refl, sym, ◌∙◌, ap, subst, arith, Option, Some, None}
+use Rattle.std.proofs.Common.{◌≡◌, ◌≢◌, ℕ, ◌+◌, ◌<◌, List, length, get_or, drop, map, refl, sym, ◌∙◌, ap, subst, Option, Some, None}
 use Rattle.std.specs.List.{AllByRecursion}
 use Rattle.std.specs.Prelude.{IsSome}
 use Rattle.dw_form.specs.declared.shape.Ctx.{Ctx}
 use Rattle.dw_form.specs.Form.{Attribute}
 use Rattle.dw_form.specs.Renumber.{renumbered}
-use Rattle.dw_leb.specs.Number.{Unsigned}
 use Rattle.dw_abbrev.specs.declared.pair.Pair.{Pair as RustPair}
 use Rattle.dw_abbrev.specs.PairView.{pair_of}
 use Rattle.dw_abbrev.specs.Table.{Pair, Declaration, declared}
@@ -13,15 +12,14 @@ use Rattle.dw_tree.specs.declared.tree.EntryTree.TheInside.{Inside}
 use Rattle.dw_tree.specs.declared.row.Row.{Row}
 use Rattle.dw_tree.specs.declared.row.RowKind.{RowKind}
 use Rattle.dw_tree.specs.declared.row.RowKind.TheVariants.{Leaf, Branch, Null}
-use Rattle.dw_tree.specs.Tree.{Tree}
 use Rattle.dw_tree.specs.Row.{Token, rows_of}
 use Rattle.dw_tree.specs.Steps.{TreeAt}
 use Rattle.dw_tree.specs.TreeView.{tree_at, tokens_in, IsTree}
-use Rattle.dw_tree.specs.RowHeads.{Here, rows_heads, values_at, values_here}
-use Rattle.dw_tree.specs.Flat.{IsEntry, IsNull, pairs_at, code_in, tokens_at}
+use Rattle.dw_tree.specs.RowHeads.{Here, rows_heads, values_here}
+use Rattle.dw_tree.specs.Flat.{IsEntry, IsNull, code_in, tokens_at}
 use Rattle.dw_tree.specs.DraftInvariant.{TokenFits}
-use Rattle.dw_tree.specs.Lent.{EntryAt, LentAttribute, find_at, first_named, entries_of, entries_in, entry_at_row, lent_attributes, attributes_of, code_of, offset_of_row}
-use Rattle.dw_tree.specs.Put.{Edit, Takes, put, put_tree}
+use Rattle.dw_tree.specs.Lent.{EntryAt, find_at, first_named, entries_of, entries_in, entry_at_row, lent_attributes, attributes_of, code_of}
+use Rattle.dw_tree.specs.Put.{Edit, Takes, put}
 use Rattle.dw_tree.specs.Patch.{Patch, patch_in}
 use Rattle.dw_tree.proofs.EntryRows.{Stands, EntryRow, entry_row, node_at, not_missing, are_lent, lent_are, pairs_here}
 use Rattle.dw_tree.proofs.FindRows.{no_row, null_row_there, entry_there, stands}

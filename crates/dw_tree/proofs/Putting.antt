@@ -1,5 +1,5 @@
 -- A tree with a number put, by its rows and their heads.
-use Rattle.std.proofs.Common.{◌≡◌, ◌≢◌, ℕ, zero, suc, ◌+◌, ◌<◌, ◌≤◌, ◌^◌, List, [], ◌∷◌, ◌++◌, length, get_or, take, drop, map, refl, sym, ◌∙◌, ap, ap₂, subst, arith, length-append, append_assoc, append-nil, take-append-drop, inl, inr, Bool, true, false, Option, Some, None}
+use Rattle.std.proofs.Common.{◌≡◌, ◌≢◌, ℕ, zero, suc, ◌+◌, ◌<◌, ◌≤◌, ◌^◌, List, [], ◌∷◌, ◌++◌, length, get_or, take, drop, map, refl, sym, ◌∙◌, ap, ap₂, subst, arith, length-append, append-nil, take-append-drop, inl, inr, Bool, true, false, Some}
 use Rattle.std.specs.Prelude.{◌==◌, if◌then◌else◌}
 use Rattle.std.specs.List.{AllByRecursion}
 use Rattle.std.proofs.lemmas.Bool.{ne_eqb, eq-eqb}
@@ -8,7 +8,7 @@ use Rattle.dw_leb.specs.Number.{Unsigned, uleb}
 use Rattle.dw_form.specs.declared.shape.Ctx.{Ctx}
 use Rattle.dw_form.specs.Form.{Attribute}
 use Rattle.dw_form.specs.Head.{Lies}
-use Rattle.dw_abbrev.specs.Table.{Pair, Table, declared, zero_of}
+use Rattle.dw_abbrev.specs.Table.{Table, declared}
 use Rattle.dw_tree.specs.declared.row.Row.{Row}
 use Rattle.dw_tree.specs.Tree.{Tree, leaf, branch, Forest, none, more, values, declared_pairs}
 use Rattle.dw_tree.specs.Spelling.{entry_bytes, tree_bytes}
@@ -16,8 +16,8 @@ use Rattle.dw_tree.specs.Row.{Token, leaf_row, branch_row, null_row, rows_of, al
 use Rattle.dw_tree.specs.RowBytes.{bytes_append, rows_are_tree}
 use Rattle.dw_tree.specs.PoolBytes.{joined, held, row_values}
 use Rattle.dw_tree.specs.RowHeads.{heads, row_heads, rows_heads, rows_heads-from, held-append, Account}
-use Rattle.dw_tree.specs.Flat.{pairs_at, code_in, tokens_at, RowIs, RowsAre, IsEntry, RowReads}
-use Rattle.dw_tree.specs.DraftInvariant.{EntryFits, TokenFits, LevelFits, level_after, Stand, EndsAt, HaveEnds, IsIn}
+use Rattle.dw_tree.specs.Flat.{pairs_at, tokens_at, RowIs, RowsAre, IsEntry, RowReads}
+use Rattle.dw_tree.specs.DraftInvariant.{EntryFits, TokenFits, LevelFits, level_after, Stand, EndsAt, HaveEnds}
 use Rattle.dw_tree.specs.Lent.{EntryAt, entries_in}
 use Rattle.dw_tree.specs.Put.{Edit, put_first, put_here, put_tree, put_forest}
 use Rattle.dw_tree.specs.Patch.{Patch, patch_in, moved}

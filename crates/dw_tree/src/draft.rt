@@ -443,6 +443,7 @@ fn append_few(list: &mut Vec<u8>, bytes: &[u8]) -> Result<(), AllocError>
     ensures err { OnErr result (list.new.items ≡ list.old.items) }
 {
     match bytes.len() {
+        0 => Ok(()),
         1 => list.extend_from_slice(&bytes[..1]),
         2 => list.extend_from_slice(&bytes[..2]),
         4 => list.extend_from_slice(&bytes[..4]),

@@ -6,6 +6,7 @@ mod children;
 mod draft;
 mod entry;
 mod find;
+mod gather;
 mod preorder;
 mod put;
 mod row;

@@ -12,6 +12,7 @@ ghost use Rattle.dw_tree.specs.Runs.{form_size};
 ghost use Rattle.dw_tree.specs.Flat.{token_at, RowReads};
 ghost use Rattle.dw_tree.specs.DraftInvariant.{TokenFits};
 
+use crate::gather::{Gathered, gather};
 use crate::row::{Row, RowKind};
 use crate::tree::EntryTree;
 use dw_abbrev::{Pair, Table};
@@ -30,19 +31,31 @@ impl EntryTree {
         ensures fits { (part self.now.context self.now.table (nesting - 1)).Fits self.now.root }
         ensures fault { fault_of writer.new ≡ writer_fault result }
     {
+        let mut gathered = Gathered::new();
         let mut left = self.rows.as_slice();
         while let Some((row, others)) = left.split_first() {
-            write_row(
+            if !gather(
                 self.context,
                 &self.table,
                 &self.heads,
                 &self.pool,
                 *row,
-                writer,
-            )?;
+                &mut gathered,
+            ) {
+                write_all(writer, gathered.as_slice())?;
+                gathered.clear();
+                write_row(
+                    self.context,
+                    &self.table,
+                    &self.heads,
+                    &self.pool,
+                    *row,
+                    writer,
+                )?;
+            }
             left = others;
         }
-        Ok(())
+        write_all(writer, gathered.as_slice())
     }
 }
 
@@ -87,7 +100,7 @@ pub fn write_null<W: Write>(width: u8, writer: &mut Watched<W>) -> Result<(), Wr
 
 /// Where the value at `size` ends, if its form tells its size.
 #[inline(always)]
-fn told_end(ctx: Ctx, form: u64, run: &[u8], size: usize) -> Option<usize>
+pub(crate) fn told_end(ctx: Ctx, form: u64, run: &[u8], size: usize) -> Option<usize>
     requires context { IsContext ctx }
     requires within { size ≤ length run.now }
     ensures sized { IfSome result (λ end. form_size ctx form ≡ Some (end - size)) }
@@ -109,7 +122,7 @@ fn told_end(ctx: Ctx, form: u64, run: &[u8], size: usize) -> Option<usize>
 
 /// The first `n` bytes.
 #[inline(always)]
-fn front(b: &[u8], n: usize) -> &[u8]
+pub(crate) fn front(b: &[u8], n: usize) -> &[u8]
     requires { n ≤ length b.now }
     ensures { result.now ≡ take n b.now }
 {

@@ -1,10 +1,9 @@
 use mir.Syntax.{w128}
 use Rattle.std.proofs.Common.{◌≡◌, ℤ, to_z, of_z, List, ℕ, Option, Some, option_map, sym, ap, ◌∙◌}
-use Rattle.dw_form.specs.Form.{Attribute}
 use Rattle.dw_form.specs.Lent.{attribute_of, value_of}
 use Rattle.dw_form.specs.Pieces.{constant_in, form_in, spelling, has_spelling}
 use Rattle.dw_form.specs.Renumber.{renumbered, with_value}
-use Rattle.dw_form.specs.Renumbered.{Kept, number_kept}
+use Rattle.dw_form.specs.Renumbered.{number_kept}
 use Rattle.dw_form.specs.Form.{Value}
 use Rattle.std.proofs.lemmas.Int.{to_z-of_z}
 use Rattle.dw_tree.specs.Patch.{new_head}

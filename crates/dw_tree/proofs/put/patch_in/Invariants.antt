@@ -1,4 +1,4 @@
-use Rattle.std.proofs.Common.{◌≡◌, ◌≤◌, length, map, drop, Option}
+use Rattle.std.proofs.Common.{◌≡◌, ◌≤◌, length, map, drop}
 use Rattle.std.specs.Prelude.{option_map}
 use Rattle.dw_abbrev.specs.PairView.{pair_of}
 use Rattle.dw_tree.specs.RowHeads.{Here}

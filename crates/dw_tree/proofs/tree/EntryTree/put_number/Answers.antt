@@ -1,23 +1,21 @@
 use mir.Syntax.{w128}
-use Rattle.std.proofs.Common.{◌≡◌, ◌≢◌, ◌+◌, ◌-◌, ◌<◌, ℕ, ℤ, List, [], length, get_or, map, drop, sym, refl, ap, subst, ◌∙◌, arith, to_z, of_z, Option, Some, None, option_map}
+use Rattle.std.proofs.Common.{◌≡◌, ◌≢◌, ◌+◌, ◌<◌, ℕ, ℤ, List, length, get_or, map, drop, sym, refl, ap, subst, ◌∙◌, arith, to_z, of_z, Some}
 use Rattle.std.specs.List.{AllByRecursion}
 use Rattle.std.proofs.lemmas.Int.{to_z-of_z}
 use Rattle.dw_abbrev.specs.Table.{Table, declared}
 use Rattle.dw_abbrev.specs.PairView.{pair_of}
 use Rattle.dw_tree.specs.declared.tree.EntryTree.TheInside.{Inside}
 use Rattle.dw_tree.specs.declared.row.Row.{Row}
-use Rattle.dw_tree.specs.Tree.{Tree, tree, nesting}
-use Rattle.dw_tree.specs.Row.{Token, rows_of}
-use Rattle.dw_tree.specs.RowHeads.{Here}
+use Rattle.dw_tree.specs.Tree.{Tree}
+use Rattle.dw_tree.specs.Row.{rows_of}
 use Rattle.dw_tree.specs.Steps.{TreeAt}
-use Rattle.dw_tree.specs.TreeView.{tree_at, tokens_in, IsTree}
+use Rattle.dw_tree.specs.TreeView.{tree_at, IsTree}
 use Rattle.dw_tree.specs.DraftInvariant.{TokenFits}
 use Rattle.dw_tree.specs.Lent.{EntryAt, entries_of}
-use Rattle.dw_tree.specs.Put.{Edit, put, put_tree}
+use Rattle.dw_tree.specs.Put.{Edit, put}
 use Rattle.dw_tree.specs.Patch.{Patch, patch_in}
 use Rattle.dw_tree.proofs.FindRows.{offsets_grow}
-use Rattle.dw_tree.proofs.Patches.{Patched, pasted}
-use Rattle.dw_tree.proofs.Putting.{put_rows, Edited}
+use Rattle.dw_tree.proofs.Patches.{pasted}
 use Rattle.dw_tree.proofs.PutNumber.{some_row, row, is_known, here_is, some_patch, all_patched, all_edited, offsets_kept}
 use Rattle.dw_tree.proofs.Written.{spelled_as, fits_as, tokens_fit}
 use Rattle.dw_tree.proofs.tree.EntryTree.put_number.Goals as goal
