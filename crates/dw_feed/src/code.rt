@@ -35,6 +35,7 @@ pub(crate) fn code_at(draft: &Draft, b: &[u8], lim: u64) -> Result<Uleb, Reason>
 
 /// Why a code isn't the next field of the draft.
 #[tactic(auto, unfolding(dw_tree::specs::Tree::nesting))]
+#[inline(always)]
 fn refusal(draft: &Draft, code: Uleb) -> Option<Reason>
     ensures { result ≡ code_meaning draft.now.table draft.now.place.spot.above draft.now.place.spot.left (uleb_of code) }
 {
@@ -60,6 +61,7 @@ fn refusal(draft: &Draft, code: Uleb) -> Option<Reason>
 }
 
 /// Why the table has no declaration of this code.
+#[inline(always)]
 fn undeclared(draft: &Draft, code: u64) -> Option<Reason>
     ensures { result ≡ unknown draft.now.table code }
 {

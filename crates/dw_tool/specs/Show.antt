@@ -97,9 +97,13 @@ text_of strings items item a = text_if strings a (unit_at items item)
 abbrev pub stored_text : StringSections → List Item → ℕ → LentAttribute → List ℕ
 stored_text strings items item a = if a.form == 0x08 then [] else named_quoted (text_of strings items item a)
 
--- the value in its place, and behind it what it names: an entry or a text
+-- what stands behind a value: what it names, an entry or a text
+abbrev pub named_behind : StringSections → List Item → ℕ → LentAttribute → List ℕ
+named_behind strings items item a = target_text items (target_of items item a) ++ stored_text strings items item a
+
+-- the value in its place, and behind it what it names
 abbrev pub placed_value : StringSections → List Item → ℕ → LentAttribute → List ℕ
-placed_value strings items item a = value_text a.attr.value ++ (target_text items (target_of items item a) ++ stored_text strings items item a)
+placed_value strings items item a = value_text a.attr.value ++ named_behind strings items item a
 
 abbrev pub attribute_line : StringSections → List Item → ℕ → LentAttribute → List ℕ
 attribute_line strings items item a = codes "  " ++ (attribute_text a.name ++ (codes " " ++ (placed_value strings items item a ++ codes "\n")))

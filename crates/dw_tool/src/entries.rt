@@ -1,9 +1,9 @@
 //! The texts of entries and of their attributes, in a section. Each call answers the writer's fault where it
 //! fails, as `Output::append` does.
-ghost use Rattle.std.specs.Prelude.{◌≡◌, ◌+◌, ◌++◌, is_some, IsSome, IfOk, codes};
+ghost use Rattle.std.specs.Prelude.{◌≡◌, ◌+◌, ◌++◌, is_some, IsSome, IfOk, IsFalse, false, codes};
 ghost use Rattle.dw_form.specs.Form.{at_number};
 ghost use Rattle.dw_form.specs.Lent.{value_of};
-ghost use Rattle.dw_tree.specs.Lent.{attr_of};
+ghost use Rattle.dw_tree.specs.Lent.{attr_of, number_of};
 ghost use Rattle.dw_section.specs.Lookup.{start_of, unit_at};
 ghost use Rattle.dw_section.specs.Reference.{ref_forms};
 ghost use Rattle.dw_strings.specs.Text.{stored_forms};
@@ -11,7 +11,7 @@ ghost use Rattle.dw_strings.specs.TextView.{sections_of};
 ghost use Rattle.dw_tool.specs.Output.{Puts, IsClear};
 ghost use Rattle.dw_tool.specs.Place.{BeginIn, IsPlace};
 ghost use Rattle.dw_tool.specs.Pieces.{entry_head, next_attribute, next_attributes};
-ghost use Rattle.dw_tool.specs.Show.{entries_text, entry_text, no_text, placed_value, stored_text, target_of, target_text, unresolved, value_text};
+ghost use Rattle.dw_tool.specs.Show.{entries_text, entry_text, named_behind, no_text, placed_value, stored_text, target_of, target_text, unresolved, value_text};
 ghost use Rattle.dw_tool.specs.Text.{labelled, quoted};
 
 use crate::output::Output;
@@ -23,7 +23,7 @@ use dw_leb::WriteError;
 use dw_leb::constants::form::*;
 use dw_section::{Begins, EntryId, RefFault, Section};
 use dw_strings::{StrFault, Strings};
-use dw_unit::{AttrRef, Attrs, Entries, EntryRef};
+use dw_unit::{AttrRef, Attrs, Entries, EntryRef, NumberRef};
 use std::io::Write;
 
 /// A unit in its section, beside the sections of texts.
@@ -129,10 +129,59 @@ fn push_attributes<W: Write>(
     ensures { Puts W.contents out.old out.new (next_attributes (sections_of strings.now) section.now.items from.item attributes.entry) result }
 {
     let mut left = attributes;
-    while let Some(attribute) = left.next() {
-        push_next_attribute(out, section, strings, begins, from, &attribute)?;
+    loop {
+        if let Some(number) = left.next_number() {
+            push_next_number(out, section, strings, begins, from, &number)?;
+            continue;
+        }
+        match left.next() {
+            Some(attribute) => {
+                push_next_attribute(out, section, strings, begins, from, &attribute)?;
+            }
+            None => return Ok(()),
+        }
     }
-    Ok(())
+}
+
+/// Appends a newline, and the line of an attribute whose value is a number, without its own.
+#[inline(always)]
+fn push_next_number<W: Write>(
+    out: &mut Output<'_, W>,
+    section: &Section,
+    strings: &Strings<'_>,
+    begins: &Begins,
+    from: EntryId,
+    number: &NumberRef,
+) -> Result<(), WriteError>
+    requires clear { IsClear out.old }
+    requires unit { IsSome (unit_at section.now.items from.item) }
+    requires begins { BeginIn section.now.items from.item begins.now }
+    ensures { Puts W.contents out.old out.new (next_attribute (sections_of strings.now) section.now.items from.item (number_of number.now)) result }
+{
+    push_attribute(out, number.name)?;
+    push_hexadecimal(out, number.number as u128)?;
+    push_named_by_number(out, section, strings, begins, from, number)
+}
+
+/// Appends what the number names. Most numbers name nothing.
+#[inline(always)]
+fn push_named_by_number<W: Write>(
+    out: &mut Output<'_, W>,
+    section: &Section,
+    strings: &Strings<'_>,
+    begins: &Begins,
+    from: EntryId,
+    number: &NumberRef,
+) -> Result<(), WriteError>
+    requires clear { IsClear out.old }
+    requires unit { IsSome (unit_at section.now.items from.item) }
+    requires begins { BeginIn section.now.items from.item begins.now }
+    ensures { Puts W.contents out.old out.new (named_behind (sections_of strings.now) section.now.items from.item (number_of number.now)) result }
+{
+    if !can_name(number.form) {
+        return Ok(());
+    }
+    push_named(out, section, strings, begins, from, &number.attribute())
 }
 
 /// Appends a newline, and the line of an attribute of an entry without its own: its name, and its value in its place.
@@ -168,8 +217,34 @@ fn push_placed_value<W: Write>(
     ensures { Puts W.contents out.old out.new (placed_value (sections_of strings.now) section.now.items from.item (attr_of attribute.now)) result }
 {
     push_value(out, &attribute.attr.value)?;
+    push_named(out, section, strings, begins, from, attribute)
+}
+
+/// Appends what the value of an attribute of an entry names: an entry or a text.
+fn push_named<W: Write>(
+    out: &mut Output<'_, W>,
+    section: &Section,
+    strings: &Strings<'_>,
+    begins: &Begins,
+    from: EntryId,
+    attribute: &AttrRef<'_>,
+) -> Result<(), WriteError>
+    requires clear { IsClear out.old }
+    requires unit { IsSome (unit_at section.now.items from.item) }
+    requires begins { BeginIn section.now.items from.item begins.now }
+    ensures { Puts W.contents out.old out.new (named_behind (sections_of strings.now) section.now.items from.item (attr_of attribute.now)) result }
+{
     push_reference(out, section, begins, from, attribute)?;
     push_stored_text(out, section, strings, from, attribute)
+}
+
+/// Whether a value under this form can name an entry or a text.
+#[inline(always)]
+fn can_name(form: u64) -> bool
+    ensures no_entry { IsFalse result → is_some (at_number form ref_forms) ≡ false }
+    ensures no_text { IsFalse result → is_some (at_number form stored_forms) ≡ false }
+{
+    is_reference(form) || is_stored_text(form)
 }
 
 /// Appends the value as text. A number is written in hexadecimal digits, or in decimal ones where

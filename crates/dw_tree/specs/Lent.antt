@@ -4,11 +4,12 @@ use Rattle.std.proofs.Common.{refl}
 use Rattle.std.specs.Coded.{Coded, code_by, coded×, coded_ℕ}
 use Rattle.dw_leb.specs.Number.{Unsigned}
 use Rattle.dw_form.specs.declared.shape.Ctx.{Ctx}
-use Rattle.dw_form.specs.Form.{Attribute, IsContext}
+use Rattle.dw_form.specs.Form.{Attribute, IsContext, Num}
 use Rattle.dw_form.specs.Lent.{attribute_of}
 use Rattle.dw_form.specs.Pieces.{form_in, spelling}
 use Rattle.dw_abbrev.specs.Table.{Pair, Declaration, Table, declared}
 use Rattle.dw_tree.specs.declared.attrs.AttrRef.{AttrRef}
+use Rattle.dw_tree.specs.declared.attrs.NumberRef.{NumberRef}
 use Rattle.dw_tree.specs.Tree.{Tree, leaf, branch, Forest, none, more, declared_pairs}
 use Rattle.dw_tree.specs.Spelling.{entry_bytes, tree_bytes}
 use Rattle.dw_tree.specs.Row.{Token, leaf_row, branch_row, null_row, row_bytes, rows_bytes, rows_of, rest_of, head_of}
@@ -29,6 +30,10 @@ pub record LentAttribute : Type 0 where
 
 abbrev pub attr_of : AttrRef → LentAttribute
 attr_of a = record { name = a.name; form = a.form; offset = a.offset; attr = attribute_of a.attr }
+
+-- one whose value is a number
+abbrev pub number_of : NumberRef → LentAttribute
+number_of n = record { name = n.name; form = n.form; offset = n.offset; attr = record { via = None; value = Num n.number } }
 
 abbrev pub lent_attribute : ℕ → Pair → Attribute → LentAttribute
 lent_attribute at p v = record { name = p.name.value; form = form_in p.form.value v.via; offset = at; attr = v }

@@ -1,5 +1,5 @@
 //! The attributes of an entry, as they are lent (sections 2.2, 7.5.2 and 7.5.3).
-ghost use Rattle.std.specs.Prelude.{◌≡◌, ◌<◌, ◌^◌, ℕ, length, map, option_map};
+ghost use Rattle.std.specs.Prelude.{◌≡◌, ◌∷◌, ◌<◌, ◌^◌, ℕ, None, length, map, option_map, IfSome};
 ghost use Rattle.std.specs.Iterator.{YieldsFirstBy, item_count};
 ghost use Rattle.dw_leb.specs.View.{uleb_of};
 ghost use Rattle.dw_form.specs.Lent.{attribute_of};
@@ -8,7 +8,7 @@ ghost use Rattle.dw_form.specs.Pieces.{form_in, HasSpelling, spelling};
 ghost use Rattle.dw_abbrev.specs.PairView.{pair_of};
 ghost use Rattle.dw_tree.specs.RowHeads.{values_at};
 ghost use Rattle.dw_tree.specs.Lent.{lent_attribute, lent_attributes};
-ghost use Rattle.dw_tree.specs.Lent.{AreLent, attr_of};
+ghost use Rattle.dw_tree.specs.Lent.{AreLent, attr_of, number_of};
 
 use crate::write::behind;
 use dw_abbrev::Pair;
@@ -29,6 +29,38 @@ pub struct AttrRef<'a> {
     pub offset: u64,
     /// The value.
     pub attr: AttrValue<'a>,
+}
+
+/// An attribute of an entry whose value is a number of a fixed size of at most 8 bytes (section 7.5.5). Its fields are those
+/// of an `AttrRef`, whose value is the number; it borrows nothing.
+#[derive(Clone, Copy, Debug)]
+pub struct NumberRef {
+    /// The name, `DW_AT_..`.
+    pub name: u64,
+    /// The form that the declaration gives, `DW_FORM_..`.
+    pub form: u64,
+    /// Where the value begins, counted from the unit's first byte.
+    pub offset: u64,
+    /// The value.
+    pub number: u64,
+}
+
+impl NumberRef {
+    /// The same attribute, as one of any value.
+    #[inline(always)]
+    pub fn attribute(&self) -> AttrRef<'static>
+        ensures { attr_of result ≡ number_of self.now }
+    {
+        AttrRef {
+            name: self.name,
+            form: self.form,
+            offset: self.offset,
+            attr: AttrValue {
+                via: None,
+                value: Value::Num(self.number),
+            },
+        }
+    }
 }
 
 /// The attributes of an entry that are left, in the order in which its declaration names them, which
@@ -79,6 +111,32 @@ impl<'a> Attrs<'a> {
             at,
         }
     }
+
+    /// The next attribute, where its value is a number of a fixed size of at most 8 bytes: as `next` gives it, and in less
+    /// memory. Where it is None nothing was taken, and `next` is to be asked.
+    #[inline(always)]
+    pub fn next_number(&mut self) -> Option<NumberRef>
+        ensures some { IfSome result (λ n. self.old ≡ number_of n ∷ self.new) }
+        ensures none { result ≡ None → self.new ≡ self.old }
+    {
+        let (pair, pairs) = self.pairs.split_first()?;
+        let (number, width) = lend_number(self.ctx, pair.form.value, self.heads)?;
+        let attr = AttrValue {
+            via: None,
+            value: Value::Num(number),
+        };
+        let size = spelled_size(self.ctx, pair.form.value, &attr, width);
+        let first = NumberRef {
+            name: pair.name.value,
+            form: pair.form.value,
+            offset: self.at,
+            number,
+        };
+        self.pairs = pairs;
+        self.heads = behind(self.heads, width);
+        self.at += size;
+        Some(first)
+    }
 }
 
 impl<'a> Iterator for Attrs<'a> {
@@ -91,20 +149,11 @@ impl<'a> Iterator for Attrs<'a> {
     // A caller that is at hand takes the attribute apart, which is too large to be moved around.
     #[inline(always)]
     fn next(&mut self) -> Option<AttrRef<'a>> {
-        let (pair, pairs) = self.pairs.split_first()?;
         // Nearly every value is a number, which goes into the attribute at once.
-        if let Some((number, width)) = lend_number(self.ctx, pair.form.value, self.heads) {
-            let attr = AttrValue {
-                via: None,
-                value: Value::Num(number),
-            };
-            let size = spelled_size(self.ctx, pair.form.value, &attr, width);
-            let first = attr_at(pair, &attr, self.at);
-            self.pairs = pairs;
-            self.heads = behind(self.heads, width);
-            self.at += size;
-            return Some(first);
+        if let Some(number) = self.next_number() {
+            return Some(number.attribute());
         }
+        let (pair, pairs) = self.pairs.split_first()?;
         match lend_head(
             self.ctx,
             pair.form.value,

@@ -85,6 +85,7 @@ impl TreeDraft {
     }
 
     /// An entry of this code begins. Where its declaration asks for no values it is complete.
+    #[inline(always)]
     pub fn begin(&mut self, code: Uleb) -> Result<(), AllocError>
         requires some { 0 < code.value }
         requires known { IsSome (declared self.old.table code.value) }
@@ -217,6 +218,7 @@ impl TreeDraft {
     }
 
     /// The innermost open entry is closed by a null of this width.
+    #[inline(always)]
     pub fn close(&mut self, null: Uleb) -> Result<(), AllocError>
         requires zero { null.value ≡ 0 }
         requires inside { self.old.place.spot.above ≢ [] }

@@ -71,6 +71,7 @@ impl<'a> EntryRef<'a> {
     }
 
     /// The tag, `DW_TAG_..`, that the entry's declaration gives it (sections 2.1 and 7.5.3).
+    #[inline(always)]
     pub fn tag(&self) -> u64
         ensures { result ≡ tag_of (declared self.now.table (code_of self.now.node).value) }
     {
@@ -83,6 +84,7 @@ impl<'a> EntryRef<'a> {
 
     /// Its attributes, in the order in which its declaration names them, which is that of their
     /// values (section 7.5.2). No memory is taken.
+    #[inline(always)]
     pub fn attrs(&self) -> Attrs<'a>
         ensures { result ≡ attributes_of self.now }
     {

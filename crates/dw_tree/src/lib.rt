@@ -13,7 +13,7 @@ mod row;
 mod tree;
 mod write;
 
-pub use attrs::{AttrRef, Attrs};
+pub use attrs::{AttrRef, Attrs, NumberRef};
 pub use children::Children;
 pub use draft::TreeDraft;
 pub use entry::EntryRef;

@@ -85,6 +85,7 @@ impl Draft {
     /// An entry of this code begins, the root or one below the innermost open entry (sections 7.5.2
     /// and 7.5.3). Where its declaration asks for no values it is complete. `AllocError` where a
     /// growth by one entry is refused.
+    #[inline(always)]
     pub fn begin(&mut self, code: Uleb) -> Result<(), AllocError>
         requires some { 0 < code.value }
         requires known { IsSome (declared self.old.table code.value) }
@@ -230,6 +231,7 @@ impl Draft {
 
     /// The innermost open entry is closed: a null of `width` bytes, 1 to 16, ends its children
     /// (section 2.3). `AllocError` where a growth by the null is refused.
+    #[inline(always)]
     pub fn close(&mut self, width: u8) -> Result<(), AllocError>
         requires width { is_width width ≡ true }
         requires inside { self.old.place.spot.above ≢ [] }

@@ -18,7 +18,7 @@ mod writer;
 pub use builder::UnitBuilder;
 pub use draft::{Draft, most_levels};
 pub use dw_header::{Header, Kind, Versions, read_header, read_header_as};
-pub use dw_tree::{AttrRef, Attrs, Children, Entries, EntryRef};
+pub use dw_tree::{AttrRef, Attrs, Children, Entries, EntryRef, NumberRef};
 pub use reader::{read_unit, read_unit_as};
 pub use refusal::Refusal;
 pub use unit::Unit;

@@ -5,7 +5,7 @@ use crate::common::{
 };
 use dw_leb::devices::Stepped;
 use dw_leb::{Fault, Format, Order, Reason, SectionId, Watched, WriteError};
-use dw_unit::{AttrRef, Header, Kind, Unit, read_header, write_unit};
+use dw_unit::{AttrRef, Header, Kind, NumberRef, Unit, read_header, write_unit};
 use std::alloc::{AllocError, Global};
 use std::io::ErrorKind;
 use std::process::Abort;
@@ -234,6 +234,28 @@ fn two_attributes_in_their_order(rt: HostRuntime) -> Result<(), Fail> {
     assert!(rt; size == 18);
     has_two_attributes(&rt, &unit)?;
     Ok(writes(&rt, rt.alloc(), &unit, &BASE_AND_NAME)?)
+}
+
+/// What a number is as an attribute: its name, its form, where it begins, and itself.
+fn parts(number: &NumberRef) -> (u64, u64, u64, u64) {
+    (number.name, number.form, number.offset, number.number)
+}
+
+fn has_two_numbers(rt: &impl Abort, unit: &Unit) -> Result<(), Fail> {
+    let mut attrs = unit.root().attrs();
+    let base = attrs.next_number().ok_or("no number")?;
+    assert!(rt; parts(&base) == (0x72, 0x17, 13, 8));
+    assert!(rt; place(&base.attribute()) == (0x72, 0x17, 13));
+    let name = attrs.next_number().ok_or("one number")?;
+    assert!(rt; parts(&name) == (0x03, 0x25, 17, 1));
+    assert!(rt; attrs.next_number().is_none());
+    Ok(())
+}
+
+#[test]
+fn numbers_in_their_order(rt: HostRuntime) -> Result<(), Fail> {
+    let (unit, _) = little(rt.alloc(), &TWO_ATTRIBUTES, &BASE_AND_NAME)?;
+    has_two_numbers(&rt, &unit)
 }
 
 /// A size of an indirect form.

@@ -5,9 +5,9 @@ use Rattle.dw_tool.proofs.Appending.{Reaches}
 use Rattle.dw_tool.proofs.entries.push_attributes.Given as goal
 
 -- the lines of the attributes before these are there
-abbrev pub invariant-loop-attribute : goal.invariant-loop-attribute
-invariant-loop-attribute g l = let text = next_attributes (sections_of l.fn.strings) l.fn.section.items l.fn.from.item in
+abbrev pub invariant-loop-number : goal.invariant-loop-number
+invariant-loop-number g l = let text = next_attributes (sections_of l.fn.strings) l.fn.section.items l.fn.from.item in
     Reaches g.W.Write.contents l.fn.out l.out (text l.left) (text l.fn.attributes)
 
-abbrev pub decreases-loop-attribute : goal.decreases-loop-attribute
-decreases-loop-attribute g l = length l.left
+abbrev pub decreases-loop-number : goal.decreases-loop-number
+decreases-loop-number g l = length l.left

@@ -19,22 +19,8 @@ spelled_size-size-requires-clause-spelled c =
     let hs = it.heads.now in
     let pool = it.pool.now in
     let x = first_value k it.at hs pool (map pair_of it.pairs.now) p rest is c.self.invariant in
-    subst (λ (a : Attribute). HasSpelling k p.form.value a) (sym (c.in-Some.ensures.put p.constant x.value x.start pool x.rest x.fits x.lies c.self.invariant.here.small x.split).0)
+    subst (λ (a : Attribute). HasSpelling k p.form.value a) (sym (c.in-Some-lend_head.ensures.put x.value x.start x.rest x.fits x.lies x.split).0)
     (first_spelled k it.at hs pool (map pair_of it.pairs.now) p rest is c.self.invariant)
-
-pub spelled_size-size-requires-clause-head : goal.spelled_size-size-requires-clause-head
-spelled_size-size-requires-clause-head c =
-    let it = c.self.inside in
-    let k = it.ctx in
-    let p = pair_of c.in_ok-pair.pair.now in
-    let rest = map pair_of c.in_ok-pair.pairs.now in
-    let items : it.pairs.now ≡ c.in_ok-pair.pair.now ∷ c.in_ok-pair.pairs.now = search rules in
-    let is : map pair_of it.pairs.now ≡ p ∷ rest = ap (λ (xs : List RustPair). map pair_of xs) items in
-    let hs = it.heads.now in
-    let pool = it.pool.now in
-    let x = first_value k it.at hs pool (map pair_of it.pairs.now) p rest is c.self.invariant in
-    let lent = c.in-Some.ensures.put p.constant x.value x.start pool x.rest x.fits x.lies c.self.invariant.here.small x.split in
-    (x.start, lent.1 ∙ ap (λ (a : Attribute). length (head k p.form.value x.start a)) (sym lent.0))
 
 pub overflow_add-self : goal.overflow_add-self
 overflow_add-self c =
@@ -47,7 +33,7 @@ overflow_add-self c =
     let hs = it.heads.now in
     let pool = it.pool.now in
     let x = first_value k it.at hs pool (map pair_of it.pairs.now) p rest is c.self.invariant in
-    let lent = c.in-Some.ensures.put p.constant x.value x.start pool x.rest x.fits x.lies c.self.invariant.here.small x.split in
+    let lent = c.in-Some-lend_head.ensures.put x.value x.start x.rest x.fits x.lies x.split in
     let size : c.spelled_size-size.result ≡ length (spelling k p.form.value x.value) = c.spelled_size-size.ensures ∙ ap (λ (a : Attribute). length (spelling k p.form.value a)) lent.0 in
     let others = others_lent k it.at hs pool (map pair_of it.pairs.now) p rest is c.self.invariant in
     omega (arith, size, others.room)
@@ -63,71 +49,9 @@ invariant_of-self c =
     let hs = it.heads.now in
     let pool = it.pool.now in
     let x = first_value k it.at hs pool (map pair_of it.pairs.now) p rest is c.self.invariant in
-    let lent = c.in-Some.ensures.put p.constant x.value x.start pool x.rest x.fits x.lies c.self.invariant.here.small x.split in
+    let lent = c.in-Some-lend_head.ensures.put x.value x.start x.rest x.fits x.lies x.split in
     let size : c.spelled_size-size.result ≡ length (spelling k p.form.value x.value) = c.spelled_size-size.ensures ∙ ap (λ (a : Attribute). length (spelling k p.form.value a)) lent.0 in
     let others = others_lent k it.at hs pool (map pair_of it.pairs.now) p rest is c.self.invariant in
     let here : c.behind-self-inside.result.now ≡ drop (first_size k it.at hs pool (map pair_of it.pairs.now) p rest is c.self.invariant) hs = c.behind-self-inside.ensures ∙ ap (λ (n : ℕ). drop n hs) lent.1 in
     subst (λ (n : ℕ). AreLent k (it.at + n) rest c.behind-self-inside.result.now pool) (sym size)
-    (subst (λ (b : List ℕ). AreLent k (it.at + length (spelling k p.form.value x.value)) rest b pool) (sym here) others)
-
-pub spelled_size-size-requires-in-Some-lend_head-clause-spelled : goal.spelled_size-size-requires-in-Some-lend_head-clause-spelled
-spelled_size-size-requires-in-Some-lend_head-clause-spelled c =
-    let it = c.self.inside in
-    let k = it.ctx in
-    let p = pair_of c.in_ok-pair.pair.now in
-    let rest = map pair_of c.in_ok-pair.pairs.now in
-    let items : it.pairs.now ≡ c.in_ok-pair.pair.now ∷ c.in_ok-pair.pairs.now = search rules in
-    let is : map pair_of it.pairs.now ≡ p ∷ rest = ap (λ (xs : List RustPair). map pair_of xs) items in
-    let hs = it.heads.now in
-    let pool = it.pool.now in
-    let x = first_value k it.at hs pool (map pair_of it.pairs.now) p rest is c.self.invariant in
-    subst (λ (a : Attribute). HasSpelling k p.form.value a) (sym (c.in-Some-lend_head.ensures.put x.value x.start x.rest x.fits x.lies x.split).0)
-    (first_spelled k it.at hs pool (map pair_of it.pairs.now) p rest is c.self.invariant)
-
-pub spelled_size-size-requires-in-Some-lend_head-clause-head : goal.spelled_size-size-requires-in-Some-lend_head-clause-head
-spelled_size-size-requires-in-Some-lend_head-clause-head c =
-    let it = c.self.inside in
-    let k = it.ctx in
-    let p = pair_of c.in_ok-pair.pair.now in
-    let rest = map pair_of c.in_ok-pair.pairs.now in
-    let items : it.pairs.now ≡ c.in_ok-pair.pair.now ∷ c.in_ok-pair.pairs.now = search rules in
-    let is : map pair_of it.pairs.now ≡ p ∷ rest = ap (λ (xs : List RustPair). map pair_of xs) items in
-    let hs = it.heads.now in
-    let pool = it.pool.now in
-    let x = first_value k it.at hs pool (map pair_of it.pairs.now) p rest is c.self.invariant in
-    let lent = c.in-Some-lend_head.ensures.put x.value x.start x.rest x.fits x.lies x.split in
-    (x.start, lent.1 ∙ ap (λ (a : Attribute). length (head k p.form.value x.start a)) (sym lent.0))
-
-pub overflow_add-self-in-Some-lend_head : goal.overflow_add-self-in-Some-lend_head
-overflow_add-self-in-Some-lend_head c =
-    let it = c.self.inside in
-    let k = it.ctx in
-    let p = pair_of c.in_ok-pair.pair.now in
-    let rest = map pair_of c.in_ok-pair.pairs.now in
-    let items : it.pairs.now ≡ c.in_ok-pair.pair.now ∷ c.in_ok-pair.pairs.now = search rules in
-    let is : map pair_of it.pairs.now ≡ p ∷ rest = ap (λ (xs : List RustPair). map pair_of xs) items in
-    let hs = it.heads.now in
-    let pool = it.pool.now in
-    let x = first_value k it.at hs pool (map pair_of it.pairs.now) p rest is c.self.invariant in
-    let lent = c.in-Some-lend_head.ensures.put x.value x.start x.rest x.fits x.lies x.split in
-    let size : c.spelled_size-size-in-Some-lend_head.result ≡ length (spelling k p.form.value x.value) = c.spelled_size-size-in-Some-lend_head.ensures ∙ ap (λ (a : Attribute). length (spelling k p.form.value a)) lent.0 in
-    let others = others_lent k it.at hs pool (map pair_of it.pairs.now) p rest is c.self.invariant in
-    omega (arith, size, others.room)
-
-pub invariant_of-self-in-Some-lend_head : goal.invariant_of-self-in-Some-lend_head
-invariant_of-self-in-Some-lend_head c =
-    let it = c.self.inside in
-    let k = it.ctx in
-    let p = pair_of c.in_ok-pair.pair.now in
-    let rest = map pair_of c.in_ok-pair.pairs.now in
-    let items : it.pairs.now ≡ c.in_ok-pair.pair.now ∷ c.in_ok-pair.pairs.now = search rules in
-    let is : map pair_of it.pairs.now ≡ p ∷ rest = ap (λ (xs : List RustPair). map pair_of xs) items in
-    let hs = it.heads.now in
-    let pool = it.pool.now in
-    let x = first_value k it.at hs pool (map pair_of it.pairs.now) p rest is c.self.invariant in
-    let lent = c.in-Some-lend_head.ensures.put x.value x.start x.rest x.fits x.lies x.split in
-    let size : c.spelled_size-size-in-Some-lend_head.result ≡ length (spelling k p.form.value x.value) = c.spelled_size-size-in-Some-lend_head.ensures ∙ ap (λ (a : Attribute). length (spelling k p.form.value a)) lent.0 in
-    let others = others_lent k it.at hs pool (map pair_of it.pairs.now) p rest is c.self.invariant in
-    let here : c.behind-self-inside-in-Some-lend_head.result.now ≡ drop (first_size k it.at hs pool (map pair_of it.pairs.now) p rest is c.self.invariant) hs = c.behind-self-inside-in-Some-lend_head.ensures ∙ ap (λ (n : ℕ). drop n hs) lent.1 in
-    subst (λ (n : ℕ). AreLent k (it.at + n) rest c.behind-self-inside-in-Some-lend_head.result.now pool) (sym size)
     (subst (λ (b : List ℕ). AreLent k (it.at + length (spelling k p.form.value x.value)) rest b pool) (sym here) others)
