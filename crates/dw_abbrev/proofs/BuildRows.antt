@@ -1,8 +1,7 @@
 -- Refusals of the calls that build a table, computed from their definitions.
 use Rattle.std.proofs.Common.{◌≡◌, ◌∷◌, [], ℕ, zero, suc, false, List, Option, Some, None, refl}
 use Rattle.dw_leb.specs.Number.{Unsigned, Signed}
-use Rattle.std.specs.Prelude.{ℤ, negsuc}
-use Rattle.dw_abbrev.specs.declared.refusal.TableRefusal.{TableRefusal}
+use Rattle.std.specs.Prelude.{negsuc}
 use Rattle.dw_abbrev.specs.declared.refusal.TableRefusal.TheVariants.{DuplicateCode, TooManyPairs, BadWidth, NoMemory, ZeroCode, HalfPair, WrongConstant}
 use Rattle.dw_abbrev.specs.Table.{Pair, Declaration}
 use Rattle.dw_abbrev.specs.Build.{width_refusal, new_refusal, pair_refusal, add_refusal, or_memory}

@@ -9,7 +9,7 @@ use Rattle.dw_leb.specs.Reader.{◌and_then◌}
 use Rattle.dw_leb.specs.ReadNumber.{read_uleb}
 use Rattle.dw_abbrev.specs.Table.{Pair, half, too_many, refused_pair, is_end, pair_parts}
 use Rattle.dw_abbrev.specs.ReadTable.{read_names, read_constant, read_pairs}
-use Rattle.dw_abbrev.specs.Place.{Gives, IsErrorAt, fault_at, then_first, then_second, then_both, checked_fails, twice_refuses, twice_passes, ReadTo, nothing_yet, one_item, items_end, head_fails, body_fails}
+use Rattle.dw_abbrev.specs.Place.{Gives, IsErrorAt, fault_at, then_second, then_both, checked_fails, twice_refuses, twice_passes, ReadTo, nothing_yet, one_item, items_end, head_fails, body_fails}
 
 module _ (abbreviations : List ℕ) (at before : ℕ) where
   pub form_fails : (name : Unsigned) (next : ℕ) → Gives read_uleb abbreviations at name next → (e : ReadError) → IsErrorAt read_uleb abbreviations next e → IsErrorAt (read_names before) abbreviations at e

@@ -2,8 +2,8 @@
 use Rattle.dw_abbrev.specs.declared.pair.Pair.{Pair as RustPair}
 use Rattle.dw_abbrev.specs.PairView.{pair_of}
 use Rattle.std.proofs.Common.{◌≡◌, ◌+◌, ◌<◌, ℕ, suc, zero, Bool, true, false, List, [], ◌∷◌, ◌++◌, length, drop, get_or, Option, Some, None, refl, sym, ap, ◌∙◌, append_assoc, arith}
-use Rattle.std.specs.Prelude.{map, ◌==◌, if◌then◌else◌}
-use Rattle.dw_leb.specs.Part.{◌then◌, optional}
+use Rattle.std.specs.Prelude.{map, ◌==◌}
+use Rattle.dw_leb.specs.Part.{optional}
 use Rattle.dw_leb.specs.Number.{Unsigned, Signed, uleb, sleb}
 use Rattle.dw_leb.specs.Repeat.{items_bytes, ItemsFit}
 use Rattle.dw_abbrev.specs.DecideTable.{Item, pair_head, pair_rest, code_head}

@@ -1,20 +1,19 @@
 -- Reading at a place of a section, to no end but the section's: what stands there, and what the plain reader says of it.
 use Rattle.std.proofs.Common.{◌≡◌, ℕ, suc, ◌+◌, ◌-◌, ◌<◌, ◌≤◌, Bool, true, false, List, [], ◌∷◌, ◌++◌, length, drop, take, min, Option, Some, None, refl, sym, ap, subst, ◌∙◌, arith}
-use Rattle.std.specs.Prelude.{nat_lt, nat_le, ◌==◌, if◌then◌else◌}
-use Rattle.std.proofs.lemmas.Bool.{leb-false, ne_eqb, le-ltb}
+use Rattle.std.specs.Prelude.{nat_le, ◌==◌, if◌then◌else◌}
+use Rattle.std.proofs.lemmas.Bool.{leb-false, ne_eqb}
 use Rattle.std.proofs.lemmas.List.{take_all, drop-drop, length-drop, length-append}
 use Rattle.std.proofs.Math.Nat.{min-eq_left}
 use Rattle.dw_leb.specs.Part.{Part, Taken}
 use Rattle.dw_leb.specs.declared.errors.Reason.TheVariants.{LebTooLong, PastUnit, Truncated}
-use Rattle.dw_leb.specs.declared.order.Order.{Order}
 use Rattle.dw_leb.specs.Number.{above_u64, outside_i64, unended}
-use Rattle.dw_leb.specs.ReadNumber.{undigits, ordered, read_fixed, groups_of, groups_outcome, read_groups, uleb_from, sleb_from, read_uleb, read_sleb}
+use Rattle.dw_leb.specs.ReadNumber.{groups_of, groups_outcome, read_groups, uleb_from, sleb_from, read_uleb, read_sleb}
 use Rattle.dw_leb.specs.declared.errors.Reason.{Reason}
 use Rattle.dw_leb.specs.declared.errors.ReadError.{ReadError}
 use Rattle.dw_leb.specs.declared.errors.ReadError.TheVariants as reads
 use Rattle.dw_leb.specs.declared.errors.Fault.{Fault}
 use Rattle.dw_leb.specs.declared.errors.SectionId.TheVariants as sections
-use Rattle.dw_leb.specs.Reader.{Outcome, Found, Broken, Reader, paired, behind, ◌and_then◌, mapped, made, refused_if, judged_outcome, checked, read_repeated}
+use Rattle.dw_leb.specs.Reader.{Outcome, Reader, paired, behind, ◌and_then◌, mapped, made, refused_if, judged_outcome, checked, read_repeated}
 use Rattle.dw_leb.specs.Decide.{Decides, found, broken}
 use Rattle.dw_abbrev.specs.Table.{first_of}
 use Rattle.dw_leb.specs.ItemSteps.{ReadSoFar, none_read, one_read, all_read, head_breaks, body_breaks}

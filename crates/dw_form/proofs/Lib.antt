@@ -2,3 +2,4 @@ pub mod Zero
 pub mod Spelled
 mod Found
 mod PlainHead
+mod NumberHead

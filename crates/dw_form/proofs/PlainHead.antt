@@ -25,7 +25,7 @@ indirect_shape : (size : ℕ) (format : Format) → shape 0x16 size format ≡ S
 unfolding shape
 indirect_shape size format = refl
 
-not_indirect : (form size : ℕ) (format : Format) (s : Shape) → shape form size format ≡ Some s → s ≢ shapes.Indirect → (form == 0x16) ≡ false
+pub not_indirect : (form size : ℕ) (format : Format) (s : Shape) → shape form size format ≡ Some s → s ≢ shapes.Indirect → (form == 0x16) ≡ false
 not_indirect form size format s h other =
     ne_eqb form 0x16 (λ e. other (some_same (sym h ∙ ap (λ (f : ℕ). shape f size format) e ∙ indirect_shape size format)))
   where

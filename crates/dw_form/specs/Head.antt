@@ -8,7 +8,7 @@ use Rattle.dw_leb.specs.ReadNumber.{read_fixed, read_uleb}
 use Rattle.dw_form.specs.declared.shape.Ctx.{Ctx}
 use Rattle.dw_form.specs.declared.shape.Shape.{Shape}
 use Rattle.dw_form.specs.declared.shape.Shape.TheVariants as shapes
-use Rattle.dw_form.specs.Form.{Value, Block, Text, Attribute, shape}
+use Rattle.dw_form.specs.Form.{Value, Num, Block, Text, Attribute, shape}
 use Rattle.dw_form.specs.ReadForm.{read_shaped}
 use Rattle.dw_form.specs.Pieces.{head_of, via_bytes, form_in}
 
@@ -129,3 +129,18 @@ by_via k form c b pool via = behind_via via (by_shape k (own_constant via c) (dr
 -- the value whose head stands at the front of heads, and the size of its head
 unfoldable pub head_at : Ctx → ℕ → Option Signed → List ℕ → List ℕ → Option (Attribute × ℕ)
 head_at k form c b pool = and_so (via_at (form == 0x16) b) (by_via k form c b pool)
+
+-- ---- a number by its head
+
+abbrev pub number_if : Option Unsigned → Value → Option ℕ
+number_if None (Num x) = Some x
+number_if via v = None
+
+-- the number that a value is, of a fixed size of at most eight bytes and of the form that its declaration gives
+abbrev pub own_number : Attribute → Option ℕ
+own_number a = number_if a.via a.value
+
+-- the same of the value that a head gives, with the size of the head
+abbrev pub number_in : Option (Attribute × ℕ) → Option (ℕ × ℕ)
+number_in None = None
+number_in (Some x) = option_map (λ n. (n, x.1)) (own_number x.0)

@@ -1,10 +1,10 @@
 -- A number in the place of a value's own, in the same bytes.
-use Rattle.std.specs.Prelude.{◌≡◌, ◌^◌, ◌*◌, ◌==◌, ℕ, ℤ, pos, negsuc, Bool, true, false, Option, Some, None, option_map, nat_le, nat_lt, not, ◌&&◌, if◌then◌else◌}
+use Rattle.std.specs.Prelude.{◌^◌, ◌*◌, ◌==◌, ℕ, ℤ, pos, negsuc, Option, Some, None, option_map, nat_le, nat_lt, not, ◌&&◌, if◌then◌else◌}
 use Rattle.dw_leb.specs.Number.{Unsigned, Signed, extent}
 use Rattle.dw_form.specs.declared.shape.Ctx.{Ctx}
 use Rattle.dw_form.specs.declared.shape.Shape.{Shape}
 use Rattle.dw_form.specs.declared.shape.Shape.TheVariants as shapes
-use Rattle.dw_form.specs.Form.{Value, Num, Wide, Uleb, Sleb, Block, Text, Present, Implicit, Attribute, shape}
+use Rattle.dw_form.specs.Form.{Value, Num, Uleb, Sleb, Attribute, shape}
 use Rattle.dw_form.specs.Pieces.{form_in}
 
 -- n bytes, of a fixed number of at most 8, hold 0 to 256 ^ n - 1

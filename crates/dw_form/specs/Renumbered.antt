@@ -1,16 +1,16 @@
 -- What a value with another number in the place of its own keeps: that it has a spelling, and how long that is.
-use Rattle.std.specs.Prelude.{◌≡◌, ◌<◌, ◌≤◌, ◌^◌, ◌*◌, ◌+◌, ◌==◌, ℕ, ℤ, pos, negsuc, Bool, true, false, List, [], ◌++◌, length, Option, Some, None, option_map, nat_le, nat_lt, not, ◌&&◌, if◌then◌else◌}
+use Rattle.std.specs.Prelude.{◌≡◌, ◌<◌, ◌^◌, ◌*◌, ◌==◌, ℕ, ℤ, pos, negsuc, Bool, true, false, [], length, Option, Some, None, option_map, nat_le, nat_lt, not, ◌&&◌, if◌then◌else◌}
 use Rattle.std.proofs.Common.{refl, sym, ap, subst, ◌∙◌, arith, length-append, append-nil}
 use Rattle.std.proofs.lemmas.Bool.{leb-true, ltb-true, and_parts}
 use Rattle.dw_leb.specs.Part.{Part, FitsAs}
-use Rattle.dw_leb.specs.Number.{Unsigned, Signed, UlebFits, SlebFits, extent, fixed, fixed_bytes, uleb, sleb}
+use Rattle.dw_leb.specs.Number.{Unsigned, Signed, UlebFits, SlebFits, extent, fixed, fixed_bytes, uleb}
 use Rattle.dw_leb.specs.Digits.{length-fixed}
 use Rattle.dw_leb.specs.DecideNumber.{uleb_fits, sleb_fits, length-uleb, length-sleb}
 use Rattle.dw_form.specs.declared.shape.Ctx.{Ctx}
 use Rattle.dw_form.specs.declared.shape.Shape.{Shape}
 use Rattle.dw_form.specs.declared.shape.Shape.TheVariants as shapes
 use Rattle.dw_form.specs.Form.{Value, Num, Wide, Uleb, Sleb, Block, Text, Present, Implicit, Attribute, shape, shaped, shaped_if, by_indirection, attribute}
-use Rattle.dw_form.specs.Pieces.{form_in, pieces_of, pieces_spell}
+use Rattle.dw_form.specs.Pieces.{form_in, pieces_spell}
 use Rattle.dw_form.specs.StoredView.{value_bytes, bytes_in}
 use Rattle.dw_form.specs.Head.{head}
 use Rattle.dw_form.specs.HeadSize.{is_plain, plain_head}

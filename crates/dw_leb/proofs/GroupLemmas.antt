@@ -8,9 +8,9 @@ use Rattle.std.proofs.lemmas.Nat.{pow-add}
 use Rattle.std.proofs.lemmas.Bool.{ltb-true, ltb-false}
 use Rattle.std.specs.List.{position_from}
 use Rattle.dw_leb.specs.Part.{Reason, LebTooBig}
-use Rattle.dw_leb.specs.Number.{digits, marked, Unsigned, Signed, unmarked, extent, above_u64, outside_i64}
+use Rattle.dw_leb.specs.Number.{digits, marked, extent, above_u64, outside_i64}
 use Rattle.dw_leb.specs.Reader.{Outcome, Found, Broken, answer, mapped, refused_if, judged_outcome}
-use Rattle.dw_leb.specs.ReadNumber.{undigits, groups_of, groups_outcome, uleb_from, sleb_from, read_uleb, read_sleb, signed_from}
+use Rattle.dw_leb.specs.ReadNumber.{groups_of, groups_outcome, uleb_from, sleb_from, read_uleb, read_sleb, signed_from}
 use Rattle.dw_leb.specs.Scan.{is_last, low_bits, number, front_found, front_at, unsigned_scan, signed_scan}
 use Rattle.dw_leb.specs.Decide.{AreBytes}
 

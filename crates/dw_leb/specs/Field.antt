@@ -1,12 +1,11 @@
 -- What a call that reads one field answers, from what the plain reader answers.
 use Rattle.std.specs.Prelude.{◌≡◌, ℕ, List, length, Result, Ok, Err, IfOk, IfErr, IsOkAnd}
-use Rattle.std.proofs.Common.{refl, sym, ap, ◌∙◌, ◌≤◌, ◌<◌, ◌^◌, ◌++◌, suc, zero, get_or, [], ◌∷◌, subst, arith}
+use Rattle.std.proofs.Common.{sym, ap, ◌∙◌, ◌≤◌, ◌<◌, ◌^◌, suc, get_or, [], ◌∷◌, subst, arith}
 use Rattle.std.proofs.Math.Nat.{pow-le-pow_right}
-use Rattle.std.specs.List.{AllByRecursion}
 use Rattle.dw_leb.specs.Part.{Reason, Part, Taken}
 use Rattle.dw_leb.specs.Number.{Order, fixed}
 use Rattle.dw_leb.specs.Reader.{Outcome, Found, Broken, Reader, answer, outcome_of, seen_by}
-use Rattle.dw_leb.specs.Decide.{Decides, Says, AreBytes, found, broken}
+use Rattle.dw_leb.specs.Decide.{Decides, Says, AreBytes, found}
 
 -- a part that breaks at its first byte alone
 abbrev pub IsField : {X : Type 0} → Part X → Type 0

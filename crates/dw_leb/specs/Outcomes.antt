@@ -1,5 +1,5 @@
 -- What a call that reads a part tells of the plain reader's outcome.
-use Rattle.std.specs.Prelude.{◌+◌, ℕ, List, Result, Ok, Err, IfOk}
+use Rattle.std.specs.Prelude.{ℕ, List, Result, Ok, Err, IfOk}
 use Rattle.dw_leb.specs.Part.{Part}
 use Rattle.dw_leb.specs.Decide.{Says}
 use Rattle.dw_leb.specs.Reader.{Outcome, Found, Broken}

@@ -1,9 +1,8 @@
 -- Writing several lists of bytes, one behind the other.
-use Rattle.std.proofs.Common.{◌≡◌, ◌+◌, ◌<◌, ◌≤◌, ℕ, zero, suc, List, [], ◌∷◌, ◌++◌, length, drop, get_or, Option, refl, sym, ap, subst, ◌∙◌, append_assoc, append-nil, arith}
-use Rattle.std.specs.Prelude.{Result, Ok, Err, OnOk}
+use Rattle.std.proofs.Common.{◌≡◌, ℕ, List, [], ◌++◌, Option, refl, sym, subst, ◌∙◌, append_assoc, append-nil}
 use Rattle.std.specs.Io.KnownBytes.{Appends}
 use Rattle.dw_leb.specs.Watch.{AppendsFront}
-use Rattle.dw_leb.specs.Transfers.{appends_none, appends_more, front_of_both, front_behind, front_whole}
+use Rattle.dw_leb.specs.Transfers.{appends_none, appends_more, front_of_both, front_behind}
 
 -- Of all the bytes some are written, from a to b, and the rest is not.
 pub record PartlyWritten (a b : Option (List ℕ)) (rest all : List ℕ) : Type 0 where

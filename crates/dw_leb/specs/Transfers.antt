@@ -4,8 +4,8 @@ use Rattle.std.proofs.lemmas.List.{take_all, take-append-le, length-append}
 use Rattle.std.proofs.Math.Seq.{take-add, take-append-add}
 use Rattle.dw_leb.specs.Watch.{write_fault, AppendsFront, Wrote}
 use Rattle.dw_leb.specs.declared.errors.WriteError.{WriteError}
-use Rattle.std.specs.Prelude.{Result, Err, IsErr, OnOk}
-use Rattle.std.specs.Io.KnownBytes.{Appends, Consumes, Keeps}
+use Rattle.std.specs.Prelude.{Result, Err, IsErr}
+use Rattle.std.specs.Io.KnownBytes.{Appends, Consumes}
 
 -- nothing is taken
 pub consumes_none : (a : Option (List ℕ)) → Consumes a a []

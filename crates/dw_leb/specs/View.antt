@@ -1,8 +1,5 @@
 -- Numbers of the program as numbers of the grammar.
-use Rattle.std.specs.Prelude.{◌≡◌, ℕ, ℤ}
-use Rattle.std.proofs.Common.{ap, subst}
-use Rattle.std.proofs.Props.{props}
-use Rattle.dw_leb.specs.Number.{Unsigned, Signed, UlebFits, SlebFits}
+use Rattle.dw_leb.specs.Number.{Unsigned, Signed}
 use Rattle.dw_leb.specs.declared.unsigned.Uleb.{Uleb}
 use Rattle.dw_leb.specs.declared.signed.Sleb.{Sleb}
 

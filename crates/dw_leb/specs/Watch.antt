@@ -1,6 +1,6 @@
 -- A watched reader or writer, and the fault that it keeps.
-use Rattle.std.specs.Prelude.{◌≡◌, ◌≤◌, ◌<◌, ℕ, zero, List, ◌∷◌, length, take, Option, Some, None, Result, Ok, Err, ⊤}
-use Rattle.std.specs.Io.KnownBytes.{Appends, Consumes, IsAtEnd, Keeps}
+use Rattle.std.specs.Prelude.{◌≤◌, ◌<◌, ℕ, zero, List, ◌∷◌, length, take, Option, Some, None, Result, Ok, Err, ⊤}
+use Rattle.std.specs.Io.KnownBytes.{Appends, Consumes}
 use Rattle.std.specs.IoError.{error_kind}
 use Rattle.std.specs.declared.io.Error.{Error}
 use Rattle.std.specs.declared.io.ErrorKind.{ErrorKind}

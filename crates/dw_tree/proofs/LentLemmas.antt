@@ -1,6 +1,6 @@
 -- Values that fit their pairs, one by one.
 use Rattle.std.proofs.Common.{◌≡◌, ◌+◌, ◌≤◌, ◌∷◌, ℕ, Bool, true, false, List, length, drop, Option, Some, None, refl, sym, ap, subst, ◌∙◌, arith}
-use Rattle.std.specs.Prelude.{◌==◌}
+use Rattle.std.specs.Prelude.{◌==◌, map}
 use Rattle.std.proofs.lemmas.List.{length-append, drop_at}
 use Rattle.dw_leb.specs.Number.{Unsigned, Signed}
 use Rattle.dw_form.specs.declared.shape.Ctx.{Ctx}
@@ -8,10 +8,12 @@ use Rattle.dw_form.specs.declared.shape.Shape.{Shape}
 use Rattle.dw_form.specs.declared.shape.Shape.TheVariants as shapes
 use Rattle.dw_form.specs.Form.{Value, Implicit, Attribute, shape, shaped, shaped_if, by_indirection, attribute}
 use Rattle.dw_form.specs.Pieces.{constant_in, HasSpelling, spelling}
-use Rattle.dw_tree.specs.Lent.{AreLent}
-use Rattle.dw_form.specs.Head.{head}
+use Rattle.dw_form.specs.Head.{head, head_at}
+use Rattle.dw_abbrev.specs.declared.pair.Pair.{Pair as RustPair}
+use Rattle.dw_abbrev.specs.PairView.{pair_of}
 use Rattle.dw_abbrev.specs.Table.{Pair}
-use Rattle.dw_tree.specs.RowHeads.{Here, run_bytes, First, Next, next_here}
+use Rattle.dw_tree.specs.Lent.{AreLent}
+use Rattle.dw_tree.specs.RowHeads.{Here, run_bytes, First, Next, first_found, next_here}
 
 -- ---- the constant of a declaration tells nothing that its value doesn't
 
@@ -81,3 +83,43 @@ module _ (k : Ctx) (at : ℕ) (hs pool : List ℕ) (ps : List Pair) (p : Pair) (
         let tail = ap (λ (b : List ℕ). length (run_bytes k rest b pool)) behind_first_is in
         omega (arith, lent.room, all, tail, own, length-append ((attribute k p.form.value p.constant).spell first_value.value) (run_bytes k rest first_value.rest pool));
   }
+
+-- ---- what is left behind the first value, where its head gives it
+
+pub record Left (k : Ctx) (at : ℕ) (hs pool : List ℕ) (p : Pair) (rest : List Pair) (a : Attribute) (width : ℕ) : Type 0 where
+  pub spelled : HasSpelling k p.form.value a
+  pub own_head : (start : ℕ) × (width ≡ length (head k p.form.value start a))
+  pub others : AreLent k (at + length (spelling k p.form.value a)) rest (drop width hs) pool
+
+abbrev pair : Attribute → ℕ → Attribute × ℕ
+pair a n = (a, n)
+
+abbrev some_pair : Attribute → ℕ → Option (Attribute × ℕ)
+some_pair a n = Some (a, n)
+
+module _ (k : Ctx) (at : ℕ) (hs pool : List ℕ) (all : List RustPair) (q : RustPair) (qs : List RustPair) (items : all ≡ q ∷ qs) (lent : AreLent k at (map pair_of all) hs pool) where
+  abbrev p : Pair
+  p = pair_of q
+
+  abbrev rest : List Pair
+  rest = map pair_of qs
+
+  is : map pair_of all ≡ p ∷ rest
+  is = ap (λ (xs : List RustPair). map pair_of xs) items
+
+  pub left : (a : Attribute) (width : ℕ) → head_at k p.form.value p.constant hs pool ≡ Some (a, width) → Left k at hs pool p rest a width
+  left a width e =
+      let x = first_value k at hs pool (map pair_of all) p rest is lent in
+      let same = both a x.value width (length (head k p.form.value x.start x.value)) (sym e ∙ first_found k p hs pool x) in
+      let others = others_lent k at hs pool (map pair_of all) p rest is lent in
+      record {
+        spelled = subst (λ (b : Attribute). HasSpelling k p.form.value b) (sym same.0) (first_spelled k at hs pool (map pair_of all) p rest is lent);
+        own_head = (x.start, same.1 ∙ ap (λ (b : Attribute). length (head k p.form.value x.start b)) (sym same.0));
+        others = subst (λ (b : Attribute). AreLent k (at + length (spelling k p.form.value b)) rest (drop width hs) pool) (sym same.0)
+            (subst (λ (n : ℕ). AreLent k (at + length (spelling k p.form.value x.value)) rest (drop n hs) pool) (sym same.1) others);
+      }
+    where
+      both : (a b : Attribute) (n m : ℕ) → some_pair a n ≡ some_pair b m → (a ≡ b) × (n ≡ m)
+      both a b n m e =
+          let same : pair a n ≡ pair b m = cc in
+          (ap (λ (y : Attribute × ℕ). y.0) same, ap (λ (y : Attribute × ℕ). y.1) same)

@@ -1,11 +1,12 @@
 -- Entries and attributes as they are lent (sections 2.2, 2.3, 7.5.2 and 7.5.3).
-use Rattle.std.specs.Prelude.{◌≡◌, ◌<◌, ◌^◌, ℕ, suc, ◌+◌, ◌==◌, List, [], ◌∷◌, ◌++◌, length, drop, take, Option, Some, None, if◌then◌else◌}
+use Rattle.std.specs.Prelude.{◌≡◌, ◌<◌, ◌^◌, ℕ, suc, ◌+◌, ◌==◌, Bool, false, is_some, List, [], ◌∷◌, ◌++◌, length, drop, take, Option, Some, None, if◌then◌else◌}
 use Rattle.std.proofs.Common.{refl}
 use Rattle.std.specs.Coded.{Coded, code_by, coded×, coded_ℕ}
 use Rattle.dw_leb.specs.Number.{Unsigned}
 use Rattle.dw_form.specs.declared.shape.Ctx.{Ctx}
 use Rattle.dw_form.specs.Form.{Attribute, IsContext, Num}
 use Rattle.dw_form.specs.Lent.{attribute_of}
+use Rattle.dw_form.specs.Head.{own_number}
 use Rattle.dw_form.specs.Pieces.{form_in, spelling}
 use Rattle.dw_abbrev.specs.Table.{Pair, Declaration, Table, declared}
 use Rattle.dw_tree.specs.declared.attrs.AttrRef.{AttrRef}
@@ -43,6 +44,11 @@ abbrev pub lent_attributes : Ctx → ℕ → List Pair → List Attribute → Li
 lent_attributes k at [] vs = []
 lent_attributes k at (p ∷ ps) [] = []
 lent_attributes k at (p ∷ ps) (v ∷ vs) = lent_attribute at p v ∷ lent_attributes k (at + length (spelling k p.form.value v)) ps vs
+
+-- whether the first attribute is a number of a fixed size of at most eight bytes, of the form that its declaration gives
+abbrev pub begins_with_number : List LentAttribute → Bool
+begins_with_number [] = false
+begins_with_number (a ∷ others) = is_some (own_number a.attr)
 
 -- the first attribute of a name
 abbrev pub first_named : ℕ → List LentAttribute → Option LentAttribute

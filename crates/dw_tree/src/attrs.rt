@@ -1,5 +1,5 @@
 //! The attributes of an entry, as they are lent (sections 2.2, 7.5.2 and 7.5.3).
-ghost use Rattle.std.specs.Prelude.{◌≡◌, ◌∷◌, ◌<◌, ◌^◌, ℕ, None, length, map, option_map, IfSome};
+ghost use Rattle.std.specs.Prelude.{◌≡◌, ◌∷◌, ◌<◌, ◌^◌, ℕ, None, length, map, option_map, is_some, IfSome};
 ghost use Rattle.std.specs.Iterator.{YieldsFirstBy, item_count};
 ghost use Rattle.dw_leb.specs.View.{uleb_of};
 ghost use Rattle.dw_form.specs.Lent.{attribute_of};
@@ -8,7 +8,7 @@ ghost use Rattle.dw_form.specs.Pieces.{form_in, HasSpelling, spelling};
 ghost use Rattle.dw_abbrev.specs.PairView.{pair_of};
 ghost use Rattle.dw_tree.specs.RowHeads.{values_at};
 ghost use Rattle.dw_tree.specs.Lent.{lent_attribute, lent_attributes};
-ghost use Rattle.dw_tree.specs.Lent.{AreLent, attr_of, number_of};
+ghost use Rattle.dw_tree.specs.Lent.{AreLent, attr_of, begins_with_number, number_of};
 
 use crate::write::behind;
 use dw_abbrev::Pair;
@@ -112,12 +112,14 @@ impl<'a> Attrs<'a> {
         }
     }
 
-    /// The next attribute, where its value is a number of a fixed size of at most 8 bytes: as `next` gives it, and in less
-    /// memory. Where it is None nothing was taken, and `next` is to be asked.
+    /// The next attribute, where its value is a number of a fixed size of at most 8 bytes (and isn't indirect): as `next`
+    /// gives it, and in less memory. None where it is any other, or none is left: nothing was taken, and `next` is to be
+    /// asked.
     #[inline(always)]
     pub fn next_number(&mut self) -> Option<NumberRef>
         ensures some { IfSome result (λ n. self.old ≡ number_of n ∷ self.new) }
         ensures none { result ≡ None → self.new ≡ self.old }
+        ensures only { is_some result ≡ begins_with_number self.old }
     {
         let (pair, pairs) = self.pairs.split_first()?;
         let (number, width) = lend_number(self.ctx, pair.form.value, self.heads)?;

@@ -4,7 +4,7 @@ use Rattle.std.specs.Io.KnownBytes.{Appends}
 use Rattle.dw_leb.specs.View.{sleb_of}
 use Rattle.dw_abbrev.specs.PairView.{pair_of}
 use Rattle.std.proofs.Common.{ℕ, List, Option, ◌++◌, subst, sym, ap, ◌∙◌, append-nil}
-use Rattle.dw_leb.specs.Number.{uleb, sleb}
+use Rattle.dw_leb.specs.Number.{uleb}
 use Rattle.dw_leb.specs.Watch.{inner_of, Wrote}
 use Rattle.dw_leb.specs.Transfers.{appends_more, wrote_then, wrote_err}
 use Rattle.dw_abbrev.specs.Spelling.{constant_bytes}

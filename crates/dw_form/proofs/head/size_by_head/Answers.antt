@@ -1,4 +1,4 @@
-use Rattle.std.proofs.Common.{◌≡◌, ◌+◌, ◌-◌, arith}
+use Rattle.std.proofs.Common.{arith}
 use Rattle.dw_form.specs.Lent.{attribute_of}
 use Rattle.dw_form.specs.Pieces.{constant_in}
 use Rattle.dw_form.specs.HeadSize.{size_by_head}

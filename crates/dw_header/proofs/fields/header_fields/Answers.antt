@@ -1,4 +1,4 @@
-use Rattle.std.proofs.Common.{◌+◌, ℕ, Ok, Err, subst, arith}
+use Rattle.std.proofs.Common.{ℕ, Ok, Err, subst, arith}
 use Rattle.std.specs.Prelude.{Result, IfOk}
 use Rattle.dw_leb.specs.declared.order.Order.{Order}
 use Rattle.dw_leb.specs.declared.order.Format.{Format}

@@ -1,10 +1,9 @@
 use Rattle.dw_abbrev.specs.declared.pair.Pair.{Pair as RustPair}
 use Rattle.std.specs.Prelude.{map}
 use Rattle.std.specs.Io.KnownBytes.{Appends}
-use Rattle.dw_leb.specs.View.{uleb_of}
 use Rattle.dw_abbrev.specs.PairView.{pair_of}
 use Rattle.std.proofs.Common.{ℕ, List, Option, ◌++◌, subst}
-use Rattle.dw_leb.specs.Watch.{inner_of, Wrote, AppendsFront}
+use Rattle.dw_leb.specs.Watch.{inner_of, AppendsFront}
 use Rattle.dw_leb.specs.Transfers.{wrote_then, wrote_err}
 use Rattle.dw_abbrev.specs.Table.{Declaration}
 use Rattle.dw_abbrev.specs.Spelling.{head_bytes, pairs_bytes, zeros_bytes}

@@ -1,6 +1,6 @@
 use Rattle.dw_leb.specs.View.{uleb_of}
 use Rattle.std.specs.Io.KnownBytes.{Appends}
-use Rattle.std.proofs.Common.{ℕ, List, Option, ◌++◌, subst}
+use Rattle.std.proofs.Common.{ℕ, List, Option, subst}
 use Rattle.dw_leb.specs.Number.{Unsigned, uleb}
 use Rattle.dw_leb.specs.Watch.{inner_of, Wrote, AppendsFront}
 use Rattle.dw_leb.specs.Transfers.{wrote_then, wrote_err}

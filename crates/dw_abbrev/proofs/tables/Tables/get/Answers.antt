@@ -1,9 +1,8 @@
-use Rattle.std.proofs.Common.{◌≡◌, ◌<◌, length, ℕ, List, sym, subst, ◌∙◌, eqb, nat_eq, None, rules}
+use Rattle.std.proofs.Common.{◌≡◌, ℕ, List, sym, subst, ◌∙◌, eqb, nat_eq, None, rules}
 use Rattle.indexmap.specs.IndexMap.{get}
 use Rattle.std.specs.Rc.{rc_value}
 use Rattle.std.proofs.lemmas.Result.{err_from_is_err_and}
 use Rattle.indexmap.proofs.CallerLemmas.{insert_entry-new}
-use Rattle.dw_abbrev.specs.TableErrors.{refused_memory}
 use Rattle.dw_abbrev.specs.Laws.{one_table_at}
 use Rattle.dw_abbrev.specs.Table.{Table, TableAt}
 use Rattle.dw_abbrev.proofs.Kept.{kept_at, kept_more}

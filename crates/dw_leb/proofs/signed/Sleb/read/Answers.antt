@@ -1,7 +1,7 @@
 use Rattle.std.proofs.Common.{◌∙◌, sym, arith}
 use Rattle.dw_leb.specs.Number.{sleb}
 use Rattle.dw_leb.specs.View.{sleb_of}
-use Rattle.dw_leb.specs.Reader.{seen_by, answer}
+use Rattle.dw_leb.specs.Reader.{seen_by}
 use Rattle.dw_leb.specs.ReadNumber.{read_sleb}
 use Rattle.dw_leb.specs.DecideNumber.{sleb_decides, sleb_field, length-sleb}
 use Rattle.dw_leb.specs.Field.{are_bytes, found_by, broken_by, only_by, ok_seen, err_seen, only_seen}

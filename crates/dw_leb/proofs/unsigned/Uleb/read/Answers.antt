@@ -1,7 +1,7 @@
 use Rattle.std.proofs.Common.{◌∙◌, sym, arith}
 use Rattle.dw_leb.specs.Number.{uleb}
 use Rattle.dw_leb.specs.View.{uleb_of}
-use Rattle.dw_leb.specs.Reader.{seen_by, answer}
+use Rattle.dw_leb.specs.Reader.{seen_by}
 use Rattle.dw_leb.specs.ReadNumber.{read_uleb}
 use Rattle.dw_leb.specs.DecideNumber.{uleb_decides, uleb_field, length-uleb}
 use Rattle.dw_leb.specs.Field.{are_bytes, found_by, broken_by, only_by, ok_seen, err_seen, only_seen}
