@@ -3,5 +3,6 @@ pub mod Placed
 pub mod Pieces
 pub mod Finding
 pub mod Named
+mod Buffered
 mod ShowRows
 pub mod Writing

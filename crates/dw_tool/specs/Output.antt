@@ -13,7 +13,7 @@ writer_of out = out.writer.now
 
 -- the bytes that are still to be written
 abbrev pub buffered : {W : Type 0} → Output W → List ℕ
-buffered out = out.buffer.items
+buffered out = out.buffer
 
 -- it stands before this writer, which its owner gets back
 abbrev pub StandsBefore : {W : Type 0} → Output W → MutBor (Watched W) → Type 0

@@ -1,6 +1,7 @@
 //! What the program over debugging entries does: what it reads, and the texts that it writes.
 #![tactic(auto)]
 
+mod buffer;
 pub mod command;
 mod entries;
 pub mod failure;

@@ -1,8 +1,8 @@
 //! The names of tags and attributes (sections 7.5.3 and 7.5.4, tables 7.3 and 7.5): those that this
 //! project prints.
-ghost use Rattle.std.specs.Prelude.{◌≡◌, IfSome, Some, option_map};
+ghost use Rattle.std.specs.Prelude.{◌≡◌, ◌≤◌, ◌++◌, IfSome, Some, length, option_map};
 ghost use Rattle.dw_tool.specs.Names.{attribute_names, name_in, number_named, tag_names};
-ghost use Rattle.dw_tool.specs.Pieces.{attribute_label, tag_label};
+ghost use Rattle.dw_tool.specs.Pieces.{attribute_label, padding, tag_label};
 
 use dw_leb::constants::attribute::*;
 use dw_leb::constants::tag::*;
@@ -10,44 +10,47 @@ use dw_leb::constants::tag::*;
 // The greatest attribute that has a name here.
 const LAST_NAMED: u64 = DW_AT_LOCLISTS_BASE;
 
-// The name of a tag behind a text.
+/// How many spaces are behind a label: enough that each has 32 bytes, which are moved at once (`Output::append_front`).
+pub(crate) const PADDING: usize = 24;
+
+// The name of a tag between two texts.
 macro_rules! named_tag {
-    ($tag:expr, $before:literal) => {
+    ($tag:expr, $before:literal, $behind:literal) => {
         match $tag {
-            DW_TAG_ARRAY_TYPE => Some(concat!($before, "array_type")),
-            DW_TAG_CLASS_TYPE => Some(concat!($before, "class_type")),
-            DW_TAG_ENUMERATION_TYPE => Some(concat!($before, "enumeration_type")),
-            DW_TAG_FORMAL_PARAMETER => Some(concat!($before, "formal_parameter")),
-            DW_TAG_LABEL => Some(concat!($before, "label")),
-            DW_TAG_LEXICAL_BLOCK => Some(concat!($before, "lexical_block")),
-            DW_TAG_MEMBER => Some(concat!($before, "member")),
-            DW_TAG_POINTER_TYPE => Some(concat!($before, "pointer_type")),
-            DW_TAG_REFERENCE_TYPE => Some(concat!($before, "reference_type")),
-            DW_TAG_COMPILE_UNIT => Some(concat!($before, "compile_unit")),
-            DW_TAG_STRUCTURE_TYPE => Some(concat!($before, "structure_type")),
-            DW_TAG_SUBROUTINE_TYPE => Some(concat!($before, "subroutine_type")),
-            DW_TAG_TYPEDEF => Some(concat!($before, "typedef")),
-            DW_TAG_UNION_TYPE => Some(concat!($before, "union_type")),
-            DW_TAG_UNSPECIFIED_PARAMETERS => Some(concat!($before, "unspecified_parameters")),
-            DW_TAG_INHERITANCE => Some(concat!($before, "inheritance")),
-            DW_TAG_INLINED_SUBROUTINE => Some(concat!($before, "inlined_subroutine")),
-            DW_TAG_SUBRANGE_TYPE => Some(concat!($before, "subrange_type")),
-            DW_TAG_BASE_TYPE => Some(concat!($before, "base_type")),
-            DW_TAG_CONST_TYPE => Some(concat!($before, "const_type")),
-            DW_TAG_ENUMERATOR => Some(concat!($before, "enumerator")),
-            DW_TAG_SUBPROGRAM => Some(concat!($before, "subprogram")),
-            DW_TAG_VARIABLE => Some(concat!($before, "variable")),
-            DW_TAG_VOLATILE_TYPE => Some(concat!($before, "volatile_type")),
-            DW_TAG_RESTRICT_TYPE => Some(concat!($before, "restrict_type")),
-            DW_TAG_NAMESPACE => Some(concat!($before, "namespace")),
-            DW_TAG_UNSPECIFIED_TYPE => Some(concat!($before, "unspecified_type")),
-            DW_TAG_PARTIAL_UNIT => Some(concat!($before, "partial_unit")),
-            DW_TAG_TYPE_UNIT => Some(concat!($before, "type_unit")),
-            DW_TAG_RVALUE_REFERENCE_TYPE => Some(concat!($before, "rvalue_reference_type")),
-            DW_TAG_ATOMIC_TYPE => Some(concat!($before, "atomic_type")),
-            DW_TAG_CALL_SITE => Some(concat!($before, "call_site")),
-            DW_TAG_CALL_SITE_PARAMETER => Some(concat!($before, "call_site_parameter")),
-            DW_TAG_SKELETON_UNIT => Some(concat!($before, "skeleton_unit")),
+            DW_TAG_ARRAY_TYPE => Some(concat!($before, "array_type", $behind)),
+            DW_TAG_CLASS_TYPE => Some(concat!($before, "class_type", $behind)),
+            DW_TAG_ENUMERATION_TYPE => Some(concat!($before, "enumeration_type", $behind)),
+            DW_TAG_FORMAL_PARAMETER => Some(concat!($before, "formal_parameter", $behind)),
+            DW_TAG_LABEL => Some(concat!($before, "label", $behind)),
+            DW_TAG_LEXICAL_BLOCK => Some(concat!($before, "lexical_block", $behind)),
+            DW_TAG_MEMBER => Some(concat!($before, "member", $behind)),
+            DW_TAG_POINTER_TYPE => Some(concat!($before, "pointer_type", $behind)),
+            DW_TAG_REFERENCE_TYPE => Some(concat!($before, "reference_type", $behind)),
+            DW_TAG_COMPILE_UNIT => Some(concat!($before, "compile_unit", $behind)),
+            DW_TAG_STRUCTURE_TYPE => Some(concat!($before, "structure_type", $behind)),
+            DW_TAG_SUBROUTINE_TYPE => Some(concat!($before, "subroutine_type", $behind)),
+            DW_TAG_TYPEDEF => Some(concat!($before, "typedef", $behind)),
+            DW_TAG_UNION_TYPE => Some(concat!($before, "union_type", $behind)),
+            DW_TAG_UNSPECIFIED_PARAMETERS => Some(concat!($before, "unspecified_parameters", $behind)),
+            DW_TAG_INHERITANCE => Some(concat!($before, "inheritance", $behind)),
+            DW_TAG_INLINED_SUBROUTINE => Some(concat!($before, "inlined_subroutine", $behind)),
+            DW_TAG_SUBRANGE_TYPE => Some(concat!($before, "subrange_type", $behind)),
+            DW_TAG_BASE_TYPE => Some(concat!($before, "base_type", $behind)),
+            DW_TAG_CONST_TYPE => Some(concat!($before, "const_type", $behind)),
+            DW_TAG_ENUMERATOR => Some(concat!($before, "enumerator", $behind)),
+            DW_TAG_SUBPROGRAM => Some(concat!($before, "subprogram", $behind)),
+            DW_TAG_VARIABLE => Some(concat!($before, "variable", $behind)),
+            DW_TAG_VOLATILE_TYPE => Some(concat!($before, "volatile_type", $behind)),
+            DW_TAG_RESTRICT_TYPE => Some(concat!($before, "restrict_type", $behind)),
+            DW_TAG_NAMESPACE => Some(concat!($before, "namespace", $behind)),
+            DW_TAG_UNSPECIFIED_TYPE => Some(concat!($before, "unspecified_type", $behind)),
+            DW_TAG_PARTIAL_UNIT => Some(concat!($before, "partial_unit", $behind)),
+            DW_TAG_TYPE_UNIT => Some(concat!($before, "type_unit", $behind)),
+            DW_TAG_RVALUE_REFERENCE_TYPE => Some(concat!($before, "rvalue_reference_type", $behind)),
+            DW_TAG_ATOMIC_TYPE => Some(concat!($before, "atomic_type", $behind)),
+            DW_TAG_CALL_SITE => Some(concat!($before, "call_site", $behind)),
+            DW_TAG_CALL_SITE_PARAMETER => Some(concat!($before, "call_site_parameter", $behind)),
+            DW_TAG_SKELETON_UNIT => Some(concat!($before, "skeleton_unit", $behind)),
             _ => None,
         }
     };
@@ -113,7 +116,7 @@ macro_rules! named_attribute {
 pub fn tag_name(tag: u64) -> Option<&'static str>
     ensures { option_map (λ name. name.now) result ≡ name_in tag_names tag }
 {
-    named_tag!(tag, "")
+    named_tag!(tag, "", "")
 }
 
 /// The name of an attribute without its prefix `DW_AT_`, or `None` where this project has none for
@@ -124,22 +127,26 @@ pub fn attribute_name(attribute: u64) -> Option<&'static str>
     named_attribute!(attribute, "", "")
 }
 
-/// What stands for a tag in the line of its entry: a space, the prefix and the name, in one piece. `None` where it has no
-/// name.
+/// What stands for a tag in the line of its entry: a space, the prefix and the name, in one piece, and behind it the
+/// padding. `None` where it has no name.
 #[inline(always)]
 pub(crate) fn tag_label(tag: u64) -> Option<&'static str>
-    ensures { option_map (λ label. label.now) result ≡ option_map tag_label (name_in tag_names tag) }
+    ensures label { option_map (λ label. label.now) result ≡ option_map (λ name. tag_label name ++ padding) (name_in tag_names tag) }
+    ensures long { IfSome result (λ label. 32 ≤ length label.now) }
+    ensures short { IfSome result (λ label. length label.now ≤ 56) }
 {
-    named_tag!(tag, " DW_TAG_")
+    named_tag!(tag, " DW_TAG_", "                        ")
 }
 
 /// What stands before the value of an attribute: the newline that ends the line before, the prefix with its spaces, the
-/// name and a space, in one piece. `None` where it has no name.
+/// name and a space, in one piece, and behind it the padding. `None` where it has no name.
 #[inline(always)]
 pub(crate) fn attribute_label(attribute: u64) -> Option<&'static str>
-    ensures { option_map (λ label. label.now) result ≡ option_map attribute_label (name_in attribute_names attribute) }
+    ensures label { option_map (λ label. label.now) result ≡ option_map (λ name. attribute_label name ++ padding) (name_in attribute_names attribute) }
+    ensures long { IfSome result (λ label. 32 ≤ length label.now) }
+    ensures short { IfSome result (λ label. length label.now ≤ 56) }
 {
-    named_attribute!(attribute, "\n  DW_AT_", " ")
+    named_attribute!(attribute, "\n  DW_AT_", "                         ")
 }
 
 /// The number of the attribute with this name, without its prefix `DW_AT_`, or `None` where this project has none of

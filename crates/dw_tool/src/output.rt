@@ -1,15 +1,11 @@
 //! A watched writer behind a buffer of a fixed size, for texts that are written as they are made.
-ghost use Rattle.std.specs.Prelude.{◌≡◌, [], OnOk};
+ghost use Rattle.std.specs.Prelude.{◌≡◌, ◌≤◌, [], length, take, OnOk};
 ghost use Rattle.dw_leb.specs.Watch.{inner_of, writer_fault, fault_of, Wrote};
 ghost use Rattle.dw_tool.specs.Output.{Puts, IsClear, SameWriter, StandsBefore, buffered, writer_of};
 
-use arrayvec::ArrayVec;
+use crate::buffer::Buffer;
 use dw_leb::{Watched, WriteError, write_all};
 use std::io::Write;
-
-/// How many bytes are gathered before they are written: more than a writer behind it gathers, which then passes
-/// them on as they are.
-const SIZE: usize = 16_384;
 
 /// A watched writer behind a buffer. What is appended gathers in the buffer, which is written when it is
 /// full, and by `flush`: what is still there when the output is dropped is never written. No call asks
@@ -17,7 +13,7 @@ const SIZE: usize = 16_384;
 #[derive(Drop)]
 pub struct Output<'a, W> {
     writer: &'a mut Watched<W>,
-    buffer: ArrayVec<u8, SIZE>,
+    buffer: Buffer,
 }
 
 impl<'a, W: Write> Output<'a, W> {
@@ -29,7 +25,7 @@ impl<'a, W: Write> Output<'a, W> {
     {
         Output {
             writer,
-            buffer: ArrayVec::new(),
+            buffer: Buffer::new(),
         }
     }
 
@@ -41,10 +37,21 @@ impl<'a, W: Write> Output<'a, W> {
         requires { IsClear self.old }
         ensures { Puts W.contents self.old self.new bytes.now result }
     {
-        if self.buffer.try_extend_from_slice(bytes).is_ok() {
+        self.append_front(bytes, bytes.len())
+    }
+
+    /// Appends the first `count` of the bytes, and else does what `append` does. Where there is room for all, all are moved:
+    /// a number of bytes that is known is moved at once.
+    #[inline(always)]
+    pub(crate) fn append_front(&mut self, bytes: &[u8], count: usize) -> Result<(), WriteError>
+        requires clear { IsClear self.old }
+        requires within { count ≤ length bytes.now }
+        ensures { Puts W.contents self.old self.new (take count bytes.now) result }
+    {
+        if self.buffer.put_front(bytes, count) {
             return Ok(());
         }
-        self.append_flushed(bytes)
+        self.append_flushed(&bytes[..count])
     }
 
     // Appends the bytes behind a flush. They are written at once where no buffer has room for them.
@@ -53,7 +60,7 @@ impl<'a, W: Write> Output<'a, W> {
         ensures { Puts W.contents self.old self.new bytes.now result }
     {
         self.flush()?;
-        if self.buffer.try_extend_from_slice(bytes).is_err() {
+        if !self.buffer.put_front(bytes, bytes.len()) {
             return write_all(self.writer, bytes);
         }
         Ok(())

@@ -1,12 +1,12 @@
 //! The texts of numbers, names and bytes, each appended to an output. Each call returns the writer's fault
 //! where there is one, as `Output::append` does.
-ghost use Rattle.std.specs.Prelude.{◌≡◌, ◌<◌, ◌%◌, ◌++◌, ◌∷◌, [], ℕ, IsTrue, codes, decimal, false};
+ghost use Rattle.std.specs.Prelude.{◌≡◌, ◌<◌, ◌≤◌, ◌-◌, ◌%◌, ◌++◌, ◌∷◌, [], ℕ, length, take, IsTrue, codes, decimal, false};
 ghost use Rattle.std.specs.Fmt.{digit_glyph, signed_decimal};
 ghost use Rattle.dw_tool.specs.Output.{Puts, IsClear};
 ghost use Rattle.dw_tool.specs.Pieces.{attribute_label, depth_text};
 ghost use Rattle.dw_tool.specs.Text.{attribute_text, block, each, escaped, four_digits, hexadecimal, labelled, labelled_decimal, quoted, spaced_digits, tag_text, two_digits};
 
-use crate::names::{attribute_label, tag_label};
+use crate::names::{PADDING, attribute_label, tag_label};
 use crate::output::Output;
 use dw_leb::WriteError;
 use itoa::Buffer;
@@ -25,10 +25,13 @@ pub(crate) fn push_hexadecimal<W: Write>(
 {
     // Most numbers of entries have one digit.
     if number < 16 {
-        out.append(&[b'0', b'x', hexadecimal_digit(number as u8)])
-    } else {
-        push_digits(out, number)
+        return out.append(&[b'0', b'x', hexadecimal_digit(number as u8)]);
     }
+    // Most addresses and offsets have eight digits at most.
+    if number < 0x1_0000_0000 {
+        return push_few_digits(out, number as u32);
+    }
+    push_digits(out, number)
 }
 
 // The same of a number of any size: the last four digits behind those of what is above them.
@@ -36,15 +39,23 @@ fn push_digits<W: Write>(out: &mut Output<'_, W>, number: u128) -> Result<(), Wr
     requires { IsClear out.old }
     ensures { Puts W.contents out.old out.new (hexadecimal number) result }
 {
-    if number < 0x1_0000 {
-        return push_first_digits(out, number as u16);
-    }
-    // Most addresses and offsets have eight digits at most.
     if number < 0x1_0000_0000 {
-        return push_next_digits(out, (number / 0x1_0000) as u16, (number % 0x1_0000) as u16);
+        return push_few_digits(out, number as u32);
     }
     push_digits(out, number / 0x1_0000)?;
     push_four_digits(out, (number % 0x1_0000) as u16)
+}
+
+// The same of a number of at most eight digits.
+fn push_few_digits<W: Write>(out: &mut Output<'_, W>, number: u32) -> Result<(), WriteError>
+    requires { IsClear out.old }
+    ensures { Puts W.contents out.old out.new (hexadecimal number) result }
+{
+    if number < 0x1_0000 {
+        push_first_digits(out, number as u16)
+    } else {
+        push_next_digits(out, (number / 0x1_0000) as u16, (number % 0x1_0000) as u16)
+    }
 }
 
 // The same of a number of at most four digits. Each length is an append of its own, since a constant number of bytes is
@@ -189,6 +200,18 @@ fn push_great_depth<W: Write>(out: &mut Output<'_, W>, depth: u64) -> Result<(),
     out.append(b"> ")
 }
 
+// Appends a label without the padding behind it.
+#[inline(always)]
+fn push_label<W: Write>(out: &mut Output<'_, W>, label: &str) -> Result<(), WriteError>
+    requires clear { IsClear out.old }
+    requires long { 32 ≤ length label.now }
+    requires short { length label.now ≤ 56 }
+    ensures { Puts W.contents out.old out.new (take (length label.now - 24) label.now) result }
+{
+    let bytes = label.as_bytes();
+    out.append_front(&bytes[..32], bytes.len() - PADDING)
+}
+
 /// Appends a space, and the tag as `DW_TAG_` and its name, or its number where it has no name.
 #[inline(always)]
 pub(crate) fn push_tag<W: Write>(out: &mut Output<'_, W>, tag: u64) -> Result<(), WriteError>
@@ -196,7 +219,7 @@ pub(crate) fn push_tag<W: Write>(out: &mut Output<'_, W>, tag: u64) -> Result<()
     ensures { Puts W.contents out.old out.new (codes " " ++ tag_text tag) result }
 {
     match tag_label(tag) {
-        Some(label) => out.append(label.as_bytes()),
+        Some(label) => push_label(out, label),
         None => push_labelled(out, b" DW_TAG_", tag),
     }
 }
@@ -211,7 +234,7 @@ pub(crate) fn push_attribute<W: Write>(
     ensures { Puts W.contents out.old out.new (codes "\n  " ++ (attribute_text attribute ++ codes " ")) result }
 {
     match attribute_label(attribute) {
-        Some(label) => out.append(label.as_bytes()),
+        Some(label) => push_label(out, label),
         None => push_unnamed(out, attribute),
     }
 }

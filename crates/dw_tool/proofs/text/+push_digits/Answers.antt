@@ -8,19 +8,12 @@ pub returns-in_err-push_digits : goal.returns-in_err-push_digits
 returns-in_err-push_digits g t c =
     let r = c.from_residual.result in
     let n = c.args.number in
-    subst (λ (text : List ℕ). Puts g.W.Write.contents c.args.out.now c.push_digits.new.out (48 ∷ 120 ∷ text) r) (sym (hexadecimal_behind n (omega (arith, c.if-number-lt65536.false)) (omega (arith, c.ranges.number.fits))))
+    subst (λ (text : List ℕ). Puts g.W.Write.contents c.args.out.now c.push_digits.new.out (48 ∷ 120 ∷ text) r) (sym (hexadecimal_behind n (omega (arith, c.if-number-lt4294967296.false)) (omega (arith, c.ranges.number.fits))))
     (puts_stopped g.W.Write.contents r _ (hexadecimal (n / 16 ^ 4)) (four_digits (n % 16 ^ 4)) _ c.from_residual.ensures.1 c.in_err-push_digits.ensures)
-
-pub returns-then-number-lt4294967296 : goal.returns-then-number-lt4294967296
-returns-then-number-lt4294967296 g t c =
-    let r = c.push_next_digits.result in
-    let n = c.args.number in
-    subst (λ (text : List ℕ). Puts g.W.Write.contents c.args.out.now c.push_next_digits.new.out (48 ∷ 120 ∷ text) r) (sym (hexadecimal_behind n (omega (arith, c.if-number-lt65536.false)) (omega (arith, c.ranges.number.fits))))
-    c.push_next_digits.ensures
 
 pub returns : goal.returns
 returns g t c =
     let r = c.push_four_digits.result in
     let n = c.args.number in
-    subst (λ (text : List ℕ). Puts g.W.Write.contents c.args.out.now c.push_four_digits.new.out (48 ∷ 120 ∷ text) r) (sym (hexadecimal_behind n (omega (arith, c.if-number-lt65536.false)) (omega (arith, c.ranges.number.fits))))
+    subst (λ (text : List ℕ). Puts g.W.Write.contents c.args.out.now c.push_four_digits.new.out (48 ∷ 120 ∷ text) r) (sym (hexadecimal_behind n (omega (arith, c.if-number-lt4294967296.false)) (omega (arith, c.ranges.number.fits))))
     (puts_after g.W.Write.contents r _ _ (hexadecimal (n / 16 ^ 4)) (four_digits (n % 16 ^ 4)) _ c.in_ok-push_digits.ensures c.push_four_digits.ensures)
