@@ -1,5 +1,5 @@
 -- Where items of a section start, and what references name there.
-use Rattle.std.proofs.Common.{◌≡◌, ℕ, zero, suc, ◌+◌, List, [], ◌∷◌, length, take, drop, Option, Some, None, refl, sym, ap, subst, arith}
+use Rattle.std.proofs.Common.{◌≡◌, ℕ, zero, suc, ◌+◌, List, [], ◌∷◌, ◌++◌, length, take, drop, Option, Some, None, refl, sym, ap, subst, arith}
 use Rattle.std.specs.Prelude.{Ok, Err, IsSome, IfOk, is_some, slice_get, Bool, true, false, ◌==◌, if◌then◌else◌}
 use Rattle.std.proofs.lemmas.List.{length-append}
 use Rattle.dw_form.specs.Form.{at_number}
@@ -12,7 +12,10 @@ use Rattle.dw_section.specs.Reference.{Target, named, ref_forms}
 use Rattle.dw_section.specs.Lookup.{known_of, unit_at, starts_from, start_of, entry}
 use Rattle.dw_section.specs.Found.{InUnit, entry_in_unit}
 use Rattle.dw_strings.specs.Text.{StringSections, stored_forms}
-use Rattle.dw_tool.specs.Show.{named_quoted, start_at, stored_text, target_if, target_of, target_text, text_if}
+use Rattle.dw_tool.specs.declared.output.Output.{Output}
+use Rattle.dw_tool.specs.Output.{IsClear, Puts}
+use Rattle.dw_tool.specs.Show.{named_behind, named_quoted, start_at, stored_text, target_if, target_of, target_text, text_if}
+use Rattle.dw_tool.proofs.Appending.{puts_nothing}
 
 -- ---- starts
 
@@ -94,3 +97,12 @@ none_stored strings items item a none = by (a.form == 0x08) (unit_at items item)
 pub none_is : {X : Type 0} (o : Option X) → is_some o ≡ false → o ≡ None
 none_is None e = refl
 none_is (Some x) e = absurd cc
+
+-- a value under a form of neither names nothing
+pub nothing_named : {W : Type 0} (contents : W → Option (List ℕ)) (strings : StringSections) (items : List Item) (item : ℕ) (a : LentAttribute) (out : Output W)
+    → is_some (at_number a.form ref_forms) ≡ false → is_some (at_number a.form stored_forms) ≡ false → IsClear out → Puts {X = Unit {0}} contents out out (named_behind strings items item a) (Ok tt)
+nothing_named contents strings items item a out entry text clear =
+    let no_entry = no_target items item a (none_is (at_number a.form ref_forms) entry) in
+    let no_text = none_stored strings items item a (none_is (at_number a.form stored_forms) text) in
+    subst (λ (t : List ℕ). Puts contents out out (t ++ stored_text strings items item a) (Ok tt)) (sym no_entry)
+    (subst (λ (t : List ℕ). Puts contents out out t (Ok tt)) (sym no_text) (puts_nothing contents out clear))

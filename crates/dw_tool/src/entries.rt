@@ -181,7 +181,7 @@ fn push_named_by_number<W: Write>(
     if !can_name(number.form) {
         return Ok(());
     }
-    push_named(out, section, strings, begins, from, &number.attribute())
+    push_entry_and_text(out, section, strings, begins, from, &number.attribute())
 }
 
 /// Appends a newline, and the line of an attribute of an entry without its own: its name, and its value in its place.
@@ -220,8 +220,29 @@ fn push_placed_value<W: Write>(
     push_named(out, section, strings, begins, from, attribute)
 }
 
-/// Appends what the value of an attribute of an entry names: an entry or a text.
+/// Appends what the value of an attribute of an entry names: an entry or a text. Most values name nothing.
+#[inline(always)]
 fn push_named<W: Write>(
+    out: &mut Output<'_, W>,
+    section: &Section,
+    strings: &Strings<'_>,
+    begins: &Begins,
+    from: EntryId,
+    attribute: &AttrRef<'_>,
+) -> Result<(), WriteError>
+    requires clear { IsClear out.old }
+    requires unit { IsSome (unit_at section.now.items from.item) }
+    requires begins { BeginIn section.now.items from.item begins.now }
+    ensures { Puts W.contents out.old out.new (named_behind (sections_of strings.now) section.now.items from.item (attr_of attribute.now)) result }
+{
+    if !can_name(attribute.form) {
+        return Ok(());
+    }
+    push_entry_and_text(out, section, strings, begins, from, attribute)
+}
+
+/// Appends the entry that the value of an attribute of an entry names, and the text that it names.
+fn push_entry_and_text<W: Write>(
     out: &mut Output<'_, W>,
     section: &Section,
     strings: &Strings<'_>,
