@@ -4,5 +4,6 @@ pub mod Pieces
 pub mod Finding
 pub mod Named
 mod Buffered
+mod TwoDigits
 mod ShowRows
 pub mod Writing

@@ -23,6 +23,10 @@ abbrev pub four_digits : ℕ → List ℕ
 four_digits number =
     digit_glyph false (number / 16 ^ 3 % 16) ∷ digit_glyph false (number / 16 ^ 2 % 16) ∷ digit_glyph false (number / 16 % 16) ∷ digit_glyph false (number % 16) ∷ []
 
+-- the number in eight of them
+abbrev pub eight_digits : ℕ → List ℕ
+eight_digits number = two_digits (number / 16 ^ 6) ++ (two_digits (number / 16 ^ 4 % 256) ++ (two_digits (number / 256 % 256) ++ two_digits (number % 256)))
+
 -- a tag, and an attribute, by its name or else its number
 abbrev pub tag_text : ℕ → List ℕ
 tag_text tag = codes "DW_TAG_" ++ unwrap_or (name_in tag_names tag) (hexadecimal tag)

@@ -1,10 +1,10 @@
 //! The texts of numbers, names and bytes, each appended to an output. Each call returns the writer's fault
 //! where there is one, as `Output::append` does.
 ghost use Rattle.std.specs.Prelude.{◌≡◌, ◌<◌, ◌≤◌, ◌-◌, ◌%◌, ◌++◌, ◌∷◌, [], ℕ, length, take, IsTrue, codes, decimal, false};
-ghost use Rattle.std.specs.Fmt.{digit_glyph, signed_decimal};
+ghost use Rattle.std.specs.Fmt.{digit_glyph, digits, signed_decimal};
 ghost use Rattle.dw_tool.specs.Output.{Puts, IsClear};
 ghost use Rattle.dw_tool.specs.Pieces.{attribute_label, depth_text};
-ghost use Rattle.dw_tool.specs.Text.{attribute_text, block, each, escaped, four_digits, hexadecimal, labelled, labelled_decimal, quoted, spaced_digits, tag_text, two_digits};
+ghost use Rattle.dw_tool.specs.Text.{attribute_text, block, each, eight_digits, escaped, four_digits, hexadecimal, labelled, labelled_decimal, quoted, spaced_digits, tag_text, two_digits};
 
 use crate::names::{PADDING, attribute_label, tag_label};
 use crate::output::Output;
@@ -13,6 +13,10 @@ use itoa::Buffer;
 use std::io::Write;
 
 const HEXADECIMAL_DIGITS: [u8; 16] = *b"0123456789abcdef";
+
+// The two hexadecimal digits of each byte, of 0 first.
+const TWO_DIGITS: [u8; 512] =
+    *b"000102030405060708090a0b0c0d0e0f101112131415161718191a1b1c1d1e1f202122232425262728292a2b2c2d2e2f303132333435363738393a3b3c3d3e3f404142434445464748494a4b4c4d4e4f505152535455565758595a5b5c5d5e5f606162636465666768696a6b6c6d6e6f707172737475767778797a7b7c7d7e7f808182838485868788898a8b8c8d8e8f909192939495969798999a9b9c9d9e9fa0a1a2a3a4a5a6a7a8a9aaabacadaeafb0b1b2b3b4b5b6b7b8b9babbbcbdbebfc0c1c2c3c4c5c6c7c8c9cacbcccdcecfd0d1d2d3d4d5d6d7d8d9dadbdcdddedfe0e1e2e3e4e5e6e7e8e9eaebecedeeeff0f1f2f3f4f5f6f7f8f9fafbfcfdfeff";
 
 /// Appends `0x` and the number in lower-case hexadecimal digits, with no leading zeros.
 #[inline(always)]
@@ -46,61 +50,50 @@ fn push_digits<W: Write>(out: &mut Output<'_, W>, number: u128) -> Result<(), Wr
     push_four_digits(out, (number % 0x1_0000) as u16)
 }
 
-// The same of a number of at most eight digits.
+// The same of a number of at most eight digits. All eight places are moved, and those that the number has are counted.
 fn push_few_digits<W: Write>(out: &mut Output<'_, W>, number: u32) -> Result<(), WriteError>
     requires { IsClear out.old }
     ensures { Puts W.contents out.old out.new (hexadecimal number) result }
 {
-    if number < 0x1_0000 {
-        push_first_digits(out, number as u16)
-    } else {
-        push_next_digits(out, (number / 0x1_0000) as u16, (number % 0x1_0000) as u16)
-    }
+    let (moved, count) = moved_to_front(number);
+    let first = digits_of((moved / 0x100_0000) as u8);
+    let second = digits_of((moved / 0x1_0000 % 0x100) as u8);
+    let third = digits_of((moved / 0x100 % 0x100) as u8);
+    let fourth = digits_of((moved % 0x100) as u8);
+    out.append_front(
+        &[
+            b'0', b'x', first[0], first[1], second[0], second[1], third[0], third[1], fourth[0],
+            fourth[1],
+        ],
+        2 + count,
+    )
 }
 
-// The same of a number of at most four digits. Each length is an append of its own, since a constant number of bytes is
-// moved at once.
+// The number with its first digit at the first of eight places, and how many digits it has.
 #[inline(always)]
-fn push_first_digits<W: Write>(out: &mut Output<'_, W>, number: u16) -> Result<(), WriteError>
-    requires { IsClear out.old }
-    ensures { Puts W.contents out.old out.new (hexadecimal number) result }
+fn moved_to_front(number: u32) -> (u32, usize)
+    ensures few { result.1 ≤ 8 }
+    ensures digits { digits 16 false number ≡ take result.1 (eight_digits result.0) }
 {
-    let one = last_digit(number);
-    let two = last_digit(number / 0x10);
-    let three = last_digit(number / 0x100);
-    let four = last_digit(number / 0x1000);
     match number {
-        0..=0xf => out.append(&[b'0', b'x', one]),
-        0x10..=0xff => out.append(&[b'0', b'x', two, one]),
-        0x100..=0xfff => out.append(&[b'0', b'x', three, two, one]),
-        _ => out.append(&[b'0', b'x', four, three, two, one]),
+        0..=0xf => (number * 0x1000_0000, 1),
+        0x10..=0xff => (number * 0x100_0000, 2),
+        0x100..=0xfff => (number * 0x10_0000, 3),
+        0x1000..=0xffff => (number * 0x1_0000, 4),
+        0x1_0000..=0xf_ffff => (number * 0x1000, 5),
+        0x10_0000..=0xff_ffff => (number * 0x100, 6),
+        0x100_0000..=0xfff_ffff => (number * 0x10, 7),
+        _ => (number, 8),
     }
 }
 
-// The same of the first of two numbers, and behind it four digits of the second, as one piece.
+// The two hexadecimal digits of the byte.
 #[inline(always)]
-fn push_next_digits<W: Write>(
-    out: &mut Output<'_, W>,
-    first: u16,
-    next: u16,
-) -> Result<(), WriteError>
-    requires { IsClear out.old }
-    ensures { Puts W.contents out.old out.new (hexadecimal first ++ four_digits next) result }
+fn digits_of(byte: u8) -> [u8; 2]
+    ensures { result ≡ two_digits byte }
 {
-    let one = last_digit(next);
-    let two = last_digit(next / 0x10);
-    let three = last_digit(next / 0x100);
-    let four = last_digit(next / 0x1000);
-    let five = last_digit(first);
-    let six = last_digit(first / 0x10);
-    let seven = last_digit(first / 0x100);
-    let eight = last_digit(first / 0x1000);
-    match first {
-        0..=0xf => out.append(&[b'0', b'x', five, four, three, two, one]),
-        0x10..=0xff => out.append(&[b'0', b'x', six, five, four, three, two, one]),
-        0x100..=0xfff => out.append(&[b'0', b'x', seven, six, five, four, three, two, one]),
-        _ => out.append(&[b'0', b'x', eight, seven, six, five, four, three, two, one]),
-    }
+    let at = 2 * usize::from(byte);
+    [TWO_DIGITS[at], TWO_DIGITS[at + 1]]
 }
 
 // Appends the number in four hexadecimal digits.
@@ -109,12 +102,9 @@ fn push_four_digits<W: Write>(out: &mut Output<'_, W>, number: u16) -> Result<()
     requires { IsClear out.old }
     ensures { Puts W.contents out.old out.new (four_digits number) result }
 {
-    out.append(&[
-        last_digit(number / 0x1000),
-        last_digit(number / 0x100),
-        last_digit(number / 0x10),
-        last_digit(number),
-    ])
+    let first = digits_of((number / 0x100) as u8);
+    let second = digits_of((number % 0x100) as u8);
+    out.append(&[first[0], first[1], second[0], second[1]])
 }
 
 /// Appends the number in decimal digits.
@@ -271,14 +261,6 @@ pub(crate) fn push_block<W: Write>(out: &mut Output<'_, W>, bytes: &[u8]) -> Res
     push_spaced_digits(out, bytes)
 }
 
-// The last hexadecimal digit of the number.
-#[inline(always)]
-fn last_digit(number: u16) -> u8
-    ensures { result ≡ digit_glyph false (number % 16) }
-{
-    hexadecimal_digit((number % 16) as u8)
-}
-
 #[inline(always)]
 fn hexadecimal_digit(value: u8) -> u8
     requires { value < 16 }
@@ -291,7 +273,7 @@ fn push_two_digits<W: Write>(out: &mut Output<'_, W>, byte: u8) -> Result<(), Wr
     requires { IsClear out.old }
     ensures { Puts W.contents out.old out.new (two_digits byte) result }
 {
-    out.append(&[hexadecimal_digit(byte / 16), hexadecimal_digit(byte % 16)])
+    out.append(&digits_of(byte))
 }
 
 fn push_spaced_digits<W: Write>(out: &mut Output<'_, W>, bytes: &[u8]) -> Result<(), WriteError>

@@ -1,4 +1,4 @@
-use Rattle.std.proofs.Common.{◌≡◌, ◌≤◌, ◌-◌, List, ℕ, arith, length, subst, sym, take, ap, ◌∙◌}
+use Rattle.std.proofs.Common.{◌≤◌, ◌-◌, List, ℕ, arith, length, subst, sym, take, ap, ◌∙◌}
 use Rattle.std.proofs.lemmas.List.{length-take-le, take-take}
 use Rattle.dw_tool.specs.Output.{Puts}
 use Rattle.dw_tool.proofs.text.push_label.Goals as goal

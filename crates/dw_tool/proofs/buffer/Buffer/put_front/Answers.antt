@@ -1,4 +1,4 @@
-use Rattle.std.proofs.Common.{◌≡◌, ◌∙◌, ◌≤◌, ◌+◌, ◌-◌, ◌++◌, List, ℕ, ap, arith, length, take}
+use Rattle.std.proofs.Common.{◌∙◌, ◌≤◌, ◌+◌, ◌-◌, ◌++◌, List, ℕ, ap, arith, length, take}
 use borrow.Rule.Slice.PartMut.{put_mid}
 use Rattle.dw_tool.proofs.Buffered.{grown}
 use Rattle.dw_tool.proofs.buffer.Buffer.put_front.Goals as goal
