@@ -4,7 +4,7 @@
 Usage: scripts/bench.py PROGRAM FILE
 
 PROGRAM is the built `dwarf` (crates/dwarf/out/dwarf). FILE is linked and has at least 20 MB of `.debug_info`, as
-a C++ program of some twenty sources that include much of the standard library. Printed are, for each run, the
+a C++ program of some twenty sources that include much of the standard library. Printed are, for the fastest of a few runs, the
 seconds of processor, the megabytes of `.debug_info` a second, the peak memory of the process, and that peak by
 the section's bytes; the same of `readelf --debug-dump=info` and `llvm-dwarfdump --debug-info` where they are there;
 the seconds over 1, 2, 4 and 8 copies of the section, one behind the other; and the memory that each of 100,000 units
@@ -24,6 +24,9 @@ OTHERS = [["readelf", "--debug-dump=info"], ["llvm-dwarfdump", "--debug-info"]]
 
 # The most memory, in bytes for each byte of the section, and for each unit besides its entries.
 PEAK, UNIT = 7, 400
+
+# How often a command is run; the fewest seconds count.
+RUNS = 12
 
 # A table of one declaration without attributes, and a unit of 20 bytes: its root, and the padding behind it.
 TABLE = bytes.fromhex("0111000000" + "00")
@@ -66,7 +69,7 @@ def commands(program, file, room):
     print(f"{size} bytes\n\n| Run | Seconds | MB a second | Peak (MB) | Peak a byte |\n|---|--:|--:|--:|--:|")
     well = True
     for command in "copy", "show":
-        seconds, peak, is_well = best([dwarf(program, command, room, kept=command == "copy") for _ in range(3)])
+        seconds, peak, is_well = best([dwarf(program, command, room, kept=command == "copy") for _ in range(RUNS)])
         line(f"`dwarf {command}`", size, seconds, peak)
         well = well and is_well and peak <= PEAK * size
     well = well and is_copy(room)
@@ -87,8 +90,9 @@ def copies(program, room):
     for count in 1, 2, 4, 8:
         with open(f"{room}/copies", "wb") as out:
             out.writelines([section] * count)
+        # a short run is disturbed by more, so it has more tries
         for command in "copy", "show":
-            took[command, count] = best([dwarf(program, command, room, info="copies") for _ in range(3)])[0]
+            took[command, count] = best([dwarf(program, command, room, info="copies") for _ in range(24 // count)])[0]
         print(f"| {count} | {took['copy', count]:.2f} | {took['show', count]:.2f} |")
     return all(abs(took[it, 8] / 8 - took[it, 1]) <= 0.1 * took[it, 1] for it in ("copy", "show"))
 
