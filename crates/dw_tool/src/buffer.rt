@@ -1,5 +1,5 @@
 //! Bytes that are still to be written.
-ghost use Rattle.std.specs.Prelude.{◌≡◌, ◌≤◌, [], ◌++◌, length, take, IsTrue, IsFalse};
+ghost use Rattle.std.specs.Prelude.{◌≡◌, ◌<◌, ◌≤◌, ◌+◌, [], ◌++◌, length, take, IsTrue, IsFalse};
 
 use std::marker::Model;
 
@@ -55,13 +55,14 @@ impl Buffer {
         self.used = 0;
     }
 
-    /// Puts the first `count` of the bytes behind those in it, where there is room for all the bytes. Else nothing is
-    /// changed, and the answer is false. All are moved, and those behind the first `count` stand for nothing.
+    /// Puts the first `count` of the bytes behind those in it, where there is room for all the bytes. Else, and only then,
+    /// the answer is false, and nothing is changed. All are moved, and those behind the first `count` stand for nothing.
     #[inline(always)]
     pub(crate) fn put_front(&mut self, bytes: &[u8], count: usize) -> bool
         requires { count ≤ length bytes.now }
         ensures put { IsTrue result → self.new ≡ self.old ++ take count bytes.now }
         ensures same { IsFalse result → self.new ≡ self.old }
+        ensures full { IsFalse result → 16384 < length self.old + length bytes.now }
     {
         if SIZE - self.used < bytes.len() {
             return false;
