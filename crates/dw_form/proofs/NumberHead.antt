@@ -11,12 +11,12 @@ use Rattle.dw_form.specs.declared.shape.Shape.{Shape}
 use Rattle.dw_form.specs.declared.shape.Shape.TheVariants as shapes
 use Rattle.dw_form.specs.Form.{Value, Uleb, Sleb, shape}
 use Rattle.dw_form.specs.ReadForm.{fixed_from}
-use Rattle.dw_form.specs.Head.{head_at, number_in, both_found, via_at, uleb_at, and_so, behind_via, by_via, by_shape, by_content, has_content, placed_at, with_count, with_part, count_at, fixed_at, part_at}
+use Rattle.dw_form.specs.Head.{head_at, number_by_head, both_found, via_at, uleb_at, and_so, behind_via, by_via, by_shape, by_content, has_content, placed_at, with_count, with_part, count_at, fixed_at, part_at}
 use Rattle.dw_form.proofs.PlainHead.{not_indirect}
 
 -- the number that a value of its own form is
 abbrev number_of : Option (Value × ℕ) → Option (ℕ × ℕ)
-number_of o = number_in (behind_via None o)
+number_of o = number_by_head (behind_via None o)
 
 -- a shape under which no value is such a number
 abbrev pub HasNoNumber : Shape → Type 0
@@ -84,20 +84,20 @@ module _ (k : Ctx) (c : Option Signed) (b pool : List ℕ) where
   shapes_no (Some s) e = shape_no s e
 
 -- a value that names a form is none
-via_no : (u : Unsigned) (o : Option (Value × ℕ)) → number_in (behind_via (Some u) o) ≡ None
+via_no : (u : Unsigned) (o : Option (Value × ℕ)) → number_by_head (behind_via (Some u) o) ≡ None
 via_no u None = refl
 via_no u (Some x) = refl
 
 -- no number stands under a form of such a shape, or of none
-pub no_number : (k : Ctx) (form : ℕ) (c : Option Signed) (b pool : List ℕ) (o : Option Shape) → shape form k.address_size k.format ≡ o → HaveNoNumber o → None ≡ number_in (head_at k form c b pool)
+pub no_number : (k : Ctx) (form : ℕ) (c : Option Signed) (b pool : List ℕ) (o : Option Shape) → shape form k.address_size k.format ≡ o → HaveNoNumber o → None ≡ number_by_head (head_at k form c b pool)
 unfolding head_at
 no_number k form c b pool o is none = sym (by (form == 0x16))
   where
-    named : (o : Option Unsigned) → number_in (and_so (option_map (λ u. Some u) o) (by_via k form c b pool)) ≡ None
+    named : (o : Option Unsigned) → number_by_head (and_so (option_map (λ u. Some u) o) (by_via k form c b pool)) ≡ None
     named None = refl
     named (Some u) = via_no u (by_shape k None (drop u.width b) pool (shape u.value k.address_size k.format))
 
-    by : (d : Bool) → number_in (and_so (via_at d b) (by_via k form c b pool)) ≡ None
+    by : (d : Bool) → number_by_head (and_so (via_at d b) (by_via k form c b pool)) ≡ None
     by true = named (uleb_at b)
     by false = ap (λ (o : Option Shape). number_of (by_shape k c b pool o)) is ∙ shapes_no k c b pool o none
 
@@ -115,6 +115,6 @@ not_fixed shapes.Indirect other = tt
 
 -- nor where the bytes of a fixed number are broken
 pub broken_no : (k : Ctx) (form : ℕ) (c : Option Signed) (b pool : List ℕ) (n offset : ℕ) (reason : Reason) → shape form k.address_size k.format ≡ Some (shapes.Fixed n)
-    → read_fixed k.order n b (length b) ≡ Broken offset reason → None ≡ number_in (head_at k form c b pool)
+    → read_fixed k.order n b (length b) ≡ Broken offset reason → None ≡ number_by_head (head_at k form c b pool)
 unfolding head_at
 broken_no k form c b pool n offset reason h broken = rw (not_indirect form k.address_size k.format (shapes.Fixed n) h (λ e. cc), h, broken) refl

@@ -141,6 +141,6 @@ abbrev pub own_number : Attribute → Option ℕ
 own_number a = number_if a.via a.value
 
 -- the same of the value that a head gives, with the size of the head
-abbrev pub number_in : Option (Attribute × ℕ) → Option (ℕ × ℕ)
-number_in None = None
-number_in (Some x) = option_map (λ n. (n, x.1)) (own_number x.0)
+abbrev pub number_by_head : Option (Attribute × ℕ) → Option (ℕ × ℕ)
+number_by_head None = None
+number_by_head (Some x) = option_map (λ n. (n, x.1)) (own_number x.0)

@@ -10,7 +10,7 @@ ghost use Rattle.dw_form.specs.Pieces.{form_in, HasSpelling, spelling};
 ghost use Rattle.dw_form.specs.HeadSize.{finder_size, content_count};
 ghost use Rattle.dw_form.specs.StoredView.{bytes_in};
 ghost use Rattle.dw_form.specs.Lent.{value_of, attribute_of};
-ghost use Rattle.dw_form.specs.Head.{head, head_at, number_in, Lies, fixed_at, uleb_at, count_at, part_at, placed_at, spelled_at, own_constant, has_content, via_at, via_width, by_content, by_shape, by_via};
+ghost use Rattle.dw_form.specs.Head.{head, head_at, number_by_head, Lies, fixed_at, uleb_at, count_at, part_at, placed_at, spelled_at, own_constant, has_content, via_at, via_width, by_content, by_shape, by_via};
 
 use crate::lend::{number, shaped, unsigned};
 use crate::shape::{Ctx, Shape};
@@ -301,7 +301,7 @@ pub fn lend_head<'a>(
 #[inline(always)]
 pub fn lend_number(ctx: Ctx, form: u64, heads: &[u8]) -> Option<(u64, usize)>
     requires { IsContext ctx }
-    ensures exact { (c : Option Signed) (pool : List ℕ) → result ≡ number_in (head_at ctx form c heads.now pool) }
+    ensures exact { (c : Option Signed) (pool : List ℕ) → result ≡ number_by_head (head_at ctx form c heads.now pool) }
     ensures found { IfSome result (λ x. (c : Option Signed) (pool : List ℕ) →
         head_at ctx form c heads.now pool ≡ Some (record { via = None; value = Num x.0 }, x.1)) }
     ensures put { IfSome result (λ x. (c : Option Signed) (a : Attribute) (start : ℕ) (pool rest : List ℕ) →
@@ -318,7 +318,7 @@ pub fn lend_number(ctx: Ctx, form: u64, heads: &[u8]) -> Option<(u64, usize)>
 #[inline(always)]
 fn number_by_form(ctx: Ctx, form: u64, heads: &[u8]) -> Option<(u64, usize)>
     requires { IsContext ctx }
-    ensures exact { (c : Option Signed) (pool : List ℕ) → result ≡ number_in (head_at ctx form c heads.now pool) }
+    ensures exact { (c : Option Signed) (pool : List ℕ) → result ≡ number_by_head (head_at ctx form c heads.now pool) }
     ensures found { IfSome result (λ x. (c : Option Signed) (pool : List ℕ) →
         head_at ctx form c heads.now pool ≡ Some (record { via = None; value = Num x.0 }, x.1)) }
     ensures room { IfSome result (λ x. x.1 ≤ length heads.now) }
