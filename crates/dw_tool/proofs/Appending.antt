@@ -1,18 +1,15 @@
 -- Texts that are appended to an output, one after the other.
-use Rattle.std.proofs.Common.{◌≡◌, ◌∙◌, ℕ, zero, suc, ◌+◌, ◌/◌, ◌%◌, ◌^◌, ◌<◌, ◌≤◌, Bool, true, false, List, [], ◌∷◌, ◌++◌, length, take, drop, get_or, Option, Result, Ok, Err, inl, inr, refl, sym, subst, ap, append_assoc, append-nil, arith}
+use Rattle.std.proofs.Common.{◌≡◌, ◌∙◌, ℕ, zero, suc, ◌+◌, ◌<◌, Bool, true, false, List, [], ◌∷◌, ◌++◌, length, take, drop, get_or, Option, Result, Ok, Err, refl, sym, subst, ap, append_assoc, append-nil, arith}
 use Rattle.std.proofs.Math.Seq.{take-suc}
-use Rattle.std.specs.Prelude.{IsErrAnd, IsTrue, ◌&&◌, cond}
-use Rattle.std.specs.Fmt.{digits, digits_onto, digit_glyph}
+use Rattle.std.specs.Prelude.{IsErrAnd, IsTrue, ◌&&◌}
 use Rattle.std.specs.Io.KnownBytes.{Appends}
-use Rattle.std.proofs.lemmas.Bool.{cases_lt}
-use borrow.Author.Tests.{eq-eqb, ne_eqb}
 use Rattle.dw_leb.specs.declared.errors.WriteError.{WriteError}
 use Rattle.dw_leb.specs.declared.watch.Watched.{Watched}
 use Rattle.dw_leb.specs.Watch.{AppendsFront, Wrote, inner_of, writer_fault}
 use Rattle.dw_leb.specs.Transfers.{appends_more, appends_none, front_behind, front_of_both}
 use Rattle.dw_tool.specs.declared.output.Output.{Output}
 use Rattle.dw_tool.specs.Output.{IsClear, Passes, Puts, buffered, writer_of}
-use Rattle.dw_tool.specs.Text.{each, four_digits}
+use Rattle.dw_tool.specs.Text.{each}
 
 -- what is written of two texts
 both : (w1 w2 x y z a b : List ℕ) → w1 ++ y ≡ x ++ a → w2 ++ z ≡ y ++ b → (w1 ++ w2) ++ z ≡ x ++ (a ++ b)
@@ -138,87 +135,6 @@ each_same f xs i lt before own =
 pub both_true : (p q : Bool) → IsTrue (p && q) → IsTrue p × IsTrue q
 both_true true q h = (refl, h)
 both_true false q h = absurd cc
-
--- ---- hexadecimal digits
-
-abbrev spell : ℕ → ℕ → List ℕ → List ℕ
-spell k n acc = digits_onto k 16 false n acc
-
-abbrev last : ℕ → ℕ
-last n = digit_glyph false (n % 16)
-
-spell_last : (k n : ℕ) (acc : List ℕ) → n < 16 → spell (suc k) n acc ≡ last n ∷ acc
-spell_last k n acc h = ap (λ (t : Bool). cond t (last n ∷ acc) (spell k (n / 16) (last n ∷ acc))) (eq-eqb (n / 16) 0 (omega arith))
-
-spell_next : (k n : ℕ) (acc : List ℕ) → 16 ≤ n → spell (suc k) n acc ≡ spell k (n / 16) (last n ∷ acc)
-spell_next k n acc h = ap (λ (t : Bool). cond t (last n ∷ acc) (spell k (n / 16) (last n ∷ acc))) (ne_eqb (n / 16) 0 (λ e. omega arith))
-
-spell-append : (k n : ℕ) (acc : List ℕ) → spell k n acc ≡ spell k n [] ++ acc
-spell-append zero n acc = refl
-spell-append (suc k) n acc = elim (cases_lt n 16) [
-  | inl l ↦ spell_last k n acc l ∙ ap (λ (x : List ℕ). x ++ acc) (sym (spell_last k n [] l))
-  | inr l ↦ spell_next k n acc l ∙ spell-append k (n / 16) (last n ∷ acc) ∙ sym (append_assoc (spell k (n / 16) []) (last n ∷ []) acc) ∙ ap (λ (x : List ℕ). x ++ acc) (sym (spell_next k n [] l ∙ spell-append k (n / 16) (last n ∷ [])))
-]
-
-spell_enough : (j k n : ℕ) (acc : List ℕ) → n < 16 ^ suc j → n < 16 ^ suc k → spell (suc j) n acc ≡ spell (suc k) n acc
-spell_enough zero k n acc p q = spell_last zero n acc (omega arith) ∙ sym (spell_last k n acc (omega arith))
-spell_enough (suc j) zero n acc p q = spell_last (suc j) n acc (omega arith) ∙ sym (spell_last zero n acc (omega arith))
-spell_enough (suc j) (suc k) n acc p q = elim (cases_lt n 16) [
-  | inl l ↦ spell_last (suc j) n acc l ∙ sym (spell_last (suc k) n acc l)
-  | inr l ↦ spell_next (suc j) n acc l ∙ spell_enough j k (n / 16) (last n ∷ acc) (omega arith) (omega arith) ∙ sym (spell_next (suc k) n acc l)
-]
-
-digits_onto-nil : (n : ℕ) → spell 64 n [] ≡ digits 16 false n
-unfolding digits
-digits_onto-nil n = refl
-
--- the digits of a number are those of its sixteenth, and one more
-pub hexadecimal_more : (n : ℕ) → 16 ≤ n → n < 2 ^ 128 → digits 16 false n ≡ digits 16 false (n / 16) ++ digit_glyph false (n % 16) ∷ []
-hexadecimal_more n h small =
-    sym (digits_onto-nil n) ∙ spell_next 63 n [] h ∙ spell_enough 62 63 (n / 16) (last n ∷ []) (omega arith) (omega arith) ∙ spell-append 64 (n / 16) (last n ∷ [])
-    ∙ ap (λ (x : List ℕ). x ++ last n ∷ []) (digits_onto-nil (n / 16))
-
-pub hexadecimal_one : (n : ℕ) → n < 16 → digits 16 false n ≡ last n ∷ []
-hexadecimal_one n h = sym (digits_onto-nil n) ∙ spell_last 63 n [] h
-
-pub hexadecimal_two : (n : ℕ) → 16 ≤ n → n < 16 ^ 2 → digits 16 false n ≡ last (n / 16) ∷ last n ∷ []
-hexadecimal_two n h small = hexadecimal_more n h (omega arith) ∙ ap (λ (t : List ℕ). t ++ last n ∷ []) (hexadecimal_one (n / 16) (omega arith))
-
-pub hexadecimal_three : (n : ℕ) → 16 ^ 2 ≤ n → n < 16 ^ 3 → digits 16 false n ≡ last (n / 16 ^ 2) ∷ last (n / 16) ∷ last n ∷ []
-hexadecimal_three n h small =
-    let e : n / 16 / 16 ≡ n / 16 ^ 2 = omega arith in
-    hexadecimal_more n (omega arith) (omega arith) ∙ ap (λ (t : List ℕ). t ++ last n ∷ []) (hexadecimal_two (n / 16) (omega arith) (omega arith))
-    ∙ ap (λ (k : ℕ). last k ∷ last (n / 16) ∷ last n ∷ []) e
-
-pub hexadecimal_four : (n : ℕ) → 16 ^ 3 ≤ n → n < 16 ^ 4 → digits 16 false n ≡ four_digits n
-hexadecimal_four n h small =
-    let e2 : n / 16 / 16 ≡ n / 16 ^ 2 = omega arith in
-    let e3 : n / 16 / 16 ^ 2 ≡ n / 16 ^ 3 = omega arith in
-    hexadecimal_more n (omega arith) (omega arith) ∙ ap (λ (t : List ℕ). t ++ last n ∷ []) (hexadecimal_three (n / 16) (omega arith) (omega arith))
-    ∙ ap (λ (k : ℕ). last k ∷ last (n / 16 / 16) ∷ last (n / 16) ∷ last n ∷ []) e3 ∙ ap (λ (k : ℕ). last (n / 16 ^ 3) ∷ last k ∷ last (n / 16) ∷ last n ∷ []) e2
-
--- four digits more
-pub hexadecimal_behind : (n : ℕ) → 16 ^ 4 ≤ n → n < 2 ^ 128 → digits 16 false n ≡ digits 16 false (n / 16 ^ 4) ++ four_digits (n % 16 ^ 4)
-hexadecimal_behind n h small =
-    let one : List ℕ = last n ∷ [] in
-    let two : List ℕ = last (n / 16) ∷ one in
-    let three : List ℕ = last (n / 16 ^ 2) ∷ two in
-    let m : ℕ = n % 16 ^ 4 in
-    let e2 : n / 16 / 16 ≡ n / 16 ^ 2 = omega arith in
-    let e3 : n / 16 ^ 2 / 16 ≡ n / 16 ^ 3 = omega arith in
-    let e4 : n / 16 ^ 3 / 16 ≡ n / 16 ^ 4 = omega arith in
-    let d1 : n % 16 ≡ m % 16 = omega arith in
-    let d2 : n / 16 % 16 ≡ m / 16 % 16 = omega arith in
-    let d3 : n / 16 ^ 2 % 16 ≡ m / 16 ^ 2 % 16 = omega arith in
-    let d4 : n / 16 ^ 3 % 16 ≡ m / 16 ^ 3 % 16 = omega arith in
-    let s1 : digits 16 false n ≡ digits 16 false (n / 16) ++ one = hexadecimal_more n (omega arith) small in
-    let s2 : digits 16 false (n / 16) ≡ digits 16 false (n / 16 ^ 2) ++ last (n / 16) ∷ [] = subst (λ (k : ℕ). digits 16 false (n / 16) ≡ digits 16 false k ++ last (n / 16) ∷ []) e2 (hexadecimal_more (n / 16) (omega arith) (omega arith)) in
-    let s3 : digits 16 false (n / 16 ^ 2) ≡ digits 16 false (n / 16 ^ 3) ++ last (n / 16 ^ 2) ∷ [] = subst (λ (k : ℕ). digits 16 false (n / 16 ^ 2) ≡ digits 16 false k ++ last (n / 16 ^ 2) ∷ []) e3 (hexadecimal_more (n / 16 ^ 2) (omega arith) (omega arith)) in
-    let s4 : digits 16 false (n / 16 ^ 3) ≡ digits 16 false (n / 16 ^ 4) ++ last (n / 16 ^ 3) ∷ [] = subst (λ (k : ℕ). digits 16 false (n / 16 ^ 3) ≡ digits 16 false k ++ last (n / 16 ^ 3) ∷ []) e4 (hexadecimal_more (n / 16 ^ 3) (omega arith) (omega arith)) in
-    s1 ∙ ap (λ (t : List ℕ). t ++ one) s2 ∙ append_assoc (digits 16 false (n / 16 ^ 2)) (last (n / 16) ∷ []) one
-    ∙ ap (λ (t : List ℕ). t ++ two) s3 ∙ append_assoc (digits 16 false (n / 16 ^ 3)) (last (n / 16 ^ 2) ∷ []) two
-    ∙ ap (λ (t : List ℕ). t ++ three) s4 ∙ append_assoc (digits 16 false (n / 16 ^ 4)) (last (n / 16 ^ 3) ∷ []) three
-    ∙ rw (d1, d2, d3, d4) refl
 
 -- ---- a text of which a part is to come
 

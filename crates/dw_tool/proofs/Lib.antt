@@ -1,4 +1,5 @@
 pub mod Appending
+mod Digits
 pub mod Placed
 pub mod Pieces
 pub mod Finding

@@ -1,6 +1,6 @@
 //! The texts of numbers, names and bytes, each appended to an output. Each call returns the writer's fault
 //! where there is one, as `Output::append` does.
-ghost use Rattle.std.specs.Prelude.{◌≡◌, ◌<◌, ◌≤◌, ◌-◌, ◌%◌, ◌++◌, ◌∷◌, [], ℕ, length, take, IsTrue, codes, decimal, false};
+ghost use Rattle.std.specs.Prelude.{◌≡◌, ◌<◌, ◌≤◌, ◌-◌, ◌%◌, ◌^◌, ◌++◌, ◌∷◌, [], ℕ, length, take, IsTrue, codes, decimal, false};
 ghost use Rattle.std.specs.Fmt.{digit_glyph, digits, signed_decimal};
 ghost use Rattle.dw_tool.specs.Output.{Puts, IsClear};
 ghost use Rattle.dw_tool.specs.Pieces.{attribute_label, depth_text};
@@ -25,11 +25,6 @@ pub(crate) fn push_hexadecimal<W: Write>(
     requires { IsClear out.old }
     ensures { Puts W.contents out.old out.new (hexadecimal number) result }
 {
-    // Most numbers of entries have one digit.
-    if number < 16 {
-        let digits = digits_of(number as u8);
-        return out.append(&[b'0', b'x', digits[1]]);
-    }
     // Most addresses and offsets have eight digits at most.
     if number < 0x1_0000_0000 {
         return push_few_digits(out, number as u32);
@@ -50,6 +45,7 @@ fn push_digits<W: Write>(out: &mut Output<'_, W>, number: u128) -> Result<(), Wr
 }
 
 // The same of a number of at most eight digits. All eight places are moved, and those that the number has are counted.
+#[inline(always)]
 fn push_few_digits<W: Write>(out: &mut Output<'_, W>, number: u32) -> Result<(), WriteError>
     requires { IsClear out.old }
     ensures { Puts W.contents out.old out.new (hexadecimal number) result }
@@ -74,16 +70,19 @@ fn moved_to_front(number: u32) -> (u32, usize)
     ensures few { result.1 ≤ 8 }
     ensures digits { digits 16 false number ≡ take result.1 (eight_digits result.0) }
 {
-    match number {
-        0..=0xf => (number * 0x1000_0000, 1),
-        0x10..=0xff => (number * 0x100_0000, 2),
-        0x100..=0xfff => (number * 0x10_0000, 3),
-        0x1000..=0xffff => (number * 0x1_0000, 4),
-        0x1_0000..=0xf_ffff => (number * 0x1000, 5),
-        0x10_0000..=0xff_ffff => (number * 0x100, 6),
-        0x100_0000..=0xfff_ffff => (number * 0x10, 7),
-        _ => (number, 8),
-    }
+    let count = digit_count(number);
+    (number << (32 - 4 * count), count as usize)
+}
+
+// How many hexadecimal digits the number has. There is no branch, since the numbers of entries are of every length.
+#[inline(always)]
+fn digit_count(number: u32) -> u32
+    ensures some { 1 ≤ result }
+    ensures few { result ≤ 8 }
+    ensures within { number < 16 ^ result }
+    ensures all { 1 < result → 16 ^ (result - 1) ≤ number }
+{
+    number.max(1).ilog2() / 4 + 1
 }
 
 // The two hexadecimal digits of the byte.

@@ -1,7 +1,8 @@
 use Rattle.std.proofs.Common.{◌∷◌, ◌/◌, ◌%◌, ◌^◌, List, ℕ, subst, sym, arith}
 use Rattle.dw_tool.specs.Output.{Puts}
 use Rattle.dw_tool.specs.Text.{four_digits, hexadecimal}
-use Rattle.dw_tool.proofs.Appending.{hexadecimal_behind, puts_after, puts_stopped}
+use Rattle.dw_tool.proofs.Appending.{puts_after, puts_stopped}
+use Rattle.dw_tool.proofs.Digits.{hexadecimal_behind}
 use Rattle.dw_tool.proofs.text.+push_digits.Goals as goal
 
 pub returns-in_err-push_digits : goal.returns-in_err-push_digits
