@@ -1,7 +1,9 @@
 -- Where items of a section start, and what references name there.
-use Rattle.std.proofs.Common.{◌≡◌, ℕ, zero, suc, ◌+◌, List, [], ◌∷◌, ◌++◌, length, take, drop, Option, Some, None, refl, sym, ap, subst, arith}
-use Rattle.std.specs.Prelude.{Ok, Err, IsSome, IfOk, is_some, slice_get, Bool, true, false, ◌==◌, if◌then◌else◌}
+use Rattle.std.proofs.Common.{◌≡◌, ◌∙◌, ℕ, zero, suc, ◌+◌, List, [], ◌∷◌, ◌++◌, length, take, drop, Option, Some, None, refl, sym, ap, subst, append-nil, arith}
+use Rattle.std.specs.Prelude.{Result, Ok, Err, IsSome, IfOk, is_some, slice_get, Bool, true, false, ◌==◌, if◌then◌else◌}
+use Rattle.std.proofs.lemmas.Bool.{eqb-true}
 use Rattle.std.proofs.lemmas.List.{length-append}
+use Rattle.dw_leb.specs.declared.errors.WriteError.{WriteError}
 use Rattle.dw_form.specs.Form.{at_number}
 use Rattle.dw_form.specs.Lent.{number_in}
 use Rattle.dw_tree.specs.Lent.{EntryAt, LentAttribute}
@@ -14,7 +16,7 @@ use Rattle.dw_section.specs.Found.{InUnit, entry_in_unit}
 use Rattle.dw_strings.specs.Text.{StringSections, stored_forms}
 use Rattle.dw_tool.specs.declared.output.Output.{Output}
 use Rattle.dw_tool.specs.Output.{IsClear, Puts}
-use Rattle.dw_tool.specs.Show.{named_behind, named_quoted, start_at, stored_text, target_if, target_of, target_text, text_if}
+use Rattle.dw_tool.specs.Show.{named_behind, named_quoted, start_at, stored_text, target_if, target_of, target_text, text_if, text_of}
 use Rattle.dw_tool.proofs.Appending.{puts_nothing}
 
 -- ---- starts
@@ -97,6 +99,33 @@ none_stored strings items item a none = by (a.form == 0x08) (unit_at items item)
 pub none_is : {X : Type 0} (o : Option X) → is_some o ≡ false → o ≡ None
 none_is None e = refl
 none_is (Some x) e = absurd cc
+
+-- a number that names a text is not a text itself
+stored_by_number : (form : ℕ) → is_some (at_number form stored_forms) ≡ true → (form == 0x08) ≡ false
+stored_by_number form stored = by (form == 0x08) refl
+  where
+    by : (own : Bool) → (form == 0x08) ≡ own → own ≡ false
+    by false e = refl
+    by true e =
+        let none : false ≡ true = subst (λ (n : ℕ). is_some (at_number n stored_forms) ≡ true) (eqb-true form 0x08 e) stored in
+        absurd cc
+
+-- a value under a form of references has no text behind it
+pub entry_behind : {W X : Type 0} (contents : W → Option (List ℕ)) (r : Result X WriteError) (strings : StringSections) (items : List Item) (item : ℕ) (a : LentAttribute) (old new : Output W)
+    → is_some (at_number a.form stored_forms) ≡ false → Puts contents old new (target_text items (target_of items item a)) r → Puts contents old new (named_behind strings items item a) r
+entry_behind contents r strings items item a old new text h =
+    let entry : List ℕ = target_text items (target_of items item a) in
+    let no_text = none_stored strings items item a (none_is (at_number a.form stored_forms) text) in
+    subst (λ (t : List ℕ). Puts contents old new t r) (sym (append-nil entry) ∙ ap (λ (t : List ℕ). entry ++ t) (sym no_text)) h
+
+-- one under a form of texts has no entry behind it
+pub text_behind : {W X : Type 0} (contents : W → Option (List ℕ)) (r : Result X WriteError) (strings : StringSections) (items : List Item) (item : ℕ) (a : LentAttribute) (old new : Output W)
+    → is_some (at_number a.form ref_forms) ≡ false → is_some (at_number a.form stored_forms) ≡ true → Puts contents old new (named_quoted (text_of strings items item a)) r → Puts contents old new (named_behind strings items item a) r
+text_behind contents r strings items item a old new entry text h =
+    let said : List ℕ = named_quoted (text_of strings items item a) in
+    let no_entry = no_target items item a (none_is (at_number a.form ref_forms) entry) in
+    let stored : stored_text strings items item a ≡ said = ap (λ (own : Bool). if own then [] else said) (stored_by_number a.form text) in
+    subst (λ (t : List ℕ). Puts contents old new t r) (sym stored ∙ ap (λ (t : List ℕ). t ++ stored_text strings items item a) (sym no_entry)) h
 
 -- a value under a form of neither names nothing
 pub nothing_named : {W : Type 0} (contents : W → Option (List ℕ)) (strings : StringSections) (items : List Item) (item : ℕ) (a : LentAttribute) (out : Output W)

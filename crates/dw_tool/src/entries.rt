@@ -1,17 +1,17 @@
 //! The texts of entries and of their attributes, in a section. Each call answers the writer's fault where it
 //! fails, as `Output::append` does.
-ghost use Rattle.std.specs.Prelude.{◌≡◌, ◌+◌, ◌++◌, is_some, IsSome, IfOk, IsFalse, false, codes};
+ghost use Rattle.std.specs.Prelude.{◌≡◌, ◌+◌, ◌++◌, is_some, IsSome, IfOk, codes};
 ghost use Rattle.dw_form.specs.Form.{at_number};
 ghost use Rattle.dw_form.specs.Lent.{value_of};
 ghost use Rattle.dw_tree.specs.Lent.{attr_of, number_of};
-ghost use Rattle.dw_section.specs.Lookup.{start_of, unit_at};
+ghost use Rattle.dw_section.specs.Lookup.{start_of};
 ghost use Rattle.dw_section.specs.Reference.{ref_forms};
 ghost use Rattle.dw_strings.specs.Text.{stored_forms};
 ghost use Rattle.dw_strings.specs.TextView.{sections_of};
 ghost use Rattle.dw_tool.specs.Output.{Puts, IsClear};
-ghost use Rattle.dw_tool.specs.Place.{BeginIn, IsPlace};
+ghost use Rattle.dw_tool.specs.Place.{BeginIn, IsOrigin, IsPlace, is_entry, is_text};
 ghost use Rattle.dw_tool.specs.Pieces.{entry_head, next_attribute, next_attributes};
-ghost use Rattle.dw_tool.specs.Show.{entries_text, entry_text, named_behind, no_text, placed_value, stored_text, target_of, target_text, unresolved, value_text};
+ghost use Rattle.dw_tool.specs.Show.{entries_text, entry_text, named_behind, named_quoted, no_text, placed_value, target_of, target_text, text_of, unresolved, value_text};
 ghost use Rattle.dw_tool.specs.Text.{labelled, quoted};
 
 use crate::output::Output;
@@ -35,6 +35,16 @@ pub(crate) struct Place<'a> {
     pub(crate) item: usize,
     /// Where the unit starts, counted from the section's first byte.
     pub(crate) start: u64,
+}
+
+/// An entry of a unit in its section, beside what the values of its attributes name.
+#[derive(Clone, Copy)]
+struct Origin<'a> {
+    section: &'a Section,
+    strings: &'a Strings<'a>,
+    /// Offsets at which entries of the unit begin.
+    begins: &'a Begins,
+    from: EntryId,
 }
 
 /// Appends the texts of entries of a unit, one after the other. `begins` are offsets at which entries of the unit begin.
@@ -69,18 +79,16 @@ fn push_entry<W: Write>(
     ensures { Puts W.contents out.old out.new (entry_text (sections_of place.now.strings.now) place.now.section.now.items place.now.item entry.now) result }
 {
     push_entry_head(out, place.start, entry)?;
-    let from = EntryId {
-        item: place.item,
-        offset: entry.offset(),
-    };
-    push_attributes(
-        out,
-        place.section,
-        place.strings,
+    let origin = Origin {
+        section: place.section,
+        strings: place.strings,
         begins,
-        from,
-        entry.attrs(),
-    )?;
+        from: EntryId {
+            item: place.item,
+            offset: entry.offset(),
+        },
+    };
+    push_attributes(out, &origin, entry.attrs())?;
     out.append(b"\n")
 }
 
@@ -117,26 +125,22 @@ fn push_offset<W: Write>(
 /// Appends a newline before each attribute of an entry, and its line without its own.
 fn push_attributes<W: Write>(
     out: &mut Output<'_, W>,
-    section: &Section,
-    strings: &Strings<'_>,
-    begins: &Begins,
-    from: EntryId,
+    origin: &Origin<'_>,
     attributes: Attrs<'_>,
 ) -> Result<(), WriteError>
     requires clear { IsClear out.old }
-    requires unit { IsSome (unit_at section.now.items from.item) }
-    requires begins { BeginIn section.now.items from.item begins.now }
-    ensures { Puts W.contents out.old out.new (next_attributes (sections_of strings.now) section.now.items from.item attributes.entry) result }
+    requires origin { IsOrigin origin.now }
+    ensures { Puts W.contents out.old out.new (next_attributes (sections_of origin.now.strings.now) origin.now.section.now.items origin.now.from.item attributes.entry) result }
 {
     let mut left = attributes;
     loop {
         if let Some(number) = left.next_number() {
-            push_next_number(out, section, strings, begins, from, &number)?;
+            push_next_number(out, origin, &number)?;
             continue;
         }
         match left.next() {
             Some(attribute) => {
-                push_next_attribute(out, section, strings, begins, from, &attribute)?;
+                push_next_attribute(out, origin, &attribute)?;
             }
             None => return Ok(()),
         }
@@ -147,125 +151,118 @@ fn push_attributes<W: Write>(
 #[inline(always)]
 fn push_next_number<W: Write>(
     out: &mut Output<'_, W>,
-    section: &Section,
-    strings: &Strings<'_>,
-    begins: &Begins,
-    from: EntryId,
+    origin: &Origin<'_>,
     number: &NumberRef,
 ) -> Result<(), WriteError>
     requires clear { IsClear out.old }
-    requires unit { IsSome (unit_at section.now.items from.item) }
-    requires begins { BeginIn section.now.items from.item begins.now }
-    ensures { Puts W.contents out.old out.new (next_attribute (sections_of strings.now) section.now.items from.item (number_of number.now)) result }
+    requires origin { IsOrigin origin.now }
+    ensures { Puts W.contents out.old out.new (next_attribute (sections_of origin.now.strings.now) origin.now.section.now.items origin.now.from.item (number_of number.now)) result }
 {
     push_attribute(out, number.name)?;
     push_hexadecimal(out, number.number as u128)?;
-    push_named_by_number(out, section, strings, begins, from, number)
+    push_named_by_number(out, origin, number)
 }
 
-/// Appends what the number names. Most numbers name nothing.
+/// Appends what the number names, as `push_named` does. Only a number that names something becomes an attribute first.
 #[inline(always)]
 fn push_named_by_number<W: Write>(
     out: &mut Output<'_, W>,
-    section: &Section,
-    strings: &Strings<'_>,
-    begins: &Begins,
-    from: EntryId,
+    origin: &Origin<'_>,
     number: &NumberRef,
 ) -> Result<(), WriteError>
     requires clear { IsClear out.old }
-    requires unit { IsSome (unit_at section.now.items from.item) }
-    requires begins { BeginIn section.now.items from.item begins.now }
-    ensures { Puts W.contents out.old out.new (named_behind (sections_of strings.now) section.now.items from.item (number_of number.now)) result }
+    requires origin { IsOrigin origin.now }
+    ensures { Puts W.contents out.old out.new (named_behind (sections_of origin.now.strings.now) origin.now.section.now.items origin.now.from.item (number_of number.now)) result }
 {
-    if !can_name(number.form) {
-        return Ok(());
+    match named_under(number.form) {
+        Names::Entry => push_reference(out, origin, &number.attribute()),
+        Names::Text => push_text(out, origin, &number.attribute()),
+        Names::Nothing => Ok(()),
     }
-    push_entry_and_text(out, section, strings, begins, from, &number.attribute())
 }
 
 /// Appends a newline, and the line of an attribute of an entry without its own: its name, and its value in its place.
 fn push_next_attribute<W: Write>(
     out: &mut Output<'_, W>,
-    section: &Section,
-    strings: &Strings<'_>,
-    begins: &Begins,
-    from: EntryId,
+    origin: &Origin<'_>,
     attribute: &AttrRef<'_>,
 ) -> Result<(), WriteError>
     requires clear { IsClear out.old }
-    requires unit { IsSome (unit_at section.now.items from.item) }
-    requires begins { BeginIn section.now.items from.item begins.now }
-    ensures { Puts W.contents out.old out.new (next_attribute (sections_of strings.now) section.now.items from.item (attr_of attribute.now)) result }
+    requires origin { IsOrigin origin.now }
+    ensures { Puts W.contents out.old out.new (next_attribute (sections_of origin.now.strings.now) origin.now.section.now.items origin.now.from.item (attr_of attribute.now)) result }
 {
     push_attribute(out, attribute.name)?;
-    push_placed_value(out, section, strings, begins, from, attribute)
+    push_placed_value(out, origin, attribute)
 }
 
 /// Appends the value of an attribute of an entry, and behind it what it names: an entry or a text.
 fn push_placed_value<W: Write>(
     out: &mut Output<'_, W>,
-    section: &Section,
-    strings: &Strings<'_>,
-    begins: &Begins,
-    from: EntryId,
+    origin: &Origin<'_>,
     attribute: &AttrRef<'_>,
 ) -> Result<(), WriteError>
     requires clear { IsClear out.old }
-    requires unit { IsSome (unit_at section.now.items from.item) }
-    requires begins { BeginIn section.now.items from.item begins.now }
-    ensures { Puts W.contents out.old out.new (placed_value (sections_of strings.now) section.now.items from.item (attr_of attribute.now)) result }
+    requires origin { IsOrigin origin.now }
+    ensures { Puts W.contents out.old out.new (placed_value (sections_of origin.now.strings.now) origin.now.section.now.items origin.now.from.item (attr_of attribute.now)) result }
 {
     push_value(out, &attribute.attr.value)?;
-    push_named(out, section, strings, begins, from, attribute)
+    push_named(out, origin, attribute)
 }
 
 /// Appends what the value of an attribute of an entry names: an entry or a text. Most values name nothing.
 #[inline(always)]
 fn push_named<W: Write>(
     out: &mut Output<'_, W>,
-    section: &Section,
-    strings: &Strings<'_>,
-    begins: &Begins,
-    from: EntryId,
+    origin: &Origin<'_>,
     attribute: &AttrRef<'_>,
 ) -> Result<(), WriteError>
     requires clear { IsClear out.old }
-    requires unit { IsSome (unit_at section.now.items from.item) }
-    requires begins { BeginIn section.now.items from.item begins.now }
-    ensures { Puts W.contents out.old out.new (named_behind (sections_of strings.now) section.now.items from.item (attr_of attribute.now)) result }
+    requires origin { IsOrigin origin.now }
+    ensures { Puts W.contents out.old out.new (named_behind (sections_of origin.now.strings.now) origin.now.section.now.items origin.now.from.item (attr_of attribute.now)) result }
 {
-    if !can_name(attribute.form) {
-        return Ok(());
+    match named_under(attribute.form) {
+        Names::Entry => push_reference(out, origin, attribute),
+        Names::Text => push_text(out, origin, attribute),
+        Names::Nothing => Ok(()),
     }
-    push_entry_and_text(out, section, strings, begins, from, attribute)
 }
 
-/// Appends the entry that the value of an attribute of an entry names, and the text that it names.
-fn push_entry_and_text<W: Write>(
-    out: &mut Output<'_, W>,
-    section: &Section,
-    strings: &Strings<'_>,
-    begins: &Begins,
-    from: EntryId,
-    attribute: &AttrRef<'_>,
-) -> Result<(), WriteError>
-    requires clear { IsClear out.old }
-    requires unit { IsSome (unit_at section.now.items from.item) }
-    requires begins { BeginIn section.now.items from.item begins.now }
-    ensures { Puts W.contents out.old out.new (named_behind (sections_of strings.now) section.now.items from.item (attr_of attribute.now)) result }
-{
-    push_reference(out, section, begins, from, attribute)?;
-    push_stored_text(out, section, strings, from, attribute)
+/// What a value under a form names besides itself.
+#[derive(Clone, Copy)]
+enum Names {
+    Entry,
+    Text,
+    Nothing,
 }
 
-/// Whether a value under this form can name an entry or a text.
+/// What the values of this form name: references an entry (section 7.5.5), numbers of texts a text.
 #[inline(always)]
-fn can_name(form: u64) -> bool
-    ensures no_entry { IsFalse result → is_some (at_number form ref_forms) ≡ false }
-    ensures no_text { IsFalse result → is_some (at_number form stored_forms) ≡ false }
+fn named_under(form: u64) -> Names
+    ensures entry { is_entry result ≡ is_some (at_number form ref_forms) }
+    ensures text { is_text result ≡ is_some (at_number form stored_forms) }
 {
-    is_reference(form) || is_stored_text(form)
+    match form {
+        DW_FORM_REF1
+        | DW_FORM_REF2
+        | DW_FORM_REF4
+        | DW_FORM_REF8
+        | DW_FORM_REF_UDATA
+        | DW_FORM_REF_ADDR
+        | DW_FORM_REF_SIG8
+        | DW_FORM_REF_SUP4
+        | DW_FORM_REF_SUP8
+        | DW_FORM_GNU_REF_ALT => Names::Entry,
+        DW_FORM_STRP
+        | DW_FORM_LINE_STRP
+        | DW_FORM_STRX
+        | DW_FORM_STRX1
+        | DW_FORM_STRX2
+        | DW_FORM_STRX3
+        | DW_FORM_STRX4
+        | DW_FORM_STRP_SUP
+        | DW_FORM_GNU_STRP_ALT => Names::Text,
+        _ => Names::Nothing,
+    }
 }
 
 /// Appends the value as text. A number is written in hexadecimal digits, or in decimal ones where
@@ -288,43 +285,19 @@ fn push_value<W: Write>(out: &mut Output<'_, W>, value: &Value<'_>) -> Result<()
 
 /// Appends what stands behind the value of an attribute of an entry where it is a reference; nothing behind any
 /// other value.
-#[inline(always)]
 fn push_reference<W: Write>(
     out: &mut Output<'_, W>,
-    section: &Section,
-    begins: &Begins,
-    from: EntryId,
+    origin: &Origin<'_>,
     attribute: &AttrRef<'_>,
 ) -> Result<(), WriteError>
     requires clear { IsClear out.old }
-    requires unit { IsSome (unit_at section.now.items from.item) }
-    requires begins { BeginIn section.now.items from.item begins.now }
-    ensures { Puts W.contents out.old out.new (target_text section.now.items (target_of section.now.items from.item (attr_of attribute.now))) result }
+    requires origin { IsOrigin origin.now }
+    ensures { Puts W.contents out.old out.new (target_text origin.now.section.now.items (target_of origin.now.section.now.items origin.now.from.item (attr_of attribute.now))) result }
 {
-    if !is_reference(attribute.form) {
-        return Ok(());
-    }
-    push_target(out, section, section.resolve_among(begins, from, attribute))
-}
-
-/// Whether the values of this form are references.
-#[inline(always)]
-fn is_reference(form: u64) -> bool
-    ensures { result ≡ is_some (at_number form ref_forms) }
-{
-    matches!(
-        form,
-        DW_FORM_REF1
-            | DW_FORM_REF2
-            | DW_FORM_REF4
-            | DW_FORM_REF8
-            | DW_FORM_REF_UDATA
-            | DW_FORM_REF_ADDR
-            | DW_FORM_REF_SIG8
-            | DW_FORM_REF_SUP4
-            | DW_FORM_REF_SUP8
-            | DW_FORM_GNU_REF_ALT
-    )
+    let target = origin
+        .section
+        .resolve_among(origin.begins, origin.from, attribute);
+    push_target(out, origin.section, target)
 }
 
 /// Appends an arrow and where the entry begins that is named, or why there is none; nothing behind what is no
@@ -363,45 +336,20 @@ fn unresolved(fault: RefFault) -> &'static str
     }
 }
 
-/// Appends the text that an attribute of an entry names by a number, or why there is none; nothing behind any other
-/// value.
-fn push_stored_text<W: Write>(
+/// Appends the text that an attribute of an entry names, or why there is none; nothing behind a value that names none.
+fn push_text<W: Write>(
     out: &mut Output<'_, W>,
-    section: &Section,
-    strings: &Strings<'_>,
-    from: EntryId,
+    origin: &Origin<'_>,
     attribute: &AttrRef<'_>,
 ) -> Result<(), WriteError>
     requires clear { IsClear out.old }
-    requires unit { IsSome (unit_at section.now.items from.item) }
-    ensures { Puts W.contents out.old out.new (stored_text (sections_of strings.now) section.now.items from.item (attr_of attribute.now)) result }
+    requires origin { IsOrigin origin.now }
+    ensures { Puts W.contents out.old out.new (named_quoted (text_of (sections_of origin.now.strings.now) origin.now.section.now.items origin.now.from.item (attr_of attribute.now))) result }
 {
-    if !is_stored_text(attribute.form) {
-        return Ok(());
-    }
-    match strings.text(section, from, attribute) {
+    match origin.strings.text(origin.section, origin.from, attribute) {
         Ok(text) => push_behind_space(out, text),
         Err(fault) => out.append(no_text(fault).as_bytes()),
     }
-}
-
-/// Whether a number under this form names a text.
-#[inline(always)]
-fn is_stored_text(form: u64) -> bool
-    ensures { result ≡ is_some (at_number form stored_forms) }
-{
-    matches!(
-        form,
-        DW_FORM_STRP
-            | DW_FORM_LINE_STRP
-            | DW_FORM_STRX
-            | DW_FORM_STRX1
-            | DW_FORM_STRX2
-            | DW_FORM_STRX3
-            | DW_FORM_STRX4
-            | DW_FORM_STRP_SUP
-            | DW_FORM_GNU_STRP_ALT
-    )
 }
 
 fn push_behind_space<W: Write>(out: &mut Output<'_, W>, text: &[u8]) -> Result<(), WriteError>

@@ -7,24 +7,24 @@ use Rattle.dw_tool.proofs.entries.push_attributes.Goals as goal
 
 pub returns-in_err-push_next_number : goal.returns-in_err-push_next_number
 returns-in_err-push_next_number g c =
-    let one = next_attribute (sections_of c.args.strings.now) c.args.section.now.items c.args.from.item in
-    let text = next_attributes (sections_of c.args.strings.now) c.args.section.now.items c.args.from.item in
+    let one = next_attribute (sections_of c.args.origin.now.strings.now) c.args.origin.now.section.now.items c.args.origin.now.from.item in
+    let text = next_attributes (sections_of c.args.origin.now.strings.now) c.args.origin.now.section.now.items c.args.origin.now.from.item in
     let all = text c.args.attributes in
     let h = subst (λ (left : List LentAttribute). Reaches g.W.Write.contents c.args.out.now c.loop-number.out (text left) all) c.in-Some.ensures.some c.loop-number.invariant in
     reaches_stopped g.W.Write.contents c.from_residual.result _ _ _ (one (number_of c.in-Some.number)) _ all c.from_residual.ensures.1 h c.in_err-push_next_number.ensures
 
 pub loop-number-preserved-in-Some : goal.loop-number-preserved-in-Some
 loop-number-preserved-in-Some g c =
-    let one = next_attribute (sections_of c.args.strings.now) c.args.section.now.items c.args.from.item in
-    let text = next_attributes (sections_of c.args.strings.now) c.args.section.now.items c.args.from.item in
+    let one = next_attribute (sections_of c.args.origin.now.strings.now) c.args.origin.now.section.now.items c.args.origin.now.from.item in
+    let text = next_attributes (sections_of c.args.origin.now.strings.now) c.args.origin.now.section.now.items c.args.origin.now.from.item in
     let all = text c.args.attributes in
     let h = subst (λ (left : List LentAttribute). Reaches g.W.Write.contents c.args.out.now c.loop-number.out (text left) all) c.in-Some.ensures.some c.loop-number.invariant in
     reaches_more g.W.Write.contents _ _ _ (one (number_of c.in-Some.number)) _ all h c.in_ok-push_next_number.ensures
 
 pub loop-number-preserved : goal.loop-number-preserved
 loop-number-preserved g c =
-    let one = next_attribute (sections_of c.args.strings.now) c.args.section.now.items c.args.from.item in
-    let text = next_attributes (sections_of c.args.strings.now) c.args.section.now.items c.args.from.item in
+    let one = next_attribute (sections_of c.args.origin.now.strings.now) c.args.origin.now.section.now.items c.args.origin.now.from.item in
+    let text = next_attributes (sections_of c.args.origin.now.strings.now) c.args.origin.now.section.now.items c.args.origin.now.from.item in
     let all = text c.args.attributes in
     let same = subst (λ (left : List LentAttribute). Reaches g.W.Write.contents c.args.out.now c.loop-number.out (text left) all) (sym (c.in_default.ensures.none refl)) c.loop-number.invariant in
     let h = subst (λ (left : List LentAttribute). Reaches g.W.Write.contents c.args.out.now c.loop-number.out (text left) all) c.in-Some-next.ensures.steps same in
@@ -32,8 +32,8 @@ loop-number-preserved g c =
 
 pub returns-in_err-push_next_attribute-in-Some-next : goal.returns-in_err-push_next_attribute-in-Some-next
 returns-in_err-push_next_attribute-in-Some-next g c =
-    let one = next_attribute (sections_of c.args.strings.now) c.args.section.now.items c.args.from.item in
-    let text = next_attributes (sections_of c.args.strings.now) c.args.section.now.items c.args.from.item in
+    let one = next_attribute (sections_of c.args.origin.now.strings.now) c.args.origin.now.section.now.items c.args.origin.now.from.item in
+    let text = next_attributes (sections_of c.args.origin.now.strings.now) c.args.origin.now.section.now.items c.args.origin.now.from.item in
     let all = text c.args.attributes in
     let same = subst (λ (left : List LentAttribute). Reaches g.W.Write.contents c.args.out.now c.loop-number.out (text left) all) (sym (c.in_default.ensures.none refl)) c.loop-number.invariant in
     let h = subst (λ (left : List LentAttribute). Reaches g.W.Write.contents c.args.out.now c.loop-number.out (text left) all) c.in-Some-next.ensures.steps same in

@@ -11,7 +11,7 @@ use Rattle.dw_tool.proofs.entries.push_next_attribute.Goals as goal
 pub returns-in_err-push_attribute : goal.returns-in_err-push_attribute
 returns-in_err-push_attribute g c =
     let a = c.args.attribute.now in
-    let value = placed_value (sections_of c.args.strings.now) c.args.section.now.items c.args.from.item (attr_of a) in
+    let value = placed_value (sections_of c.args.origin.now.strings.now) c.args.origin.now.section.now.items c.args.origin.now.from.item (attr_of a) in
     let r = c.from_residual.result in
     subst (λ (t : List ℕ). Puts g.W.Write.contents c.args.out.now c.push_attribute.new.out t r) (name_before a.name value)
     (puts_stopped g.W.Write.contents r _ (codes "\n  " ++ (attribute_text a.name ++ codes " ")) value _ c.from_residual.ensures.1 c.in_err-push_attribute.ensures)
@@ -19,7 +19,7 @@ returns-in_err-push_attribute g c =
 pub returns : goal.returns
 returns g c =
     let a = c.args.attribute.now in
-    let value = placed_value (sections_of c.args.strings.now) c.args.section.now.items c.args.from.item (attr_of a) in
+    let value = placed_value (sections_of c.args.origin.now.strings.now) c.args.origin.now.section.now.items c.args.origin.now.from.item (attr_of a) in
     let r = c.push_placed_value.result in
     subst (λ (t : List ℕ). Puts g.W.Write.contents c.args.out.now c.push_placed_value.new.out t r) (name_before a.name value)
     (puts_after g.W.Write.contents r _ _ (codes "\n  " ++ (attribute_text a.name ++ codes " ")) value _ c.in_ok-push_attribute.ensures c.push_placed_value.ensures)

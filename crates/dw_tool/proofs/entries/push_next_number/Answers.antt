@@ -11,7 +11,7 @@ use Rattle.dw_tool.proofs.entries.push_next_number.Goals as goal
 pub returns-in_err-push_attribute : goal.returns-in_err-push_attribute
 returns-in_err-push_attribute g c =
     let n = c.args.number.now in
-    let value = placed_value (sections_of c.args.strings.now) c.args.section.now.items c.args.from.item (number_of n) in
+    let value = placed_value (sections_of c.args.origin.now.strings.now) c.args.origin.now.section.now.items c.args.origin.now.from.item (number_of n) in
     let r = c.from_residual.result in
     subst (λ (t : List ℕ). Puts g.W.Write.contents c.args.out.now c.push_attribute.new.out t r) (name_before n.name value)
     (puts_stopped g.W.Write.contents r _ (codes "\n  " ++ (attribute_text n.name ++ codes " ")) value _ c.from_residual.ensures.1 c.in_err-push_attribute.ensures)
@@ -19,7 +19,7 @@ returns-in_err-push_attribute g c =
 pub returns-in_err-push_hexadecimal : goal.returns-in_err-push_hexadecimal
 returns-in_err-push_hexadecimal g c =
     let n = c.args.number.now in
-    let named = named_behind (sections_of c.args.strings.now) c.args.section.now.items c.args.from.item (number_of n) in
+    let named = named_behind (sections_of c.args.origin.now.strings.now) c.args.origin.now.section.now.items c.args.origin.now.from.item (number_of n) in
     let r = c.from_residual-in_err-push_hexadecimal.result in
     subst (λ (t : List ℕ). Puts g.W.Write.contents c.args.out.now c.push_hexadecimal.new.out t r) (name_before n.name (hexadecimal n.number ++ named))
     (puts_after g.W.Write.contents r _ _ (codes "\n  " ++ (attribute_text n.name ++ codes " ")) (hexadecimal n.number ++ named) _ c.in_ok-push_attribute.ensures
@@ -28,7 +28,7 @@ returns-in_err-push_hexadecimal g c =
 pub returns : goal.returns
 returns g c =
     let n = c.args.number.now in
-    let named = named_behind (sections_of c.args.strings.now) c.args.section.now.items c.args.from.item (number_of n) in
+    let named = named_behind (sections_of c.args.origin.now.strings.now) c.args.origin.now.section.now.items c.args.origin.now.from.item (number_of n) in
     let r = c.push_named_by_number.result in
     subst (λ (t : List ℕ). Puts g.W.Write.contents c.args.out.now c.push_named_by_number.new.out t r) (name_before n.name (hexadecimal n.number ++ named))
     (puts_after g.W.Write.contents r _ _ (codes "\n  " ++ (attribute_text n.name ++ codes " ")) (hexadecimal n.number ++ named) _ c.in_ok-push_attribute.ensures
