@@ -8,7 +8,7 @@ use Rattle.dw_leb.specs.ReadNumber.{read_fixed, read_uleb}
 use Rattle.dw_form.specs.declared.shape.Ctx.{Ctx}
 use Rattle.dw_form.specs.declared.shape.Shape.{Shape}
 use Rattle.dw_form.specs.declared.shape.Shape.TheVariants as shapes
-use Rattle.dw_form.specs.Form.{Value, Num, Block, Text, Attribute, shape}
+use Rattle.dw_form.specs.Form.{Value, Num, Block, Text, Present, Implicit, Attribute, shape}
 use Rattle.dw_form.specs.ReadForm.{read_shaped}
 use Rattle.dw_form.specs.Pieces.{head_of, via_bytes, form_in}
 
@@ -129,6 +129,23 @@ by_via k form c b pool via = behind_via via (by_shape k (own_constant via c) (dr
 -- the value whose head stands at the front of heads, and the size of its head
 unfoldable pub head_at : Ctx → ℕ → Option Signed → List ℕ → List ℕ → Option (Attribute × ℕ)
 head_at k form c b pool = and_so (via_at (form == 0x16) b) (by_via k form c b pool)
+
+-- ---- a value of no bytes
+
+-- of a shape: that the attribute is there, or the constant of its declaration
+abbrev pub bare_value : Option Shape → Option Signed → Option Value
+bare_value (Some shapes.Present) c = Some Present
+bare_value (Some shapes.Implicit) (Some x) = Some (Implicit x)
+bare_value _ _ = None
+
+abbrev pub bare_if : Option Unsigned → Value → Option Value
+bare_if None Present = Some Present
+bare_if None (Implicit x) = Some (Implicit x)
+bare_if via v = None
+
+-- the value, where it has no bytes and is of the form that its declaration gives
+abbrev pub own_bare : Attribute → Option Value
+own_bare a = bare_if a.via a.value
 
 -- ---- a number by its head
 

@@ -8,6 +8,7 @@ pub mod Pieces
 pub mod NamedForms
 pub mod Fit
 pub mod Head
+pub mod BareFits
 pub mod HeadLent
 pub mod HeadFront
 pub mod HeadSize

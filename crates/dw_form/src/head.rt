@@ -10,7 +10,7 @@ ghost use Rattle.dw_form.specs.Pieces.{form_in, HasSpelling, spelling};
 ghost use Rattle.dw_form.specs.HeadSize.{finder_size, content_count};
 ghost use Rattle.dw_form.specs.StoredView.{bytes_in};
 ghost use Rattle.dw_form.specs.Lent.{value_of, attribute_of};
-ghost use Rattle.dw_form.specs.Head.{head, head_at, number_by_head, Lies, fixed_at, uleb_at, count_at, part_at, placed_at, spelled_at, own_constant, has_content, via_at, via_width, by_content, by_shape, by_via};
+ghost use Rattle.dw_form.specs.Head.{head, head_at, bare_value, number_by_head, Lies, fixed_at, uleb_at, count_at, part_at, placed_at, spelled_at, own_constant, has_content, via_at, via_width, by_content, by_shape, by_via};
 
 use crate::lend::{number, shaped, unsigned};
 use crate::shape::{Ctx, Shape};
@@ -208,12 +208,15 @@ fn behind<'a>(
     }
 }
 
-// A value of no bytes: that the attribute is there, or the constant of its declaration.
+/// The value of a form whose values have no bytes, and so no head: that the attribute is there, or the constant of its
+/// declaration. `lend_head` gives the same, whatever the heads. None under any other form, `DW_FORM_indirect` among them,
+/// and where there is no constant.
 #[inline(always)]
-fn no_bytes<'a>(ctx: Ctx, form: u64, implicit: Option<Sleb>, _heads: &[u8]) -> Option<Value<'a>>
+pub fn lend_bare(ctx: Ctx, form: u64, implicit: Option<Sleb>) -> Option<Value<'static>>
     requires { IsContext ctx }
-    ensures { IfSome result (λ v. (pool : List ℕ) →
-        head_at ctx form (option_map sleb_of implicit) _heads.now pool ≡ Some (record { via = None; value = value_of v }, 0)) }
+    ensures exact { option_map value_of result ≡ bare_value (shape form ctx.address_size ctx.format) (option_map sleb_of implicit) }
+    ensures found { IfSome result (λ v. (heads pool : List ℕ) →
+        head_at ctx form (option_map sleb_of implicit) heads pool ≡ Some (record { via = None; value = value_of v }, 0)) }
 {
     match Shape::of(form, ctx.address_size, ctx.format)? {
         Shape::Present => Some(Value::Present),
@@ -254,7 +257,7 @@ fn at_front<'a>(
     ensures exact { option_map (λ x. (attribute_of x.0, x.1)) result ≡ head_at ctx form (option_map sleb_of implicit) heads.now pool.now }
     ensures room { IfSome result (λ x. x.1 ≤ length heads.now) }
 {
-    match no_bytes(ctx, form, implicit, heads) {
+    match lend_bare(ctx, form, implicit) {
         Some(value) => Some((AttrValue { via: None, value }, 0)),
         None => by_head(ctx, form, implicit, heads, pool),
     }

@@ -30,7 +30,7 @@ mod via;
 mod write;
 
 pub use fit::fits;
-pub use head::{lend_head, lend_number, size_by_head};
+pub use head::{lend_bare, lend_head, lend_number, size_by_head};
 pub use lend::lend_value;
 pub use put::{front_len, put_found, put_head, value_front};
 pub use read::{ValueError, read_value};

@@ -1,10 +1,10 @@
 //! What no clause says of heads: which bytes they have, for values whose spelling is known from the standard.
 use crate::common::same;
 use dw_form::{
-    AttrValue, Ctx, front_len, lend_head, lend_number, lend_value, put_found, put_head,
-    size_by_head, value_front,
+    AttrValue, Ctx, Value, front_len, lend_bare, lend_head, lend_number, lend_value, put_found,
+    put_head, size_by_head, value_front,
 };
-use dw_leb::{Format, Order};
+use dw_leb::{Format, Order, Sleb};
 use std::alloc::Global;
 use std::process::Abort;
 use std::test::Fail;
@@ -125,4 +125,16 @@ fn numbers_by_their_heads(rt: HostRuntime) {
     assert!(&rt; lend_number(USUAL, 0x0f, &[5]) == None);
     assert!(&rt; lend_number(USUAL, 0x1e, &[0; 16]) == None);
     assert!(&rt; lend_number(USUAL, 0x05, &[0x34]) == None);
+}
+
+/// Values of no bytes by their forms: a flag, and the constant of a declaration; none where there is no constant, under
+/// udata, and under indirect.
+#[test]
+fn values_of_no_bytes(rt: HostRuntime) {
+    let constant = Sleb::least(-1);
+    assert!(&rt; lend_bare(USUAL, 0x19, None) == Some(Value::Present));
+    assert!(&rt; lend_bare(USUAL, 0x21, Some(constant)) == Some(Value::Implicit(constant)));
+    assert!(&rt; lend_bare(USUAL, 0x21, None) == None);
+    assert!(&rt; lend_bare(USUAL, 0x0f, Some(constant)) == None);
+    assert!(&rt; lend_bare(USUAL, 0x16, Some(constant)) == None);
 }

@@ -24,11 +24,13 @@ pub record IsOrigin (origin : Origin) : Type 0 where
   pub unit : IsSome (unit_at origin.section.now.items origin.from.item)
   pub begins : BeginIn origin.section.now.items origin.from.item origin.begins.now
 
+-- whether what a value names is an entry
 abbrev pub is_entry : Names → Bool
 is_entry Entry = true
 is_entry Text = false
 is_entry Nothing = false
 
+-- whether it is a text
 abbrev pub is_text : Names → Bool
 is_text Entry = false
 is_text Text = true

@@ -138,6 +138,10 @@ fn push_attributes<W: Write>(
             push_next_number(out, origin, &number)?;
             continue;
         }
+        if let Some(bare) = left.next_bare() {
+            push_next_attribute(out, origin, &bare)?;
+            continue;
+        }
         match left.next() {
             Some(attribute) => {
                 push_next_attribute(out, origin, &attribute)?;
@@ -182,6 +186,7 @@ fn push_named_by_number<W: Write>(
 }
 
 /// Appends a newline, and the line of an attribute of an entry without its own: its name, and its value in its place.
+#[inline(always)]
 fn push_next_attribute<W: Write>(
     out: &mut Output<'_, W>,
     origin: &Origin<'_>,
@@ -196,6 +201,7 @@ fn push_next_attribute<W: Write>(
 }
 
 /// Appends the value of an attribute of an entry, and behind it what it names: an entry or a text.
+#[inline(always)]
 fn push_placed_value<W: Write>(
     out: &mut Output<'_, W>,
     origin: &Origin<'_>,
@@ -267,6 +273,7 @@ fn named_under(form: u64) -> Names
 
 /// Appends the value as text. A number is written in hexadecimal digits, or in decimal ones where
 /// it has a sign; a block as by `push_block`, a text as by `push_quoted`, a flag as `present`.
+#[inline(always)]
 fn push_value<W: Write>(out: &mut Output<'_, W>, value: &Value<'_>) -> Result<(), WriteError>
     requires { IsClear out.old }
     ensures { Puts W.contents out.old out.new (value_text (value_of value.now)) result }

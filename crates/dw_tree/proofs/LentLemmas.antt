@@ -1,6 +1,6 @@
 -- Values that fit their pairs, one by one.
 use Rattle.std.proofs.Common.{◌≡◌, ◌+◌, ◌≤◌, ◌∷◌, ℕ, Bool, true, false, List, length, drop, Option, Some, None, refl, sym, ap, subst, ◌∙◌, arith}
-use Rattle.std.specs.Prelude.{◌==◌, map}
+use Rattle.std.specs.Prelude.{◌==◌, is_some, map}
 use Rattle.std.proofs.lemmas.List.{length-append, drop_at}
 use Rattle.dw_leb.specs.Number.{Unsigned, Signed}
 use Rattle.dw_form.specs.declared.shape.Ctx.{Ctx}
@@ -8,12 +8,13 @@ use Rattle.dw_form.specs.declared.shape.Shape.{Shape}
 use Rattle.dw_form.specs.declared.shape.Shape.TheVariants as shapes
 use Rattle.dw_form.specs.Form.{Value, Implicit, Attribute, shape, shaped, shaped_if, by_indirection, attribute}
 use Rattle.dw_form.specs.Pieces.{constant_in, HasSpelling, spelling}
-use Rattle.dw_form.specs.Head.{head, head_at}
+use Rattle.dw_form.specs.BareFits.{bare_fits}
+use Rattle.dw_form.specs.Head.{bare_value, head, head_at}
 use Rattle.dw_abbrev.specs.declared.pair.Pair.{Pair as RustPair}
 use Rattle.dw_abbrev.specs.PairView.{pair_of}
 use Rattle.dw_abbrev.specs.Table.{Pair}
-use Rattle.dw_tree.specs.Lent.{AreLent}
-use Rattle.dw_tree.specs.RowHeads.{Here, run_bytes, First, Next, first_found, next_here}
+use Rattle.dw_tree.specs.Lent.{AreLent, begins_bare, lent_attributes}
+use Rattle.dw_tree.specs.RowHeads.{Here, run_bytes, First, Next, first_found, next_here, put_in, values_at}
 
 -- ---- the constant of a declaration tells nothing that its value doesn't
 
@@ -123,3 +124,11 @@ module _ (k : Ctx) (at : ℕ) (hs pool : List ℕ) (all : List RustPair) (q : Ru
       both a b n m e =
           let same : pair a n ≡ pair b m = cc in
           (ap (λ (y : Attribute × ℕ). y.0) same, ap (λ (y : Attribute × ℕ). y.1) same)
+
+  -- the form of its declaration tells whether it has no bytes
+  pub bare_first : begins_bare (lent_attributes k at (map pair_of all) (values_at k (map pair_of all) hs pool)) ≡ is_some (bare_value (shape p.form.value k.address_size k.format) p.constant)
+  bare_first =
+      let x = first_value k at hs pool (map pair_of all) p rest is lent in
+      ap (λ (ps : List Pair). begins_bare (lent_attributes k at ps (values_at k ps hs pool))) is
+      ∙ (ap (λ (o : Option (Attribute × ℕ)). begins_bare (lent_attributes k at (p ∷ rest) (put_in o (λ n. values_at k rest (drop n hs) pool)))) (first_found k p hs pool x)
+      ∙ sym (ap is_some (bare_fits k p.form.value p.constant x.value x.fits)))

@@ -6,7 +6,7 @@ use Rattle.dw_leb.specs.Number.{Unsigned}
 use Rattle.dw_form.specs.declared.shape.Ctx.{Ctx}
 use Rattle.dw_form.specs.Form.{Attribute, IsContext, Num}
 use Rattle.dw_form.specs.Lent.{attribute_of}
-use Rattle.dw_form.specs.Head.{own_number}
+use Rattle.dw_form.specs.Head.{own_bare, own_number}
 use Rattle.dw_form.specs.Pieces.{form_in, spelling}
 use Rattle.dw_abbrev.specs.Table.{Pair, Declaration, Table, declared}
 use Rattle.dw_tree.specs.declared.attrs.AttrRef.{AttrRef}
@@ -49,6 +49,11 @@ lent_attributes k at (p ∷ ps) (v ∷ vs) = lent_attribute at p v ∷ lent_attr
 abbrev pub begins_with_number : List LentAttribute → Bool
 begins_with_number [] = false
 begins_with_number (a ∷ others) = is_some (own_number a.attr)
+
+-- whether the first attribute has no bytes, and is of the form that its declaration gives: that it is there, or the constant of its declaration
+abbrev pub begins_bare : List LentAttribute → Bool
+begins_bare [] = false
+begins_bare (a ∷ others) = is_some (own_bare a.attr)
 
 -- the first attribute of a name
 abbrev pub first_named : ℕ → List LentAttribute → Option LentAttribute

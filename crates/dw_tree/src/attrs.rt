@@ -8,11 +8,11 @@ ghost use Rattle.dw_form.specs.Pieces.{form_in, HasSpelling, spelling};
 ghost use Rattle.dw_abbrev.specs.PairView.{pair_of};
 ghost use Rattle.dw_tree.specs.RowHeads.{values_at};
 ghost use Rattle.dw_tree.specs.Lent.{lent_attribute, lent_attributes};
-ghost use Rattle.dw_tree.specs.Lent.{AreLent, attr_of, begins_with_number, number_of};
+ghost use Rattle.dw_tree.specs.Lent.{AreLent, attr_of, begins_bare, begins_with_number, number_of};
 
 use crate::write::behind;
 use dw_abbrev::Pair;
-use dw_form::{AttrValue, Ctx, Value, lend_head, lend_number, size_by_head};
+use dw_form::{AttrValue, Ctx, Value, lend_bare, lend_head, lend_number, size_by_head};
 use dw_leb::Uleb;
 use std::marker::Model;
 
@@ -139,6 +139,25 @@ impl<'a> Attrs<'a> {
         self.at += size;
         Some(first)
     }
+
+    /// The next attribute, where its value has no bytes (and isn't indirect): that the attribute is there, or the constant
+    /// of its declaration (section 7.5.5, `flag_present` and `implicit_const`). As `next` gives it, and at less cost. None
+    /// where it is any other, or none is left: nothing was taken, and `next` is to be asked.
+    #[inline(always)]
+    pub fn next_bare(&mut self) -> Option<AttrRef<'static>>
+        ensures some { IfSome result (λ a. self.old ≡ attr_of a ∷ self.new) }
+        ensures none { result ≡ None → self.new ≡ self.old }
+        ensures only { is_some result ≡ begins_bare self.old }
+    {
+        let (pair, pairs) = self.pairs.split_first()?;
+        let value = lend_bare(self.ctx, pair.form.value, pair.constant)?;
+        let attr = AttrValue { via: None, value };
+        let size = spelled_size(self.ctx, pair.form.value, &attr, 0);
+        let first = attr_at(pair, &attr, self.at);
+        self.pairs = pairs;
+        self.at += size;
+        Some(first)
+    }
 }
 
 impl<'a> Iterator for Attrs<'a> {
@@ -151,9 +170,12 @@ impl<'a> Iterator for Attrs<'a> {
     // A caller that is at hand takes the attribute apart, which is too large to be moved around.
     #[inline(always)]
     fn next(&mut self) -> Option<AttrRef<'a>> {
-        // Nearly every value is a number, which goes into the attribute at once.
+        // Nearly every value is a number or has no bytes: these go into the attribute at once.
         if let Some(number) = self.next_number() {
             return Some(number.attribute());
+        }
+        if let Some(bare) = self.next_bare() {
+            return Some(bare);
         }
         let (pair, pairs) = self.pairs.split_first()?;
         match lend_head(

@@ -1,6 +1,8 @@
 //! What no clause says: the root of units whose bytes and offsets come from the standard.
 use crate::common::little;
-use dw_unit::{EntryRef, Unit};
+use dw_form::Value;
+use dw_leb::Sleb;
+use dw_unit::{AttrRef, EntryRef, Unit};
 use std::process::Abort;
 use std::test::Fail;
 
@@ -82,4 +84,30 @@ fn has_a_name(rt: &impl Abort, unit: &Unit) -> Result<(), Fail> {
 fn lends_values(rt: HostRuntime) -> Result<(), Fail> {
     let (unit, _) = little(rt.alloc(), &DECLARED, &SHORT)?;
     has_a_name(&rt, &unit)
+}
+
+/// What an attribute of no bytes is: its name, its form, where the next value begins, and its value.
+fn parts(bare: &AttrRef<'static>) -> (u64, u64, u64, Value<'static>) {
+    (bare.name, bare.form, bare.offset, bare.attr.value)
+}
+
+/// Behind three values of some bytes, the indirect one among them, there are two of none.
+fn has_two_of_no_bytes(rt: &impl Abort, unit: &Unit) -> Result<(), Fail> {
+    let mut attrs = unit.root().attrs();
+    for _ in 0..3 {
+        assert!(rt; attrs.next_bare().is_none());
+        attrs.next().ok_or("three attributes")?;
+    }
+    let flag = attrs.next_bare().ok_or("no flag")?;
+    assert!(rt; parts(&flag) == (0x3f, 0x19, 20, Value::Present));
+    let constant = attrs.next_bare().ok_or("no constant")?;
+    assert!(rt; parts(&constant) == (0x1c, 0x21, 20, Value::Implicit(Sleb::least(-1))));
+    assert!(rt; attrs.next_bare().is_none());
+    Ok(())
+}
+
+#[test]
+fn lends_values_of_no_bytes(rt: HostRuntime) -> Result<(), Fail> {
+    let (unit, _) = little(rt.alloc(), &DECLARED, &SHORT)?;
+    has_two_of_no_bytes(&rt, &unit)
 }
