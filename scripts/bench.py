@@ -13,6 +13,7 @@ of 20 bytes takes. The status is 1 where a copy differs, a run fails, a peak is 
 """
 
 import os
+import resource
 import shutil
 import subprocess
 import sys
@@ -26,7 +27,7 @@ OTHERS = [["readelf", "--debug-dump=info"], ["llvm-dwarfdump", "--debug-info"]]
 PEAK, UNIT = 7, 400
 
 # How often a command is run; the fewest seconds count.
-RUNS = 12
+RUNS = 24
 
 # A table of one declaration without attributes, and a unit of 20 bytes: its root, and the padding behind it.
 TABLE = bytes.fromhex("0111000000" + "00")
@@ -35,27 +36,35 @@ SMALL = bytes.fromhex("10000000" + "0500" + "01" + "08" + "00000000" + "01" + "0
 
 def counted(words, out, room):
     """The seconds of processor and the peak memory in bytes of a run, and whether its status was 0."""
-    # (a process that Python starts begins with Python's own peak, so another counts)
-    status = subprocess.run(["time", "-f", "%U %S %M", "-o", f"{room}/counted", *words], stdout=out, stderr=subprocess.DEVNULL).returncode
+    before = processor()
+    # (a process that Python starts begins with Python's own peak, so another counts memory; it takes a thousandth of a second)
+    status = subprocess.run(["time", "-f", "%M", "-o", f"{room}/counted", *words], stdout=out, stderr=subprocess.DEVNULL).returncode
+    seconds = processor() - before
     with open(f"{room}/counted") as it:
-        user, system, kilobytes = it.read().split()[-3:]
-    return float(user) + float(system), int(kilobytes) * 1024, status == 0
+        return seconds, int(it.read().split()[-1]) * 1024, status == 0
 
 
-def dwarf(program, command, room, info="debug_info", abbrev="debug_abbrev", kept=False):
-    """The same of `dwarf`; what it writes is kept where that is asked for."""
+def processor():
+    """The seconds of processor of all that was run."""
+    used = resource.getrusage(resource.RUSAGE_CHILDREN)
+    return used.ru_utime + used.ru_stime
+
+
+def dwarf(program, command, room, info="debug_info", abbrev="debug_abbrev", to=os.devnull):
+    """The same of `dwarf`, which writes to this file."""
     words = [program, command, "--info", f"{room}/{info}", "--abbrev", f"{room}/{abbrev}"]
-    with open(f"{room}/written" if kept else os.devnull, "wb") as out:
+    with open(to, "wb") as out:
         return counted(words, out, room)
 
 
-def is_copy(room):
+def is_copied(program, room):
+    dwarf(program, "copy", room, to=f"{room}/written")
     with open(f"{room}/debug_info", "rb") as section, open(f"{room}/written", "rb") as written:
         return section.read() == written.read()
 
 
 def line(name, size, seconds, peak):
-    print(f"| {name} | {seconds:.2f} | {size / max(seconds, 0.01) / 1e6:.1f} | {peak / 1e6:.0f} | {peak / size:.1f} |")
+    print(f"| {name} | {seconds:.3f} | {size / max(seconds, 0.001) / 1e6:.1f} | {peak / 1e6:.0f} | {peak / size:.1f} |")
 
 
 def best(runs):
@@ -69,10 +78,10 @@ def commands(program, file, room):
     print(f"{size} bytes\n\n| Run | Seconds | MB a second | Peak (MB) | Peak a byte |\n|---|--:|--:|--:|--:|")
     well = True
     for command in "copy", "show":
-        seconds, peak, is_well = best([dwarf(program, command, room, kept=command == "copy") for _ in range(RUNS)])
+        seconds, peak, is_well = best([dwarf(program, command, room) for _ in range(RUNS)])
         line(f"`dwarf {command}`", size, seconds, peak)
         well = well and is_well and peak <= PEAK * size
-    well = well and is_copy(room)
+    well = well and is_copied(program, room)
     for words in OTHERS:
         if shutil.which(words[0]):
             with open(os.devnull, "wb") as out:
@@ -93,7 +102,7 @@ def copies(program, room):
         # a short run is disturbed by more, so it has more tries
         for command in "copy", "show":
             took[command, count] = best([dwarf(program, command, room, info="copies") for _ in range(24 // count)])[0]
-        print(f"| {count} | {took['copy', count]:.2f} | {took['show', count]:.2f} |")
+        print(f"| {count} | {took['copy', count]:.3f} | {took['show', count]:.3f} |")
     return all(abs(took[it, 8] / 8 - took[it, 1]) <= 0.1 * took[it, 1] for it in ("copy", "show"))
 
 
