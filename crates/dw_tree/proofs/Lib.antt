@@ -3,6 +3,7 @@ pub mod Stands
 pub mod RowTokens
 pub mod Lists
 pub mod RunSteps
+pub mod Parted
 pub mod Begins
 pub mod Limits
 pub mod Fits
