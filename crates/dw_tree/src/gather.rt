@@ -62,7 +62,7 @@ fn put_row(
     }
 }
 
-/// The bytes of an entry's row: its code and its values. None where they are too many.
+/// The bytes of an entry's row: its code and its values. None of a null, and where they are too many.
 #[inline(always)]
 fn spelled_row(ctx: Ctx, table: &Table, heads: &[u8], pool: &[u8], row: Row) -> Option<Spelled>
     requires context { IsContext ctx }
