@@ -417,6 +417,34 @@ fn fault_of_the_third_value(rt: HostRuntime) {
     refuses(&rt, rt.alloc(), &THREE_VALUES, &CUT, (16, Reason::PastUnit));
 }
 
+/// A compile unit over the same: a name of so many bytes, and both sizes. Its header announces 13 bytes more.
+fn of_a_name(alloc: Global, size: u16) -> Result<Vec<u8>, Fail> {
+    let mut bytes = Vec::from_slice(alloc, &size.saturating_add(13).to_le_bytes())?;
+    bytes.extend_from_slice(&[0, 0, 0x05, 0, 0x01, 0x08, 0, 0, 0, 0, 0x01])?;
+    for _ in 0..size {
+        bytes.push(0x61)?;
+    }
+    bytes.extend_from_slice(&[0, 0x04, 0x01, 0x02])?;
+    Ok(bytes)
+}
+
+fn is_read_and_written(rt: &impl Abort, alloc: Global, size: u16) -> Result<(), Fail> {
+    let bytes = of_a_name(alloc, size)?;
+    let (unit, taken) = little(alloc, &THREE_VALUES, bytes.as_slice())?;
+    assert!(rt; taken == bytes.len());
+    Ok(writes(rt, alloc, &unit, bytes.as_slice())?)
+}
+
+/// A writer that gathers the bytes of an entry has room for so many only: some of these names fill it, and some are
+/// longer.
+#[test]
+fn names_of_each_length(rt: HostRuntime) -> Result<(), Fail> {
+    for size in 0..600 {
+        is_read_and_written(&rt, rt.alloc(), size)?;
+    }
+    Ok(())
+}
+
 /// A writer that takes one byte a call gets these.
 fn steps(rt: &impl Abort, alloc: Global, unit: &Unit, want: &[u8]) -> Result<(), WriteError> {
     let mut writer = Watched::new(Stepped::new(Vec::new(alloc), 1));
