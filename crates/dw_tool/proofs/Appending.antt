@@ -22,19 +22,19 @@ passes_after (Err v) old mid new x y z a b w h e k =
     subst (λ (t : List ℕ). AppendsFront old new t) (sym (append_assoc w y b) ∙ ap (λ (t : List ℕ). t ++ b) e ∙ append_assoc x a b) (front_behind old mid new w (y ++ b) h k)
 
 -- a text after one that stands whole
-pub puts_after : {W X Y : Type 0} {v : Y} (contents : W → Option (List ℕ)) (r : Result X WriteError) (old mid : Output W) (a b : List ℕ) (new : Output W)
+pub puts_after : {W X Y : Type 0} {v : Y} {contents : W → Option (List ℕ)} {r : Result X WriteError} {old mid new : Output W} {a b : List ℕ}
     → Puts contents old mid a (Ok v) → Puts contents mid new b r → Puts contents old new (a ++ b) r
-puts_after contents r old mid a b new h k = record {
+puts_after {r = r} {a = a} {b = b} h k = record {
   passes = passes_after r _ _ _ _ _ _ a b h.passes.0 h.passes.1 h.passes.2 k.passes;
   fault = k.fault;
   same = k.same ∙ h.same;
 }
 
 -- a text that stopped early
-pub puts_stopped : {W X Y : Type 0} {e : WriteError} (contents : W → Option (List ℕ)) (r : Result X WriteError) (old : Output W) (a b : List ℕ) (new : Output W)
+pub puts_stopped : {W X Y : Type 0} {e : WriteError} {contents : W → Option (List ℕ)} {r : Result X WriteError} {old new : Output W} {a : List ℕ} (b : List ℕ)
     → IsErrAnd r (λ f. f ≡ e) → Puts {X = Y} contents old new a (Err e) → Puts contents old new (a ++ b) r
-puts_stopped contents (Ok x) old a b new is h = absurd is
-puts_stopped {X = X} {e = e} contents (Err f) old a b new is h =
+puts_stopped {r = Ok x} b is h = absurd is
+puts_stopped {X = X} {e = e} {contents = contents} {r = Err f} {old = old} {new = new} {a = a} b is h =
     let before : Option (List ℕ) = contents (inner_of (writer_of old)) in
     let after : Option (List ℕ) = contents (inner_of (writer_of new)) in
     record {
@@ -44,9 +44,9 @@ puts_stopped {X = X} {e = e} contents (Err f) old a b new is h =
     }
 
 -- a text that stopped early, after one that stands whole
-pub stopped_after : {W X Y Z : Type 0} {v : Y} {e : WriteError} (contents : W → Option (List ℕ)) (r : Result X WriteError) (old mid : Output W) (a b c : List ℕ) (new : Output W)
+pub stopped_after : {W X Y Z : Type 0} {v : Y} {e : WriteError} {contents : W → Option (List ℕ)} {r : Result X WriteError} {old mid new : Output W} {a b : List ℕ} (c : List ℕ)
     → IsErrAnd r (λ f. f ≡ e) → Puts contents old mid a (Ok v) → Puts {X = Z} contents mid new b (Err e) → Puts contents old new (a ++ (b ++ c)) r
-stopped_after contents r old mid a b c new is h k = puts_after contents r old mid a (b ++ c) new h (puts_stopped contents r mid b c new is k)
+stopped_after c is h k = puts_after h (puts_stopped c is k)
 
 -- no text
 pub puts_nothing : {W : Type 0} (contents : W → Option (List ℕ)) (out : Output W) → IsClear out → Puts {X = Unit {0}} contents out out [] (Ok tt)
@@ -117,14 +117,14 @@ pub each_stopped : {W X Y Z : Type 0} {v : Y} {e : WriteError} (contents : W →
     → IsErrAnd r (λ g. g ≡ e) → i < length xs → Puts contents old mid (each f (take i xs)) (Ok v) → Puts {X = Z} contents mid new (f (get_or xs i 0)) (Err e) → Puts contents old new (each f xs) r
 each_stopped contents r f xs i old mid new is lt before h =
     subst (λ (t : List ℕ). Puts contents old new t r) (sym (each_split f xs i lt))
-    (stopped_after contents r old mid (each f (take i xs)) (f (get_or xs i 0)) (each f (drop (suc i) xs)) new is before h)
+    (stopped_after _ is before h)
 
 pub each_whole : {W X Y : Type 0} {v : Y} {u : X} (contents : W → Option (List ℕ)) (f : ℕ → List ℕ) (xs : List ℕ) (i : ℕ) (old mid new : Output W)
     → i < length xs → Puts contents old mid (each f (take i xs)) (Ok v) → Puts contents mid new (f (get_or xs i 0)) (Ok u) → Puts contents old new (each f (take (i + 1) xs)) (Ok u)
 each_whole {u = u} contents f xs i old mid new lt before h =
     let one : suc i ≡ i + 1 = omega arith in
     subst (λ (t : List ℕ). Puts contents old new t (Ok u)) (sym (each_more f xs i lt) ∙ ap (λ (k : ℕ). each f (take k xs)) one)
-    (puts_after contents (Ok u) old mid (each f (take i xs)) (f (get_or xs i 0)) new before h)
+    (puts_after before h)
 
 -- bytes that are written as they are, and one more
 pub each_same : (f : ℕ → List ℕ) (xs : List ℕ) (i : ℕ) → i < length xs → each f (take i xs) ≡ take i xs → f (get_or xs i 0) ≡ get_or xs i 0 ∷ [] → each f (take (i + 1) xs) ≡ take (i + 1) xs
@@ -145,20 +145,21 @@ pub record Reaches {W : Type 0} (contents : W → Option (List ℕ)) (old new : 
   pub puts : Puts {X = Unit {0}} contents old new front (Ok tt)
 
 -- one piece more
-pub reaches_more : {W X : Type 0} {u : X} (contents : W → Option (List ℕ)) (old mid new : Output W) (a rest text : List ℕ) → Reaches contents old mid (a ++ rest) text → Puts contents mid new a (Ok u) → Reaches contents old new rest text
-reaches_more contents old mid new a rest text h k = record {
+pub reaches_more : {W X : Type 0} {u : X} {contents : W → Option (List ℕ)} {old mid new : Output W} {a rest text : List ℕ}
+    → Reaches contents old mid (a ++ rest) text → Puts contents mid new a (Ok u) → Reaches contents old new rest text
+reaches_more {a = a} {rest = rest} h k = record {
   front = h.front ++ a;
   is_text = h.is_text ∙ sym (append_assoc h.front a rest);
-  puts = puts_after contents (Ok tt) old mid h.front a new h.puts (puts_as contents mid new a k);
+  puts = puts_after h.puts (puts_as _ _ _ a k);
 }
 
 -- the next piece is only begun
-pub reaches_stopped : {W X Y : Type 0} {e : WriteError} (contents : W → Option (List ℕ)) (r : Result X WriteError) (old mid new : Output W) (a rest text : List ℕ)
+pub reaches_stopped : {W X Y : Type 0} {e : WriteError} {contents : W → Option (List ℕ)} {r : Result X WriteError} {old mid new : Output W} {a text : List ℕ} (rest : List ℕ)
     → IsErrAnd r (λ f. f ≡ e) → Reaches contents old mid (a ++ rest) text → Puts {X = Y} contents mid new a (Err e) → Puts contents old new text r
-reaches_stopped contents r old mid new a rest text is h k =
-    subst (λ (t : List ℕ). Puts contents old new t r) (sym h.is_text) (stopped_after contents r old mid h.front a rest new is h.puts k)
+reaches_stopped {contents = contents} {r = r} {old = old} {new = new} rest is h k =
+    subst (λ (t : List ℕ). Puts contents old new t r) (sym h.is_text) (stopped_after rest is h.puts k)
 
 -- nothing is to come
-pub reaches_end : {W X : Type 0} {v : X} (contents : W → Option (List ℕ)) (old new : Output W) (text : List ℕ) → Reaches contents old new [] text → Puts contents old new text (Ok v)
-reaches_end {v = v} contents old new text h =
+pub reaches_end : {W X : Type 0} {v : X} {contents : W → Option (List ℕ)} {old new : Output W} {text : List ℕ} → Reaches contents old new [] text → Puts contents old new text (Ok v)
+reaches_end {v = v} {contents = contents} {old = old} {new = new} h =
     subst (λ (t : List ℕ). Puts contents old new t (Ok v)) (sym (append-nil h.front) ∙ sym h.is_text) (puts_as contents old new h.front h.puts)

@@ -28,13 +28,13 @@ or_false false = refl
 pub finds_more : {W : Type 0} {v : Bool} (contents : W → Option (List ℕ)) (old mid new : Output W) (found : Bool) (a rest text : List ℕ)
     → Finds contents old mid found (a ++ rest) text → Puts contents mid new a (Ok v) → v ≡ is_any a → Finds contents old new (found || v) rest text
 finds_more {v = v} contents old mid new found a rest text h k is = record {
-  reaches = reaches_more contents old mid new a rest text h.reaches k;
+  reaches = reaches_more h.reaches k;
   any = h.any ∙ ap (λ (b : Bool). found || b) (any_both a rest ∙ ap (λ (b : Bool). b || is_any rest) (sym is)) ∙ or_grouped found v (is_any rest);
 }
 
 -- nothing is to come
 pub finds_puts : {W : Type 0} (contents : W → Option (List ℕ)) (old new : Output W) (found : Bool) (text : List ℕ) → Finds contents old new found [] text → Puts contents old new text (Ok found)
-finds_puts contents old new found text h = reaches_end contents old new text h.reaches
+finds_puts contents old new found text h = reaches_end h.reaches
 
 pub finds_any : {W : Type 0} (contents : W → Option (List ℕ)) (old new : Output W) (found : Bool) (text : List ℕ) → Finds contents old new found [] text → found ≡ is_any text
 finds_any contents old new found text h = sym (or_false found) ∙ sym h.any

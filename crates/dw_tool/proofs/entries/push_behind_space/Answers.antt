@@ -1,10 +1,8 @@
-use Rattle.std.proofs.Common.{codes}
-use Rattle.dw_tool.specs.Text.{quoted}
 use Rattle.dw_tool.proofs.Appending.{puts_after, puts_stopped}
 use Rattle.dw_tool.proofs.entries.push_behind_space.Goals as goal
 
 pub returns-in_err-append : goal.returns-in_err-append
-returns-in_err-append g c = puts_stopped g.W.Write.contents c.from_residual.result _ (codes " ") (quoted c.args.text.now) _ c.from_residual.ensures.1 c.in_err-append.ensures
+returns-in_err-append g c = puts_stopped _ c.from_residual.ensures.1 c.in_err-append.ensures
 
 pub returns : goal.returns
-returns g c = puts_after g.W.Write.contents c.push_quoted.result _ _ (codes " ") (quoted c.args.text.now) _ c.in_ok-append.ensures c.push_quoted.ensures
+returns g c = puts_after c.in_ok-append.ensures c.push_quoted.ensures

@@ -1,7 +1,7 @@
 use Rattle.std.proofs.Common.{List, subst}
 use Rattle.dw_tree.specs.Lent.{EntryAt}
 use Rattle.dw_strings.specs.TextView.{sections_of}
-use Rattle.dw_tool.specs.Show.{entry_text, entries_text}
+use Rattle.dw_tool.specs.Show.{entries_text}
 use Rattle.dw_tool.proofs.Appending.{Reaches, reaches_more, reaches_stopped}
 use Rattle.dw_tool.proofs.entries.push_entries.Goals as goal
 
@@ -11,7 +11,7 @@ returns-in_err-push_entry g c =
     let text = entries_text (sections_of place.strings.now) place.section.now.items place.item in
     let all = text c.args.entries in
     let h = subst (λ (left : List EntryAt). Reaches g.W.Write.contents c.args.out.now c.loop-entry.out (text left) all) c.in-Some.ensures.steps c.loop-entry.invariant in
-    reaches_stopped g.W.Write.contents c.from_residual.result _ _ _ (entry_text (sections_of place.strings.now) place.section.now.items place.item c.in-Some.entry) _ all c.from_residual.ensures.1 h c.in_err-push_entry.ensures
+    reaches_stopped _ c.from_residual.ensures.1 h c.in_err-push_entry.ensures
 
 pub loop-entry-preserved : goal.loop-entry-preserved
 loop-entry-preserved g c =
@@ -19,4 +19,4 @@ loop-entry-preserved g c =
     let text = entries_text (sections_of place.strings.now) place.section.now.items place.item in
     let all = text c.args.entries in
     let h = subst (λ (left : List EntryAt). Reaches g.W.Write.contents c.args.out.now c.loop-entry.out (text left) all) c.in-Some.ensures.steps c.loop-entry.invariant in
-    reaches_more g.W.Write.contents _ _ _ (entry_text (sections_of place.strings.now) place.section.now.items place.item c.in-Some.entry) _ all h c.in_ok-push_entry.ensures
+    reaches_more h c.in_ok-push_entry.ensures

@@ -1,6 +1,5 @@
 use Rattle.std.proofs.Common.{codes, ◌++◌, ◌+◌, List, ℕ, subst}
 use Rattle.dw_tool.specs.Output.{Puts}
-use Rattle.dw_tool.specs.Pieces.{depth_text}
 use Rattle.dw_tool.specs.Show.{tag_at}
 use Rattle.dw_tool.specs.Text.{hexadecimal, tag_text}
 use Rattle.dw_tool.proofs.Appending.{puts_after, puts_stopped}
@@ -13,7 +12,7 @@ returns-in_err-push_depth g c =
     let behind = hexadecimal (c.args.start + e.offset) ++ (codes " " ++ tag_text (tag_at e)) in
     let r = c.from_residual.result in
     subst (λ (t : List ℕ). Puts g.W.Write.contents c.args.out.now c.push_depth.new.out t r) (depth_before e.depth behind)
-    (puts_stopped g.W.Write.contents r _ (depth_text e.depth) behind _ c.from_residual.ensures.1 (rw c.depth.ensures at c.in_err-push_depth.ensures))
+    (puts_stopped _ c.from_residual.ensures.1 (rw c.depth.ensures at c.in_err-push_depth.ensures))
 
 pub returns-in_err-push_hexadecimal : goal.returns-in_err-push_hexadecimal
 returns-in_err-push_hexadecimal g c =
@@ -22,8 +21,8 @@ returns-in_err-push_hexadecimal g c =
     let number = hexadecimal (c.args.start + e.offset) in
     let r = c.from_residual-in_err-push_hexadecimal.result in
     subst (λ (t : List ℕ). Puts g.W.Write.contents c.args.out.now c.push_hexadecimal.new.out t r) (depth_before e.depth (number ++ tag))
-    (puts_after g.W.Write.contents r _ _ (depth_text e.depth) (number ++ tag) _ (rw c.depth.ensures at c.in_ok-push_depth.ensures)
-    (puts_stopped g.W.Write.contents r _ number tag _ c.from_residual-in_err-push_hexadecimal.ensures.1 (rw c.offset.ensures at c.in_err-push_hexadecimal.ensures)))
+    (puts_after (rw c.depth.ensures at c.in_ok-push_depth.ensures)
+    (puts_stopped _ c.from_residual-in_err-push_hexadecimal.ensures.1 (rw c.offset.ensures at c.in_err-push_hexadecimal.ensures)))
 
 pub returns : goal.returns
 returns g c =
@@ -32,5 +31,5 @@ returns g c =
     let number = hexadecimal (c.args.start + e.offset) in
     let r = c.push_tag.result in
     subst (λ (t : List ℕ). Puts g.W.Write.contents c.args.out.now c.push_tag.new.out t r) (depth_before e.depth (number ++ tag))
-    (puts_after g.W.Write.contents r _ _ (depth_text e.depth) (number ++ tag) _ (rw c.depth.ensures at c.in_ok-push_depth.ensures)
-    (puts_after g.W.Write.contents r _ _ number tag _ (rw c.offset.ensures at c.in_ok-push_hexadecimal.ensures) (rw c.tag.ensures at c.push_tag.ensures)))
+    (puts_after (rw c.depth.ensures at c.in_ok-push_depth.ensures)
+    (puts_after (rw c.offset.ensures at c.in_ok-push_hexadecimal.ensures) (rw c.tag.ensures at c.push_tag.ensures)))

@@ -1,12 +1,10 @@
-use Rattle.std.proofs.Common.{◌+◌}
-use Rattle.dw_tool.specs.Text.{hexadecimal}
 use Rattle.dw_tool.proofs.Appending.{puts_after, puts_stopped}
 use Rattle.dw_tool.proofs.entries.push_offset.Goals as goal
 
 pub returns-in_err-append : goal.returns-in_err-append
 returns-in_err-append g c =
-    puts_stopped g.W.Write.contents c.from_residual.result _ (c.args.label.now) (hexadecimal (c.args.start + c.args.offset)) _ c.from_residual.ensures.1 c.in_err-append.ensures
+    puts_stopped _ c.from_residual.ensures.1 c.in_err-append.ensures
 
 pub returns : goal.returns
 returns g c =
-    puts_after g.W.Write.contents c.push_hexadecimal.result _ _ (c.args.label.now) (hexadecimal (c.args.start + c.args.offset)) _ c.in_ok-append.ensures c.push_hexadecimal.ensures
+    puts_after c.in_ok-append.ensures c.push_hexadecimal.ensures

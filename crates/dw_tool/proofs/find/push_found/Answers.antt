@@ -23,7 +23,7 @@ returns-in_err-found-clause-puts g c =
     let name = c.args.name.now in
     let text = found_text texts name c.args.section.now in
     let h = subst (λ (xs : List TheItem). Finds g.W.Write.contents c.args.out.now c.loop-item.out c.loop-item.found (found_items texts items c.loop-item.number name (map item_of xs)) text) c.in-Some.ensures.cases.0 c.loop-item.invariant.finds in
-    reaches_stopped g.W.Write.contents c.from_residual.result _ _ _ (found_item texts items c.loop-item.number name (item_of c.in-Some.item.now)) _ text c.from_residual.ensures.1 h.reaches c.in_err-found.ensures.puts
+    reaches_stopped _ c.from_residual.ensures.1 h.reaches c.in_err-found.ensures.puts
 
 pub loop-item-preserved : goal.loop-item-preserved
 loop-item-preserved g c =

@@ -17,7 +17,7 @@ returns-in_err-found-clause-puts g c =
     let text = found_entries texts items place.item c.args.name.now in
     let all = text c.args.entries in
     let h = subst (λ (left : List EntryAt). Finds g.W.Write.contents c.args.out.now c.loop-entry.out c.loop-entry.found (text left) all) c.in-Some.ensures.steps c.loop-entry.invariant in
-    reaches_stopped g.W.Write.contents c.from_residual.result _ _ _ (found_entry texts items place.item c.args.name.now c.in-Some.entry) _ all c.from_residual.ensures.1 h.reaches c.in_err-found.ensures.puts
+    reaches_stopped _ c.from_residual.ensures.1 h.reaches c.in_err-found.ensures.puts
 
 pub loop-entry-preserved : goal.loop-entry-preserved
 loop-entry-preserved g c =

@@ -1,30 +1,16 @@
-use Rattle.std.proofs.Common.{codes, ◌++◌}
-use Rattle.dw_tool.specs.Text.{labelled, labelled_decimal}
 use Rattle.dw_tool.proofs.Appending.{puts_after, puts_stopped}
 use Rattle.dw_tool.proofs.show.push_other.Goals as goal
 
 pub returns-in_err-push_labelled : goal.returns-in_err-push_labelled
 returns-in_err-push_labelled g c =
-    let contents = g.W.Write.contents in
-    let behind_2 = codes "\n" in
-    let behind_1 = labelled_decimal (codes " size ") c.args.size ++ behind_2 in
-    let r = c.from_residual.result in
-    puts_stopped contents r _ (labelled (codes "other ") c.args.start) behind_1 _ c.from_residual.ensures.1 c.in_err-push_labelled.ensures
+    puts_stopped _ c.from_residual.ensures.1 c.in_err-push_labelled.ensures
 
 pub returns-in_err-push_labelled_decimal : goal.returns-in_err-push_labelled_decimal
 returns-in_err-push_labelled_decimal g c =
-    let contents = g.W.Write.contents in
-    let behind_2 = codes "\n" in
-    let behind_1 = labelled_decimal (codes " size ") c.args.size ++ behind_2 in
-    let r = c.from_residual-in_err-push_labelled_decimal.result in
-    puts_after contents r _ _ (labelled (codes "other ") c.args.start) behind_1 _ c.in_ok-push_labelled.ensures
-    (puts_stopped contents r _ (labelled_decimal (codes " size ") c.args.size) behind_2 _ c.from_residual-in_err-push_labelled_decimal.ensures.1 c.in_err-push_labelled_decimal.ensures)
+    puts_after c.in_ok-push_labelled.ensures
+    (puts_stopped _ c.from_residual-in_err-push_labelled_decimal.ensures.1 c.in_err-push_labelled_decimal.ensures)
 
 pub returns : goal.returns
 returns g c =
-    let contents = g.W.Write.contents in
-    let behind_2 = codes "\n" in
-    let behind_1 = labelled_decimal (codes " size ") c.args.size ++ behind_2 in
-    let r = c.append.result in
-    puts_after contents r _ _ (labelled (codes "other ") c.args.start) behind_1 _ c.in_ok-push_labelled.ensures
-    (puts_after contents r _ _ (labelled_decimal (codes " size ") c.args.size) behind_2 _ c.in_ok-push_labelled_decimal.ensures c.append.ensures)
+    puts_after c.in_ok-push_labelled.ensures
+    (puts_after c.in_ok-push_labelled_decimal.ensures c.append.ensures)

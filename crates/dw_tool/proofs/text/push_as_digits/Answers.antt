@@ -1,10 +1,8 @@
-use Rattle.std.proofs.Common.{codes}
-use Rattle.dw_tool.specs.Text.{two_digits}
 use Rattle.dw_tool.proofs.Appending.{puts_after, puts_stopped}
 use Rattle.dw_tool.proofs.text.push_as_digits.Goals as goal
 
 pub returns-in_err-append : goal.returns-in_err-append
-returns-in_err-append g c = puts_stopped g.W.Write.contents c.from_residual.result _ (codes "\\x") (two_digits c.args.byte) _ c.from_residual.ensures.1 c.in_err-append.ensures
+returns-in_err-append g c = puts_stopped _ c.from_residual.ensures.1 c.in_err-append.ensures
 
 pub returns : goal.returns
-returns g c = puts_after g.W.Write.contents c.push_two_digits.result _ _ (codes "\\x") (two_digits c.args.byte) _ c.in_ok-append.ensures c.push_two_digits.ensures
+returns g c = puts_after c.in_ok-append.ensures c.push_two_digits.ensures

@@ -1,14 +1,13 @@
-use Rattle.std.proofs.Common.{◌≡◌, codes, false, length, ◌==◌}
-use Rattle.dw_tool.specs.Text.{each, two_digits}
+use Rattle.std.proofs.Common.{◌≡◌, false, length, ◌==◌}
 use Rattle.dw_tool.proofs.Appending.{puts_after, puts_stopped}
 use Rattle.dw_tool.proofs.text.push_spaced_digits.Goals as goal
 
 pub returns-in_err-append : goal.returns-in_err-append
 returns-in_err-append g c =
     let some : (length c.args.bytes.now == 0) ≡ false = cc in
-    rw some (puts_stopped g.W.Write.contents c.from_residual.result _ (codes " ") (each two_digits c.args.bytes.now) _ c.from_residual.ensures.1 c.in_err-append.ensures)
+    rw some (puts_stopped _ c.from_residual.ensures.1 c.in_err-append.ensures)
 
 pub returns : goal.returns
 returns g c =
     let some : (length c.args.bytes.now == 0) ≡ false = cc in
-    rw some (puts_after g.W.Write.contents c.push_each_digits.result _ _ (codes " ") (each two_digits c.args.bytes.now) _ c.in_ok-append.ensures c.push_each_digits.ensures)
+    rw some (puts_after c.in_ok-append.ensures c.push_each_digits.ensures)
