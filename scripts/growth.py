@@ -70,7 +70,8 @@ def declarations(times):
 
 def texts(times):
     table = declaration(1, 0x11, 0, [(0x03, 0x08)]) + b"\0"
-    return table, unit(b"\x01" + b"a" * (32_768 * times) + b"\0")
+    # (a byte of a text costs so little that what a run costs anyhow hides it in a short one)
+    return table, unit(b"\x01" + b"a" * (524_288 * times) + b"\0")
 
 
 WAYS = [entries, nesting, attributes, declarations, texts]
