@@ -1,0 +1,134 @@
+#!/usr/bin/env python3
+"""Runs cases over the built program: what it writes, what it says on standard error, and its status.
+
+Usage: scripts/cases.py PROGRAM [FILE..]
+
+PROGRAM is the built `dwarf` (crates/dwarf/out/dwarf). Each FILE has the cases of one topic; without one, all files of
+`cases/` are run. Each case runs in a folder of its own, where its files lie, for at most 10 seconds. The last line is
+`N passed, M failed`, and the status is 0 where some passed and none failed, else 1.
+
+How a line of a FILE begins says what it is:
+
+    # TEXT            a comment
+    [TITLE]           begins a group of cases, which has no files yet
+    NAME = BYTES      names bytes for the rest of FILE; indented lines below it go on with BYTES. What is named `info`,
+                      `abbrev`, `str`, `line-str` or `str-offsets` is from here on a file of the group, of that name
+    $ WORDS           runs the program with these words and an option for each file of the group (`--info info ..`)
+    % WORDS           runs it with these words alone
+    TEXT              a line of standard output; so is `| TEXT`, for one that is empty or begins as other lines here
+    = BYTES           standard output, in bytes
+    ~ NUMBER "TEXT"   so many lines of standard output begin with TEXT, and whatever else may stand there
+    ! TEXT            a line of standard error
+    !^ TEXT           standard error begins with TEXT, and whatever else may stand there
+    ? NUMBER          the status
+
+What isn't said is empty, and the status 0. Lines `$` and `%` directly below each other have one answer in common. Each
+answer says something, if only `? 0`.
+
+BYTES are words: a byte in hexadecimal, a text as `"a\\0"`, a NAME, or `file:PATH` for a file of the repository, each as
+often as `*COUNT` behind it says. `@OFFSET` puts what follows in the place of the bytes from there on, `..SIZE` cuts off
+all behind that size, and `#` begins a comment. In WORDS, `"..."` is one word too, and `>PATH` is where output goes.
+"""
+
+import concurrent.futures
+import glob
+import os
+import subprocess
+import sys
+import tempfile
+
+from case_reader import TOP, Reader
+
+SECONDS = 10
+
+# Cases that are right, and answers to the first of them of which this has to be found wrong.
+RIGHT = """abbrev = 01 11 00 03 08 00 00 00
+info = 0b 00 00 00 05 00 01 08 00 00 00 00 01 "a\\0"
+$ find a
+0xc DW_TAG_compile_unit
+$ copy
+= info
+$ show
+~ 1 "<1> 0xc"
+$ type 13
+! refused NoEntry
+? 1
+% show
+!^ error:
+? 2
+"""
+FOUND = "$ find a\n0xc DW_TAG_compile_unit\n"
+WRONG = {"$ find a\n? 0": ["output"], "$ find a\n= info": ["output"], FOUND + "| ": ["output"], "$ find a\n~ 2 \"0xc\"": ["output"],
+         FOUND + "! memory": ["error"], FOUND + "!^ e": ["error"], FOUND + "? 1": ["status"],
+         "$ find a\n! memory\n? 1": ["output", "error", "status"]}
+
+
+def run(program, case):
+    """The output, the error and the status of a case; no status where it doesn't end in time."""
+    words = [program] + [word for word in case.words if not word.startswith(b">")]
+    target = next((word[1:] for word in case.words if word.startswith(b">")), os.devnull)
+    with tempfile.TemporaryDirectory() as folder, open(target, "wb") as elsewhere:
+        for name, content in case.files.items():
+            with open(os.path.join(folder, name), "wb") as file:
+                file.write(content)
+        output = subprocess.PIPE if target == os.devnull else elsewhere
+        try:
+            ran = subprocess.run(words, cwd=folder, stdin=subprocess.DEVNULL, stdout=output, stderr=subprocess.PIPE, timeout=SECONDS)
+        except subprocess.TimeoutExpired:
+            return b"", b"", None
+        return ran.stdout or b"", ran.stderr, ran.returncode
+
+
+def differences(answer, output, error, status):
+    """What differs, what was wanted, and what came."""
+    for count, start in answer.counts:
+        found = sum(line.startswith(start) for line in output.split(b"\n"))
+        if found != count:
+            yield "output", f"{count} lines that begin with {shown(start)}", f"{found} in\n{shown(output)}"
+    if not answer.counts and output != answer.output:
+        yield "output", shown(answer.output), shown(output)
+    if not (error.startswith(answer.error_begins) if answer.error_begins else error == answer.error):
+        yield "error", shown(answer.error_begins or answer.error), shown(error)
+    if status != answer.status:
+        yield "status", answer.status, "none in time" if status is None else status
+
+
+def shown(content):
+    """Bytes as they are printed: as a text, or in hexadecimal."""
+    text = content.decode("utf-8", "replace")
+    return text if all(it.isprintable() for it in text.split("\n")) else content.hex(" ")
+
+
+def judge(program, case):
+    """Whether a case is answered, and else which of its answers are not. Prints these."""
+    found = list(differences(case.answer, *run(program, case)))
+    told = "".join(f"  {what}, wanted: {wanted}\n  {what}, came:   {came}\n" for what, wanted, came in found)
+    words = " ".join(os.fsdecode(word) for word in case.words)
+    return [what for what, _, _ in found], told and f"{case.place}: dwarf {words}\n{told}"
+
+
+def tests_itself(program):
+    """Whether right cases pass and wrong ones fail, each in what is wrong."""
+    front = "\n".join(RIGHT.split("\n")[:2])
+    right = all(not judge(program, case)[0] for case in Reader("right", RIGHT).cases)
+    return right and all(judge(program, Reader("wrong", f"{front}\n{text}").cases[0])[0] == found for text, found in WRONG.items())
+
+
+def main(program, *files):
+    program = os.path.abspath(program)
+    files = files or sorted(glob.glob(os.path.join(TOP, "cases", "*")))
+    cases = []
+    for name in files:
+        with open(name, encoding="utf-8") as file:
+            cases += Reader(os.path.relpath(name, TOP), file.read()).cases
+    if not tests_itself(program):
+        sys.exit("cases.py: a right case failed, or a wrong one passed")
+    with concurrent.futures.ThreadPoolExecutor(os.cpu_count()) as pool:
+        judged = list(pool.map(lambda case: judge(program, case), cases))
+    failed = [told for found, told in judged if found]
+    print(*failed, f"{len(cases) - len(failed)} passed, {len(failed)} failed", sep="\n")
+    return 0 if cases and not failed else 1
+
+
+if __name__ == "__main__":
+    sys.exit(main(*sys.argv[1:]) if len(sys.argv) > 1 else __doc__)
