@@ -1,12 +1,13 @@
-//! Tests of sections, of references between their entries, and of the texts that these name.
+//! Tests of sections, and of what a caller gets of their references, texts, types and findings beside what the program
+//! writes: that stands in `cases/`.
 #![tactic(auto)]
 
+#[cfg(test)]
+mod checks;
 #[cfg(test)]
 mod common;
 #[cfg(test)]
 mod edits;
-#[cfg(test)]
-mod every_number;
 #[cfg(test)]
 mod readers;
 #[cfg(test)]
@@ -15,3 +16,5 @@ mod references;
 mod sections;
 #[cfg(test)]
 mod texts;
+#[cfg(test)]
+mod types;

@@ -1,9 +1,9 @@
-//! How the program ends: its statuses, and each line on standard error.
+//! How the program ends where memory is refused, or what it says can't be printed.
 use dw_leb::{Fault, Reason, SectionId};
 use dw_line::line::{line, unreadable};
 use dw_line::outcome::LineError;
 use dw_tool::failure::{Failure, exit_status};
-use dw_tool::status::{Refused, Status, ToolError};
+use dw_tool::status::{Refused, ToolError};
 use std::alloc::Global;
 use std::io;
 use std::io::ErrorKind;
@@ -18,27 +18,12 @@ fn fault(section: SectionId, offset: u64, reason: Reason) -> Fault {
 }
 
 #[test]
-fn lines_and_statuses(rt: HostRuntime) -> Result<(), Fail> {
-    let in_entries = fault(SectionId::Info, 0x11, Reason::Truncated);
-    let in_table = fault(SectionId::Abbrev, 0x1f2, Reason::DuplicateCode);
-    for (failure, line, status) in [
-        (Failure::Fault(in_entries), "fault info 0x11 Truncated", 1),
-        (
-            Failure::Fault(in_table),
-            "fault abbrev 0x1f2 DuplicateCode",
-            1,
-        ),
-        (Failure::Refused(Refused::NoEntry), "refused NoEntry", 1),
-        (Failure::File("no such/file"), "file no such/file", 3),
-        (Failure::Output, "file standard output", 3),
-        (Failure::Memory, "memory", 4),
-    ] {
-        let text = format!(in rt.alloc(); "{failure}")?;
-        assert!(rt; text.as_str() == line);
-        assert!(rt; exit_status(Err(failure)) == status);
-    }
-    assert!(rt; exit_status(Ok(Status::Good)) == 0);
-    assert!(rt; exit_status(Ok(Status::Bad)) == 1);
+fn want_of_memory(rt: HostRuntime) -> Result<(), Fail> {
+    let text = format!(in rt.alloc(); "{}", Failure::Memory)?;
+    assert!(rt; text.as_str() == "memory");
+    assert!(rt; exit_status(Err(Failure::Memory)) == 4);
+    let line_text = format!(in rt.alloc(); "{}", LineError::Memory)?;
+    assert!(rt; line_text.as_str() == "memory");
     Ok(())
 }
 
@@ -87,17 +72,10 @@ fn help_that_is_not_printed_is_a_failed_output(rt: HostRuntime) {
 }
 
 #[test]
-fn words_that_are_no_text_are_a_mistake(rt: HostRuntime) -> Result<(), Fail> {
+fn words_that_are_no_text_are_a_mistake(rt: HostRuntime) {
     let alloc = rt.alloc();
     let mistake = unreadable(alloc, ErrorKind::InvalidData);
-    let text = format!(in alloc; "{mistake}")?;
-    assert!(rt;
-        text.as_str()
-            == "error: invalid UTF-8 was detected in one or more arguments\n\nUsage: dwarf <COMMAND>\n\nFor more information, try '--help'.\n"
-    );
-    assert!(rt; mistake.ended(Ok(())) == Ok(2));
     assert!(rt; unprinted(mistake, ErrorKind::StorageFull) == Ok(2));
     let memory = unreadable(alloc, ErrorKind::OutOfMemory);
     assert!(rt; memory.ended(Ok(())) == Err(Failure::Memory));
-    Ok(())
 }
