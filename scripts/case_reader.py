@@ -25,7 +25,7 @@ class Answer:
     output: bytes = b""
     counts: list = dataclasses.field(default_factory=list)
     error: bytes = b""
-    error_begins: bytes = None
+    error_begins: bytes = b""
     status: int = 0
 
 

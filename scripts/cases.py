@@ -22,8 +22,8 @@ How a line of a FILE begins says what it is:
     !^ TEXT           standard error begins with TEXT, and whatever else may stand there
     ? NUMBER          the status
 
-What isn't said is empty, and the status 0. Lines `$` and `%` directly below each other have one answer in common. Each
-answer says something, if only `? 0`.
+Unless it is said, there is no output and no error, and the status is 0. Lines `$` and `%` directly below each other have
+one answer in common. Each answer says something, if only `? 0`.
 
 BYTES are words: a byte in hexadecimal, a text as `"a\\0"`, a NAME, or `file:PATH` for a file of the repository, each as
 often as `*COUNT` behind it says. `@OFFSET` puts what follows in the place of the bytes from there on, `..SIZE` cuts off
@@ -85,26 +85,28 @@ def differences(answer, output, error, status):
         found = sum(line.startswith(start) for line in output.split(b"\n"))
         if found != count:
             yield "output", f"{count} lines that begin with {shown(start)}", f"{found} in\n{shown(output)}"
-    if not answer.counts and output != answer.output:
+    if (answer.output or not answer.counts) and output != answer.output:
         yield "output", shown(answer.output), shown(output)
-    if not (error.startswith(answer.error_begins) if answer.error_begins else error == answer.error):
-        yield "error", shown(answer.error_begins or answer.error), shown(error)
+    if not error.startswith(answer.error_begins):
+        yield "error", f"at its front {shown(answer.error_begins)}", shown(error)
+    if (answer.error or not answer.error_begins) and error != answer.error:
+        yield "error", shown(answer.error), shown(error)
     if status != answer.status:
         yield "status", answer.status, "none in time" if status is None else status
 
 
 def shown(content):
-    """Bytes as they are printed: as a text, or in hexadecimal."""
-    text = content.decode("utf-8", "replace")
-    return text if all(it.isprintable() for it in text.split("\n")) else content.hex(" ")
+    """The front of bytes as it is printed: as a text, or in hexadecimal."""
+    text = content[:2000].decode("utf-8", "replace")
+    return text if all(it.isprintable() for it in text.split("\n")) else content[:2000].hex(" ")
 
 
 def judge(program, case):
-    """Whether a case is answered, and else which of its answers are not. Prints these."""
+    """The names of what differs, and a text that tells it."""
     found = list(differences(case.answer, *run(program, case)))
     told = "".join(f"  {what}, wanted: {wanted}\n  {what}, came:   {came}\n" for what, wanted, came in found)
     words = " ".join(os.fsdecode(word) for word in case.words)
-    return [what for what, _, _ in found], told and f"{case.place}: dwarf {words}\n{told}"
+    return [what for what, _, _ in found], f"{case.place}: dwarf {words}\n{told}"
 
 
 def tests_itself(program):
