@@ -4,7 +4,7 @@ use dw_line::line::{line, unreadable};
 use dw_line::outcome::LineError;
 use dw_tool::failure::{Failure, exit_status};
 use dw_tool::status::{Refused, ToolError};
-use std::alloc::Global;
+use std::alloc::{AllocError, Global};
 use std::io;
 use std::io::ErrorKind;
 use std::test::Fail;
@@ -17,13 +17,21 @@ fn fault(section: SectionId, offset: u64, reason: Reason) -> Fault {
     }
 }
 
+fn failure_text_is(alloc: Global, text: &str) -> Result<bool, AllocError> {
+    let told = format!(in alloc; "{}", Failure::Memory)?;
+    Ok(told.as_str() == text)
+}
+
+fn line_text_is(alloc: Global, text: &str) -> Result<bool, AllocError> {
+    let told = format!(in alloc; "{}", LineError::Memory)?;
+    Ok(told.as_str() == text)
+}
+
 #[test]
 fn want_of_memory(rt: HostRuntime) -> Result<(), Fail> {
-    let text = format!(in rt.alloc(); "{}", Failure::Memory)?;
-    assert!(rt; text.as_str() == "memory");
+    assert!(rt; failure_text_is(rt.alloc(), "memory")?);
+    assert!(rt; line_text_is(rt.alloc(), "memory")?);
     assert!(rt; exit_status(Err(Failure::Memory)) == 4);
-    let line_text = format!(in rt.alloc(); "{}", LineError::Memory)?;
-    assert!(rt; line_text.as_str() == "memory");
     Ok(())
 }
 
@@ -54,28 +62,30 @@ fn failures_of_runs(rt: HostRuntime) {
     }
 }
 
-// How the program ends with words that aren't taken, where their text could not be printed.
-fn unprinted(error: LineError<'_>, kind: ErrorKind) -> Result<u8, Failure<'static>> {
-    error.ended(Err(io::Error::from(kind)))
-}
-
-fn asks_for_help(alloc: Global) -> LineError<'static> {
-    line(alloc, &["--help"]).err().unwrap_or(LineError::Memory)
+// How the program ends where help is asked for, and its text was printed or could not be.
+fn help_ends(alloc: Global, printed: io::Result<()>) -> Result<u8, Failure<'static>> {
+    match line(alloc, &["--help"]) {
+        Ok(_) => Ok(99),
+        Err(help) => help.ended(printed),
+    }
 }
 
 #[test]
 fn help_that_is_not_printed_is_a_failed_output(rt: HostRuntime) {
-    let alloc = rt.alloc();
-    assert!(rt; asks_for_help(alloc).ended(Ok(())) == Ok(0));
-    assert!(rt; unprinted(asks_for_help(alloc), ErrorKind::StorageFull) == Err(Failure::Output));
-    assert!(rt; unprinted(asks_for_help(alloc), ErrorKind::OutOfMemory) == Err(Failure::Memory));
+    let full = io::Error::from(ErrorKind::StorageFull);
+    let memory = io::Error::from(ErrorKind::OutOfMemory);
+    assert!(rt; help_ends(rt.alloc(), Ok(())) == Ok(0));
+    assert!(rt; help_ends(rt.alloc(), Err(full)) == Err(Failure::Output));
+    assert!(rt; help_ends(rt.alloc(), Err(memory)) == Err(Failure::Memory));
+}
+
+// How the program ends with words that could not be read, where what it says of that could not be printed.
+fn unreadable_ends(alloc: Global, kind: ErrorKind) -> Result<u8, Failure<'static>> {
+    unreadable(alloc, kind).ended(Err(io::Error::from(ErrorKind::StorageFull)))
 }
 
 #[test]
 fn words_that_are_no_text_are_a_mistake(rt: HostRuntime) {
-    let alloc = rt.alloc();
-    let mistake = unreadable(alloc, ErrorKind::InvalidData);
-    assert!(rt; unprinted(mistake, ErrorKind::StorageFull) == Ok(2));
-    let memory = unreadable(alloc, ErrorKind::OutOfMemory);
-    assert!(rt; memory.ended(Ok(())) == Err(Failure::Memory));
+    assert!(rt; unreadable_ends(rt.alloc(), ErrorKind::InvalidData) == Ok(2));
+    assert!(rt; unreadable_ends(rt.alloc(), ErrorKind::OutOfMemory) == Err(Failure::Memory));
 }

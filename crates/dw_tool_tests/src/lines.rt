@@ -7,38 +7,24 @@ use dw_tool::command::Command;
 use dw_unit::Versions;
 use std::alloc::Global;
 
+fn read<'a>(alloc: Global, words: &'a [&'a str]) -> Option<Line<'a>> {
+    line(alloc, words).ok()
+}
+
 #[test]
 fn reads_a_line(rt: HostRuntime) {
-    let shown = line(rt.alloc(), &["show", "--info", "a", "--abbrev", "b"]).ok();
+    let words = [
+        "copy",
+        "--abbrev=b",
+        "--str-offsets=e",
+        "--big",
+        "--info=a",
+        "--line-str=d",
+        "--v4",
+        "--str=c",
+    ];
     assert!(rt;
-        shown
-            == Some(Line {
-                command: Command::Show,
-                order: Order::Little,
-                versions: Versions::Five,
-                info: "a",
-                abbrev: "b",
-                str: None,
-                line_str: None,
-                str_offsets: None,
-            })
-    );
-    let copied = line(
-        rt.alloc(),
-        &[
-            "copy",
-            "--abbrev=b",
-            "--str-offsets=e",
-            "--big",
-            "--info=a",
-            "--line-str=d",
-            "--v4",
-            "--str=c",
-        ],
-    )
-    .ok();
-    assert!(rt;
-        copied
+        read(rt.alloc(), &words)
             == Some(Line {
                 command: Command::Copy,
                 order: Order::Big,

@@ -100,16 +100,6 @@ fn texts_longer_than_the_buffer(rt: HostRuntime) -> Result<(), Fail> {
         let info = unit(alloc, name, children)?;
         let text = text(alloc, name, children)?;
         assert!(rt; shows(alloc, info.as_slice(), text.as_bytes()));
-    }
-    Ok(())
-}
-
-#[test]
-fn writers_that_fail_in_the_middle(rt: HostRuntime) -> Result<(), Fail> {
-    let alloc = rt.alloc();
-    for (name, children) in UNITS {
-        let info = unit(alloc, name, children)?;
-        let text = text(alloc, name, children)?;
         assert!(rt; stops(alloc, info.as_slice(), text.as_bytes()));
     }
     Ok(())

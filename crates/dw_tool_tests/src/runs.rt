@@ -6,6 +6,7 @@ use dw_tool::command::Command;
 use dw_tool::run::{Inputs, run};
 use dw_tool::status::{Refused, ToolError};
 use dw_unit::Versions;
+use std::alloc::Global;
 use std::io::ErrorKind;
 use std::test::Fail;
 
@@ -17,36 +18,41 @@ const UNIT: [u8; 15] = [
     0x0b, 0x00, 0x00, 0x00, 0x05, 0x00, 0x01, 0x08, 0x00, 0x00, 0x00, 0x00, 0x01, 0x61, 0x00,
 ];
 
+/// Whether a run whose reader fails at its third call tells so, and writes nothing.
+fn tells_of_its_reader(alloc: Global, command: Command<'_>) -> bool {
+    let mut reader = Watched::new(Stepped::failing(UNIT.as_slice(), 4, 2, ErrorKind::TimedOut));
+    let mut writer = Watched::new(Vec::new(alloc));
+    let inputs = Inputs {
+        order: Order::Little,
+        versions: Versions::Five,
+        info: &mut reader,
+        abbrev: &TABLE,
+        strings: no_strings(),
+    };
+    let unread = run(alloc, command, inputs, &mut writer);
+    unread == Err(ToolError::Read(ErrorKind::TimedOut)) && writer.into_inner().is_empty()
+}
+
+/// Whether a run whose writer fails at its second call tells so.
+fn tells_of_its_writer(alloc: Global, command: Command<'_>) -> bool {
+    let mut reader = Watched::new(UNIT.as_slice());
+    let mut writer = Watched::new(Stepped::failing(Vec::new(alloc), 4, 1, ErrorKind::TimedOut));
+    let inputs = Inputs {
+        order: Order::Little,
+        versions: Versions::Five,
+        info: &mut reader,
+        abbrev: &TABLE,
+        strings: no_strings(),
+    };
+    let unwritten = run(alloc, command, inputs, &mut writer);
+    unwritten == Err(ToolError::Write(ErrorKind::TimedOut))
+}
+
 #[test]
 fn tells_devices_that_fail(rt: HostRuntime) {
-    let alloc = rt.alloc();
     for command in [Command::Show, Command::Copy] {
-        let mut reader = Watched::new(Stepped::failing(UNIT.as_slice(), 4, 2, ErrorKind::TimedOut));
-        let mut writer = Watched::new(Vec::new(alloc));
-        let strings = no_strings();
-        let inputs = Inputs {
-            order: Order::Little,
-            versions: Versions::Five,
-            info: &mut reader,
-            abbrev: &TABLE,
-            strings,
-        };
-        let unread = run(alloc, command, inputs, &mut writer);
-        assert!(rt; unread == Err(ToolError::Read(ErrorKind::TimedOut)));
-        assert!(rt; writer.into_inner().is_empty());
-
-        let mut reader = Watched::new(UNIT.as_slice());
-        let mut writer = Watched::new(Stepped::failing(Vec::new(alloc), 4, 1, ErrorKind::TimedOut));
-        let strings = no_strings();
-        let inputs = Inputs {
-            order: Order::Little,
-            versions: Versions::Five,
-            info: &mut reader,
-            abbrev: &TABLE,
-            strings,
-        };
-        let unwritten = run(alloc, command, inputs, &mut writer);
-        assert!(rt; unwritten == Err(ToolError::Write(ErrorKind::TimedOut)));
+        assert!(rt; tells_of_its_reader(rt.alloc(), command));
+        assert!(rt; tells_of_its_writer(rt.alloc(), command));
     }
 }
 
