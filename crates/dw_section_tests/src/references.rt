@@ -55,3 +55,25 @@ fn references_among_known_entries(rt: HostRuntime) -> Result<(), Fail> {
     }
     Ok(())
 }
+
+/// Code 1, DW_TAG_compile_unit, no children, DW_AT_type as DW_FORM_data4.
+const NUMBER: [u8; 8] = [0x01, 0x11, 0, 0x49, 0x06, 0, 0, 0];
+
+/// A compile unit over it.
+const TWELVE: [u8; 17] = [
+    0x0d, 0, 0, 0, 0x05, 0, 0x01, 0x08, 0, 0, 0, 0, 0x01, 0x0c, 0, 0, 0,
+];
+
+/// What the type of the first unit's root resolves to.
+fn first_type(section: &Section) -> Option<Result<EntryId, RefFault>> {
+    let named = section.entry(at(0))?.attr(DW_AT_TYPE)?;
+    Some(section.resolve(at(0), &named))
+}
+
+#[test]
+fn a_number_is_no_reference(rt: HostRuntime) -> Result<(), Fail> {
+    let mut section = Section::new(rt.alloc(), Order::Little);
+    assert!(rt; takes(rt.alloc(), &mut section, &NUMBER, &TWELVE)?);
+    assert!(rt; first_type(&section) == Some(Err(RefFault::NotReference)));
+    Ok(())
+}
