@@ -6,7 +6,8 @@
 # Usage: scripts/misuse.sh
 #
 # It stands on the libraries that the last `rt ci` or `rt check` built under crates/*/out, and builds those
-# that are not there. It takes half a minute over libraries that are there, and writes nothing else.
+# that are not there. It takes half a minute over libraries that are there, and writes nothing else. Its last line
+# counts the callers that were judged rightly.
 set -euo pipefail
 cd "$(dirname "$0")/.."
 
@@ -34,6 +35,7 @@ check() {
     (cd "$scratch" && "$kit/bin/rattle" check --crate-name misuse src/lib.rt "${words[@]}") > "$scratch/answer" 2>&1
 }
 
+passed=0
 for pair in "an_entry unit" "an_entry section" "a_text strings"; do
     read -r lent owner <<< "$pair"
     echo "misuse: checking a caller that uses ${lent/_/ } before it drops its $owner"
@@ -48,5 +50,7 @@ for pair in "an_entry unit" "an_entry section" "a_text strings"; do
         echo "misuse: ${lent/_/ } that outlives its $owner was not refused as such" >&2
         exit 1
     fi
+    passed=$((passed + 2))
 done
 echo "misuse: an entry or a text that outlives what it was lent from is refused, the sound counterparts pass"
+echo "$passed passed, 0 failed"

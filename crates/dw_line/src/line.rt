@@ -1,6 +1,6 @@
 //! The reading of the command line.
 ghost use Rattle.std.specs.Prelude.{◌≡◌, ◌≢◌, IfErr, IfOk, Some, codes, [], false, map, option_map, is_some, true};
-ghost use Rattle.clap.specs.Words.{app_of, first_of, found_of, rows_of, rule_of, subcommand_of, subcommand_rows_of};
+ghost use Rattle.clap.specs.Words.{app_of, first_of, found_of, rows_of, rule_of, subcommand_of, subcommand_rows_of, with_rule, with_subcommand};
 ghost use Rattle.clap.specs.Values.{kind_of};
 ghost use Rattle.clap.specs.declared.builder.command.Command.TheViews.{out-Command};
 ghost use Rattle.clap.specs.declared.error.kind.ErrorKind.TheVariants.{ValueValidation};
@@ -8,7 +8,7 @@ ghost use Rattle.std.specs.declared.io.ErrorKind.TheVariants.{OutOfMemory};
 ghost use Rattle.dw_line.specs.declared.outcome.LineError.TheVariants.{Memory};
 ghost use Rattle.dw_line.specs.declared.word.Argument.TheVariants.{Attribute, Offset, Value};
 ghost use Rattle.dw_line.specs.Words.{attribute_in, offset_in};
-ghost use Rattle.dw_line.specs.Line.{IsBadAt, IsBadBy, IsBadWord, IsMistake, IsOneOf, IsCommand, HasWords, IsGiven, Meets, IsLineError, Says, SaysBy, asking_program, finder, flag, names, attribute_given, offset_given, setter, type_finder, value_given, value_read, is_set, optional_path, order_by, path_option, program, refusals, showing_program, subcommand, versions_by, word, with_both_flags, with_entry_sections, with_text_sections};
+ghost use Rattle.dw_line.specs.Line.{IsBadAt, IsBadBy, IsBadWord, IsMistake, IsOneOf, IsCommand, HasWords, IsGiven, Meets, IsLineError, Says, SaysBy, asking_program, bare_program, finder, flag, names, attribute_given, offset_given, setter, type_finder, value_given, value_read, is_set, optional_path, order_by, path_option, program, refusals, showing_program, subcommand, versions_by, word, with_both_flags, with_entry_sections, with_text_sections};
 
 use crate::outcome::{Line, LineError};
 use crate::word::{Argument, BadWord, attribute_of, offset_of, value_of};
@@ -81,9 +81,13 @@ fn parser<'a>(alloc: Global) -> Result<clap::Command<'a>, AllocError>
     ensures shape { IfOk result (λ r. app_of r ≡ program) }
     ensures globals { IfOk result (λ r. (out-Command r).has_globals ≡ false) }
 {
-    let set = set_parser(alloc)?;
-    let copy = subcommand_parser(alloc, "copy", "Writes the bytes of .debug_info back")?;
-    asking_parser(alloc)?.subcommand(set)?.subcommand(copy)
+    let program = with_set(alloc, asking_parser(alloc)?)?;
+    with_plain(
+        alloc,
+        program,
+        "copy",
+        "Writes the bytes of .debug_info back",
+    )
 }
 
 // And those that write what is derived from the entries.
@@ -91,11 +95,13 @@ fn asking_parser<'a>(alloc: Global) -> Result<clap::Command<'a>, AllocError>
     ensures shape { IfOk result (λ r. app_of r ≡ asking_program) }
     ensures globals { IfOk result (λ r. (out-Command r).has_globals ≡ false) }
 {
-    let type_of = type_parser(alloc)?;
-    let check = subcommand_parser(alloc, "check", "Writes what is wrong with the entries")?;
-    showing_parser(alloc)?
-        .subcommand(type_of)?
-        .subcommand(check)
+    let program = with_type(alloc, showing_parser(alloc)?)?;
+    with_plain(
+        alloc,
+        program,
+        "check",
+        "Writes what is wrong with the entries",
+    )
 }
 
 // The subcommands that write text of the entries.
@@ -103,34 +109,82 @@ fn showing_parser<'a>(alloc: Global) -> Result<clap::Command<'a>, AllocError>
     ensures shape { IfOk result (λ r. app_of r ≡ showing_program) }
     ensures globals { IfOk result (λ r. (out-Command r).has_globals ≡ false) }
 {
-    let show = subcommand_parser(alloc, "show", "Writes the entries as text")?;
-    let find = find_parser(alloc)?;
-    clap::Command::new(alloc, "dwarf")
-        .bin_name("dwarf")?
-        .about("Reads and writes DWARF 5 debugging entries")
-        .no_binary_name(true)
-        .subcommand_required(true)
-        .subcommand(show)?
-        .subcommand(find)
+    let program = with_plain(
+        alloc,
+        bare_parser(alloc)?,
+        "show",
+        "Writes the entries as text",
+    )?;
+    with_find(alloc, program)
+}
+
+fn bare_parser<'a>(alloc: Global) -> Result<clap::Command<'a>, AllocError>
+    ensures shape { IfOk result (λ r. app_of r ≡ bare_program) }
+    ensures globals { IfOk result (λ r. (out-Command r).has_globals ≡ false) }
+{
+    Ok(
+        clap::Command::new(alloc, "dwarf")
+            .bin_name("dwarf")?
+            .about("Reads and writes DWARF 5 debugging entries")
+            .no_binary_name(true)
+            .subcommand_required(true),
+    )
+}
+
+// A function that adds more than one subcommand, or more than one argument, is dear to prove.
+
+// Adds a subcommand without words of its own.
+fn with_plain<'a>(
+    alloc: Global,
+    program: clap::Command<'a>,
+    name: &'a str,
+    about: &'a str,
+) -> Result<clap::Command<'a>, AllocError>
+    requires { (out-Command program).has_globals ≡ false }
+    ensures shape { IfOk result (λ r. app_of r ≡ with_subcommand (app_of program.entry) (subcommand name.entry.now).top) }
+    ensures globals { IfOk result (λ r. (out-Command r).has_globals ≡ false) }
+{
+    program.subcommand(subcommand_parser(alloc, name, about)?)
+}
+
+fn with_find<'a>(alloc: Global, program: clap::Command<'a>) -> Result<clap::Command<'a>, AllocError>
+    requires { (out-Command program).has_globals ≡ false }
+    ensures shape { IfOk result (λ r. app_of r ≡ with_subcommand (app_of program.entry) finder.top) }
+    ensures globals { IfOk result (λ r. (out-Command r).has_globals ≡ false) }
+{
+    program.subcommand(find_parser(alloc)?)
+}
+
+fn with_type<'a>(alloc: Global, program: clap::Command<'a>) -> Result<clap::Command<'a>, AllocError>
+    requires { (out-Command program).has_globals ≡ false }
+    ensures shape { IfOk result (λ r. app_of r ≡ with_subcommand (app_of program.entry) type_finder.top) }
+    ensures globals { IfOk result (λ r. (out-Command r).has_globals ≡ false) }
+{
+    program.subcommand(type_parser(alloc)?)
+}
+
+fn with_set<'a>(alloc: Global, program: clap::Command<'a>) -> Result<clap::Command<'a>, AllocError>
+    requires { (out-Command program).has_globals ≡ false }
+    ensures shape { IfOk result (λ r. app_of r ≡ with_subcommand (app_of program.entry) setter.top) }
+    ensures globals { IfOk result (λ r. (out-Command r).has_globals ≡ false) }
+{
+    program.subcommand(set_parser(alloc)?)
 }
 
 fn find_parser<'a>(alloc: Global) -> Result<clap::Command<'a>, AllocError>
     ensures shape { IfOk result (λ r. app_of r ≡ finder) }
     ensures globals { IfOk result (λ r. (out-Command r).has_globals ≡ false) }
 {
-    subcommand_parser(alloc, "find", "Writes where the entries of a name begin")?.arg(word_argument(
-        alloc,
-        "name",
-        "NAME",
-        "The name of the entries",
-    ))
+    let command = subcommand_parser(alloc, "find", "Writes where the entries of a name begin")?;
+    with_word(alloc, command, "name", "NAME", "The name of the entries")
 }
 
 fn type_parser<'a>(alloc: Global) -> Result<clap::Command<'a>, AllocError>
     ensures shape { IfOk result (λ r. app_of r ≡ type_finder) }
     ensures globals { IfOk result (λ r. (out-Command r).has_globals ≡ false) }
 {
-    subcommand_parser(alloc, "type", "Writes the type of an entry")?.arg(offset_argument(alloc))
+    let command = subcommand_parser(alloc, "type", "Writes the type of an entry")?;
+    with_offset(alloc, command)
 }
 
 fn set_parser<'a>(alloc: Global) -> Result<clap::Command<'a>, AllocError>
@@ -138,28 +192,54 @@ fn set_parser<'a>(alloc: Global) -> Result<clap::Command<'a>, AllocError>
     ensures globals { IfOk result (λ r. (out-Command r).has_globals ≡ false) }
 {
     let about = "Writes the bytes of .debug_info with another number in the place of one";
-    subcommand_parser(alloc, "set", about)?
-        .arg(flag_argument(alloc, "minus", "The value is below zero"))?
-        .arg(offset_argument(alloc))?
-        .arg(word_argument(
-            alloc,
-            "attribute",
-            "ATTR",
-            "The attribute that gets the number",
-        ))?
-        .arg(word_argument(alloc, "value", "VALUE", "The number that it gets"))
+    let command = with_minus(alloc, subcommand_parser(alloc, "set", about)?)?;
+    let help = "The attribute that gets the number";
+    let command = with_word(
+        alloc,
+        with_offset(alloc, command)?,
+        "attribute",
+        "ATTR",
+        help,
+    )?;
+    with_word(alloc, command, "value", "VALUE", "The number that it gets")
 }
 
-fn offset_argument<'a>(alloc: Global) -> Arg<'a>
-    ensures rule { rule_of result ≡ word (codes "offset") }
-    ensures local { result.global ≡ false }
+fn with_minus<'a>(
+    alloc: Global,
+    command: clap::Command<'a>,
+) -> Result<clap::Command<'a>, AllocError>
+    requires { (out-Command command).has_globals ≡ false }
+    ensures shape { IfOk result (λ r. app_of r ≡ with_rule (app_of command.entry) (flag (codes "minus"))) }
+    ensures globals { IfOk result (λ r. (out-Command r).has_globals ≡ false) }
 {
-    word_argument(
-        alloc,
-        "offset",
-        "OFFSET",
-        "Where the entry begins in .debug_info",
-    )
+    command.arg(flag_argument(alloc, "minus", "The value is below zero"))
+}
+
+fn with_offset<'a>(
+    alloc: Global,
+    command: clap::Command<'a>,
+) -> Result<clap::Command<'a>, AllocError>
+    requires { (out-Command command).has_globals ≡ false }
+    ensures shape { IfOk result (λ r. app_of r ≡ with_rule (app_of command.entry) (word (codes "offset"))) }
+    ensures globals { IfOk result (λ r. (out-Command r).has_globals ≡ false) }
+{
+    let help = "Where the entry begins in .debug_info";
+    with_word(alloc, command, "offset", "OFFSET", help)
+}
+
+// Adds a word that has to be there, and is called `shown` in the help.
+fn with_word<'a>(
+    alloc: Global,
+    command: clap::Command<'a>,
+    name: &'a str,
+    shown: &'a str,
+    help: &'a str,
+) -> Result<clap::Command<'a>, AllocError>
+    requires { (out-Command command).has_globals ≡ false }
+    ensures shape { IfOk result (λ r. app_of r ≡ with_rule (app_of command.entry) (word name.entry.now)) }
+    ensures globals { IfOk result (λ r. (out-Command r).has_globals ≡ false) }
+{
+    command.arg(word_argument(alloc, name, shown, help))
 }
 
 fn subcommand_parser<'a>(
@@ -223,9 +303,16 @@ fn path_argument<'a>(alloc: Global, name: &'a str, help: &'a str) -> Arg<'a>
     ensures rule { rule_of result ≡ optional_path name.entry.now }
     ensures local { result.global ≡ false }
 {
+    option_argument(alloc, name, "FILE", help)
+}
+
+fn option_argument<'a>(alloc: Global, name: &'a str, shown: &'a str, help: &'a str) -> Arg<'a>
+    ensures rule { rule_of result ≡ optional_path name.entry.now }
+    ensures local { result.global ≡ false }
+{
     Arg::new(alloc, name)
         .long(name)
-        .value_name("FILE")
+        .value_name(shown)
         .action(ArgAction::Set)
         .help(help)
 }
