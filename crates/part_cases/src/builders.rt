@@ -104,7 +104,11 @@ impl Built {
     fn add_each(&mut self, words: &str, text: &mut String) -> Result<(), CaseError> {
         let (first, last) = words.split_once(' ').ok_or(CaseError::NoSuchCase)?;
         for code in number_of(first)?..number_of(last)?.saturating_add(1) {
-            self.decl = Some(one_pair(self.alloc, code).map_err(|_| CaseError::NoSuchCase)?);
+            self.decl = Some(
+                one_pair(self.alloc, code)
+                    .ok()
+                    .ok_or(CaseError::NoSuchCase)?,
+            );
             self.add(text)?;
         }
         Ok(())
@@ -200,7 +204,9 @@ fn pair(decl: &mut Decl, words: &str, text: &mut String) -> Result<(), CaseError
 /// The number of a word, as `-1/2`.
 fn sleb_of(word: &str) -> Result<Sleb, CaseError> {
     let (value, width) = word.split_once('/').ok_or(CaseError::NoSuchCase)?;
-    let value = i64::try_from(signed_of(value)?).map_err(|_| CaseError::NoSuchCase)?;
+    let value = i64::try_from(signed_of(value)?)
+        .ok()
+        .ok_or(CaseError::NoSuchCase)?;
     Sleb::with_width(value, small_of(width)?).ok_or(CaseError::NoSuchCase)
 }
 

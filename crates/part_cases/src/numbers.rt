@@ -27,7 +27,9 @@ pub fn unsigned_of(words: &str) -> Result<Option<Uleb>, CaseError> {
 /// The same, signed.
 pub fn signed_in(words: &str) -> Result<Option<Sleb>, CaseError> {
     let (value, width) = words.split_once(" in ").ok_or(CaseError::NoSuchCase)?;
-    let value = i64::try_from(signed_of(value)?).map_err(|_| CaseError::NoSuchCase)?;
+    let value = i64::try_from(signed_of(value)?)
+        .ok()
+        .ok_or(CaseError::NoSuchCase)?;
     Ok(Sleb::with_width(value, small_of(width)?))
 }
 
@@ -41,7 +43,7 @@ fn least_unsigned(input: &str, text: &mut String) -> Result<(), CaseError> {
 fn least_signed(input: &str, text: &mut String) -> Result<(), CaseError> {
     allow(input, &["least-sleb"])?;
     let value = signed_of(words(input, "least-sleb")?)?;
-    let least = Sleb::least(i64::try_from(value).map_err(|_| CaseError::NoSuchCase)?);
+    let least = Sleb::least(i64::try_from(value).ok().ok_or(CaseError::NoSuchCase)?);
     write!(text, "{} in {}", least.value, least.width)?;
     Ok(())
 }

@@ -1,6 +1,4 @@
 //! The words of a case. Its input is clauses, apart by commas: each is a key, and what it says.
-ghost use Rattle.std.specs.Prelude.{◌≤◌, IfOk};
-
 use crate::error::CaseError;
 use case_file::append_bytes;
 use dw_leb::Order;
@@ -55,12 +53,16 @@ pub fn number(input: &str, key: &str) -> Result<u64, CaseError> {
 
 /// A number, in decimal or, behind `0x`, in hexadecimal digits.
 pub fn number_of(word: &str) -> Result<u64, CaseError> {
-    u64::try_from(wide_of(word)?).map_err(|_| CaseError::NoSuchCase)
+    u64::try_from(wide_of(word)?)
+        .ok()
+        .ok_or(CaseError::NoSuchCase)
 }
 
 /// The same, of a byte.
 pub fn small_of(word: &str) -> Result<u8, CaseError> {
-    u8::try_from(wide_of(word)?).map_err(|_| CaseError::NoSuchCase)
+    u8::try_from(wide_of(word)?)
+        .ok()
+        .ok_or(CaseError::NoSuchCase)
 }
 
 /// The same, of sixteen bytes.
@@ -69,21 +71,25 @@ pub fn wide_of(word: &str) -> Result<u128, CaseError> {
         Some(digits) => u128::from_str_radix(digits, 16),
         None => word.parse(),
     };
-    read.map_err(|_| CaseError::NoSuchCase)
+    read.ok().ok_or(CaseError::NoSuchCase)
 }
 
 /// The same, with a sign or without.
 pub fn signed_of(word: &str) -> Result<i128, CaseError> {
     match word.strip_prefix("-") {
-        Some(digits) => Ok(-magnitude_of(digits)?),
-        None => magnitude_of(word),
+        Some(digits) => negative(wide_of(digits)?),
+        None => i128::try_from(wide_of(word)?)
+            .ok()
+            .ok_or(CaseError::NoSuchCase),
     }
 }
 
-fn magnitude_of(word: &str) -> Result<i128, CaseError>
-    ensures { IfOk result (λ n. 0 ≤ n) }
-{
-    i128::try_from(wide_of(word)?).map_err(|_| CaseError::NoSuchCase)
+fn negative(magnitude: u128) -> Result<i128, CaseError> {
+    if magnitude < 1 << 127 {
+        Ok(-(magnitude as i128))
+    } else {
+        Err(CaseError::NoSuchCase)
+    }
 }
 
 /// The order that the clause `order` says.
