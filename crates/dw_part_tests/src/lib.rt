@@ -1,21 +1,11 @@
-//! Tests of the parts of a unit: numbers, values, abbreviation tables and headers. They are a crate of
-//! their own, since a crate with tests is proved twice.
+//! Tests of the parts of a unit that can't be cases of `part_cases`: what is shared or borrowed, devices that fail,
+//! memory that is refused, and the laws. They are a crate of their own, since a crate with tests is proved twice.
 #![tactic(auto)]
 
 #[cfg(test)]
 mod common;
 #[cfg(test)]
-mod fits;
-#[cfg(test)]
-mod forms;
-#[cfg(test)]
-mod headers;
-#[cfg(test)]
-mod heads;
-#[cfg(test)]
-mod numbers;
-#[cfg(test)]
-mod renumbers;
+mod laws;
 #[cfg(test)]
 mod table_builders;
 #[cfg(test)]

@@ -5,20 +5,11 @@ ghost use Rattle.dw_leb.specs.Watch.{fault_of};
 
 use crate::common::same;
 use dw_leb::devices::Stepped;
-use dw_leb::{Fault, ReadError, Reason, SectionId, Watched, WriteError, write_all};
+use dw_leb::{Watched, WriteError, write_all};
 use std::alloc::Global;
 use std::io::{ErrorKind, Read, Write};
 use std::process::Abort;
 use std::test::Fail;
-
-/// The fault of an input that ends too early.
-fn truncated() -> ReadError {
-    ReadError::Fault(Fault {
-        section: SectionId::Info,
-        offset: 0,
-        reason: Reason::Truncated,
-    })
-}
 
 #[test]
 fn reads_a_slice(rt: HostRuntime) -> Result<(), Fail> {
@@ -165,27 +156,4 @@ fn steps_alone(rt: HostRuntime) -> Result<(), Fail> {
     writer.flush()?;
     same(&rt, writer.inner().as_slice(), &[1, 2]);
     Ok(())
-}
-
-fn prints_read(rt: &impl Abort, alloc: Global, error: ReadError, want: &str) -> Result<(), Fail> {
-    let text = format!(in alloc; "{}", error)?;
-    assert!(rt; text.as_str() == want);
-    Ok(())
-}
-
-fn prints_write(rt: &impl Abort, alloc: Global, error: WriteError, want: &str) -> Result<(), Fail> {
-    let text = format!(in alloc; "{}", error)?;
-    assert!(rt; text.as_str() == want);
-    Ok(())
-}
-
-#[test]
-fn printed_errors(rt: HostRuntime) -> Result<(), Fail> {
-    let fault = "fault info 0x0 Truncated";
-    prints_read(&rt, rt.alloc(), truncated(), fault)?;
-    prints_read(&rt, rt.alloc(), ReadError::NoMemory, "memory")?;
-    let timed_out = ReadError::Io(ErrorKind::TimedOut);
-    prints_read(&rt, rt.alloc(), timed_out, "read timed out")?;
-    let stuck = WriteError::Io(ErrorKind::WriteZero);
-    prints_write(&rt, rt.alloc(), stuck, "write write zero")
 }

@@ -1,0 +1,191 @@
+//! Tests of the parts of a unit whose cases are data: numbers, forms, values, abbreviation tables and headers. A
+//! case is a line of a file in `data/`: a call in words, an arrow, and its answer, which is taken from the standard.
+//! What a call answers otherwise is printed, and at the end of each file how many cases it has.
+#![tactic(auto)]
+
+mod builders;
+mod contexts;
+mod error;
+mod fits;
+mod forms;
+mod headers;
+mod heads;
+mod lengths;
+mod names;
+mod numbers;
+mod spelled;
+mod tables;
+mod values;
+mod words;
+
+ghost use Rattle.dw_form.specs.Form.{IsContext};
+
+use crate::contexts::is_meant;
+use crate::error::CaseError;
+use case_file::{Case, case_of, is_answered};
+use dw_form::Ctx;
+use dw_leb::{Format, Order};
+use std::alloc::Global;
+use std::rt::Files;
+use std::{fs, io};
+
+/// Files of cases whose answers depend on no context, one a topic.
+const ALONE: [&str; 6] = [
+    "numbers", "lengths", "names", "tables", "builders", "headers",
+];
+
+/// Files of cases whose answers depend on the order, the format and the size of an address.
+const IN_CONTEXTS: [&str; 7] = [
+    "forms",
+    "values",
+    "refused_values",
+    "fits",
+    "fitting_numbers",
+    "other_numbers",
+    "heads",
+];
+
+fn main(rt: HostRuntime) -> io::Result<()> {
+    for file in ALONE {
+        let text = fs::read_to_string(&rt, file)?;
+        judge_each(&rt, file, text.as_str())?;
+    }
+    for file in IN_CONTEXTS {
+        let text = fs::read_to_string(&rt, file)?;
+        judge_each_in_contexts(&rt, file, text.as_str())?;
+    }
+    Ok(())
+}
+
+/// Judges each case of a file, and prints how many there are.
+fn judge_each(rt: &(impl AllocGlobal + Print), file: &str, text: &str) -> io::Result<()> {
+    let mut count = 0u64;
+    for (index, line) in text.lines().enumerate() {
+        if let Some(case) = case_of(line) {
+            judge(rt, file, index, case)?;
+            count = count.saturating_add(1);
+        }
+    }
+    println!(rt; "{file}: {count} cases")
+}
+
+/// The same, in contexts.
+fn judge_each_in_contexts(
+    rt: &(impl AllocGlobal + Print),
+    file: &str,
+    text: &str,
+) -> io::Result<()> {
+    let mut count = 0u64;
+    for (index, line) in text.lines().enumerate() {
+        if let Some(case) = case_of(line) {
+            judge_in_contexts(rt, file, index, case)?;
+            count = count.saturating_add(1);
+        }
+    }
+    println!(rt; "{file}: {count} cases")
+}
+
+/// Judges a case in each context that it means.
+fn judge_in_contexts(
+    rt: &(impl AllocGlobal + Print),
+    file: &str,
+    index: usize,
+    case: Case<'_>,
+) -> io::Result<()> {
+    let mut is_judged = false;
+    for order in [Order::Little, Order::Big] {
+        for format in [Format::Dwarf32, Format::Dwarf64] {
+            for address_size in 1..9 {
+                let ctx = Ctx {
+                    order,
+                    format,
+                    address_size,
+                };
+                if is_meant(ctx, case.input) {
+                    judge_in(rt, file, index, case, ctx)?;
+                    is_judged = true;
+                }
+            }
+        }
+    }
+    if !is_judged {
+        println!(rt; "{file}: {} -> in no context", case.input)?;
+    }
+    Ok(())
+}
+
+/// Judges a case.
+fn judge(
+    rt: &(impl AllocGlobal + Print),
+    file: &str,
+    index: usize,
+    case: Case<'_>,
+) -> io::Result<()> {
+    let mut text = String::new(rt.alloc());
+    if let Err(error) = answer(rt.alloc(), file, case.input, &mut text) {
+        write!(text, "{error}")?;
+    }
+    compare(rt, file, index, case, text.as_str())
+}
+
+/// Judges a case in a context.
+fn judge_in(
+    rt: &(impl AllocGlobal + Print),
+    file: &str,
+    index: usize,
+    case: Case<'_>,
+    ctx: Ctx,
+) -> io::Result<()>
+    requires { IsContext ctx }
+{
+    let mut text = String::new(rt.alloc());
+    if let Err(error) = answer_in(rt.alloc(), file, ctx, case.input, &mut text) {
+        write!(text, "{error}")?;
+    }
+    compare(rt, file, index, case, text.as_str())
+}
+
+/// Prints what was answered, unless it is as stated.
+fn compare(
+    rt: &impl Print,
+    file: &str,
+    index: usize,
+    case: Case<'_>,
+    answer: &str,
+) -> io::Result<()> {
+    let line = index.saturating_add(1);
+    let _is_as_stated = is_answered(rt, file, line, case, answer.trim())?;
+    Ok(())
+}
+
+/// Appends what the library answers to a case of this file.
+fn answer(alloc: Global, file: &str, input: &str, text: &mut String) -> Result<(), CaseError> {
+    match file {
+        "numbers" => numbers::answer(alloc, input, text),
+        "lengths" => lengths::answer(alloc, input, text),
+        "names" => names::answer(input, text),
+        "tables" => tables::answer(alloc, input, text),
+        "builders" => builders::answer(alloc, input, text),
+        "headers" => headers::answer(alloc, input, text),
+        _ => Err(CaseError::NoSuchCase),
+    }
+}
+
+/// The same in a context.
+fn answer_in(
+    alloc: Global,
+    file: &str,
+    ctx: Ctx,
+    input: &str,
+    text: &mut String,
+) -> Result<(), CaseError>
+    requires { IsContext ctx }
+{
+    match file {
+        "forms" => forms::answer(ctx, input, text),
+        "values" | "refused_values" => values::answer(alloc, ctx, input, text),
+        "fits" | "fitting_numbers" | "other_numbers" => fits::answer(alloc, ctx, input, text),
+        "heads" => heads::answer(alloc, ctx, input, text),
+        _ => Err(CaseError::NoSuchCase),
+    }
+}

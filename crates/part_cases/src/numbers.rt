@@ -1,0 +1,144 @@
+//! Numbers of LEB128 and of fixed sizes: read, made and spelled (section 7.6).
+use crate::error::CaseError;
+use crate::words::{
+    allow, append_clause, number, number_of, order, remark, signed_of, small_of, verb, words,
+};
+use case_file::append_hexadecimal;
+use dw_leb::{Reason, Sleb, Uleb, read_fixed, write_fixed};
+use std::alloc::Global;
+
+/// Appends the answer to a case.
+pub fn answer(alloc: Global, input: &str, text: &mut String) -> Result<(), CaseError> {
+    match verb(input) {
+        "least-uleb" => least_unsigned(input, text),
+        "least-sleb" => least_signed(input, text),
+        "spell-uleb" => spelled_unsigned(input, text),
+        "spell-sleb" => spelled_signed(input, text),
+        _ => read(alloc, input, text),
+    }
+}
+
+/// The unsigned number that words tell, as `128 in 2`: 128 in two bytes. None where there is none.
+pub fn unsigned_of(words: &str) -> Result<Option<Uleb>, CaseError> {
+    let (value, width) = words.split_once(" in ").ok_or(CaseError::NoSuchCase)?;
+    Ok(Uleb::with_width(number_of(value)?, small_of(width)?))
+}
+
+/// The same, signed.
+pub fn signed_in(words: &str) -> Result<Option<Sleb>, CaseError> {
+    let (value, width) = words.split_once(" in ").ok_or(CaseError::NoSuchCase)?;
+    let value = i64::try_from(signed_of(value)?)
+        .ok()
+        .ok_or(CaseError::NoSuchCase)?;
+    Ok(Sleb::with_width(value, small_of(width)?))
+}
+
+fn least_unsigned(input: &str, text: &mut String) -> Result<(), CaseError> {
+    allow(input, &["least-uleb"])?;
+    let least = Uleb::least(number(input, "least-uleb")?);
+    write!(text, "{} in {}", least.value, least.width)?;
+    Ok(())
+}
+
+fn least_signed(input: &str, text: &mut String) -> Result<(), CaseError> {
+    allow(input, &["least-sleb"])?;
+    let value = signed_of(words(input, "least-sleb")?)?;
+    let least = Sleb::least(i64::try_from(value).ok().ok_or(CaseError::NoSuchCase)?);
+    write!(text, "{} in {}", least.value, least.width)?;
+    Ok(())
+}
+
+fn spelled_unsigned(input: &str, text: &mut String) -> Result<(), CaseError> {
+    allow(input, &["spell-uleb"])?;
+    match unsigned_of(words(input, "spell-uleb")?)? {
+        Some(number) => append_hexadecimal(number.bytes().as_slice(), text)?,
+        None => text.push_str("no such number")?,
+    }
+    Ok(())
+}
+
+fn spelled_signed(input: &str, text: &mut String) -> Result<(), CaseError> {
+    allow(input, &["spell-sleb"])?;
+    match signed_in(words(input, "spell-sleb")?)? {
+        Some(number) => append_hexadecimal(number.bytes().as_slice(), text)?,
+        None => text.push_str("no such number")?,
+    }
+    Ok(())
+}
+
+/// A number at the front of bytes.
+fn read(alloc: Global, input: &str, text: &mut String) -> Result<(), CaseError> {
+    let mut bytes = Vec::new(alloc);
+    let lim = number(input, "within")?;
+    match verb(input) {
+        "uleb" => {
+            append_clause(input, "uleb", &mut bytes)?;
+            read_unsigned(input, bytes.as_slice(), lim, text)
+        }
+        "sleb" => {
+            append_clause(input, "sleb", &mut bytes)?;
+            read_signed(input, bytes.as_slice(), lim, text)
+        }
+        _ => {
+            append_clause(input, "bytes", &mut bytes)?;
+            read_of_size(input, bytes.as_slice(), lim, text)
+        }
+    }
+}
+
+fn read_unsigned(input: &str, b: &[u8], lim: u64, text: &mut String) -> Result<(), CaseError> {
+    allow(input, &["uleb", "within"])?;
+    match Uleb::read(b, lim) {
+        Ok(number) => {
+            write!(text, "{} in {}", number.value, number.width)?;
+            remark(is_spelled(number, b), ", spelled otherwise", text)
+        }
+        Err(reason) => refused(reason, text),
+    }
+}
+
+/// Whether a number is spelled as the bytes at the front, and made of its value and width.
+fn is_spelled(number: Uleb, b: &[u8]) -> bool {
+    b.starts_with(number.bytes().as_slice())
+        && Uleb::with_width(number.value, number.width) == Some(number)
+}
+
+fn read_signed(input: &str, b: &[u8], lim: u64, text: &mut String) -> Result<(), CaseError> {
+    allow(input, &["sleb", "within"])?;
+    match Sleb::read(b, lim) {
+        Ok(number) => {
+            write!(text, "{} in {}", number.value, number.width)?;
+            remark(is_spelled_signed(number, b), ", spelled otherwise", text)
+        }
+        Err(reason) => refused(reason, text),
+    }
+}
+
+/// The same, of a signed number.
+fn is_spelled_signed(number: Sleb, b: &[u8]) -> bool {
+    b.starts_with(number.bytes().as_slice())
+        && Sleb::with_width(number.value, number.width) == Some(number)
+}
+
+fn read_of_size(input: &str, b: &[u8], lim: u64, text: &mut String) -> Result<(), CaseError> {
+    allow(input, &["fixed", "order", "bytes", "within"])?;
+    let n = small_of(words(input, "fixed")?)?;
+    if n < 1 || n > 16 {
+        return Err(CaseError::NoSuchCase);
+    }
+    let order = order(input)?;
+    match read_fixed(order, n, b, lim) {
+        Ok(number) => {
+            let is_spelled = b.starts_with(write_fixed(order, n, number).as_slice());
+            write!(text, "{number}")?;
+            remark(is_spelled, ", spelled otherwise", text)
+        }
+        Err(reason) => refused(reason, text),
+    }
+}
+
+/// Appends why something is refused.
+pub fn refused(reason: Reason, text: &mut String) -> Result<(), CaseError> {
+    write!(text, "{reason}")?;
+    Ok(())
+}
