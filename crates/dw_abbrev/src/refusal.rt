@@ -7,7 +7,7 @@ use thiserror::Error;
 
 /// Why a call that builds a table is refused. Its number is `refusal as u8`: the variants count
 /// from 1 on.
-#[derive(Clone, Copy, Debug, PartialEq, Eq, Hash, Error)]
+#[derive(Clone, Copy, Debug, PartialEq, Eq, Error)]
 pub enum TableRefusal {
     /// The table has a declaration of this code.
     #[error("DuplicateCode")]

@@ -7,7 +7,7 @@ use std::alloc::AllocError;
 use std::fmt;
 
 /// What is wrong in a place. The variants have the numbers from 1 on.
-#[derive(Clone, Copy, Debug, PartialEq, Eq, Hash)]
+#[derive(Clone, Copy, Debug, PartialEq, Eq)]
 pub enum FindingKind {
     /// A reference under another name than DW_AT_sibling that names no entry (sections 2.2 and 7.5.5). One to an
     /// entry of a supplementary file isn't looked up.
@@ -68,7 +68,7 @@ impl fmt::Display for FindingKind {
 }
 
 /// Something that is wrong in an entry.
-#[derive(Clone, Copy, Debug, PartialEq, Eq, Hash)]
+#[derive(Clone, Copy, Debug, PartialEq, Eq)]
 pub struct Finding {
     /// Where the entry begins, counted from the section's first byte.
     pub offset: u64,

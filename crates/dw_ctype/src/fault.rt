@@ -2,7 +2,7 @@
 use thiserror::Error;
 
 /// Why no text of a type is given. Its number is `error as u8`: the variants count from 1 on.
-#[derive(Clone, Copy, Debug, PartialEq, Eq, Hash, Error)]
+#[derive(Clone, Copy, Debug, PartialEq, Eq, Error)]
 pub enum TypeError {
     /// No entry begins at the offset.
     #[error("NoEntry")]

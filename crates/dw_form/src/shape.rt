@@ -7,7 +7,7 @@ use dw_leb::{Format, Order};
 
 /// What the bytes of a unit's values depend on besides their forms. The order is that of the file;
 /// the format and the address size are in the unit's header.
-#[derive(Clone, Copy, Debug, PartialEq, Eq, Hash)]
+#[derive(Clone, Copy, Debug, PartialEq, Eq)]
 pub struct Ctx {
     /// The order of the bytes of fixed numbers, and of a block's length where that is one.
     pub order: Order,
@@ -18,7 +18,7 @@ pub struct Ctx {
 }
 
 /// How the values of a form are spelled (section 7.5.6).
-#[derive(Clone, Copy, Debug, PartialEq, Eq, Hash)]
+#[derive(Clone, Copy, Debug, PartialEq, Eq)]
 pub enum Shape {
     /// A number in this many bytes: 1 to 8, or 16.
     Fixed(u8),

@@ -2,7 +2,7 @@
 
 /// What kind of unit a header begins (section 7.5.1), with the fields that the kind adds. All kinds but
 /// `Four` are of version 5.
-#[derive(Clone, Copy, Debug, PartialEq, Eq, Hash)]
+#[derive(Clone, Copy, Debug, PartialEq, Eq)]
 pub enum Kind {
     /// A full compilation unit (`DW_UT_compile`).
     Compile,

@@ -9,7 +9,7 @@ use std::io::ErrorKind;
 use thiserror::Error;
 
 /// Why a field is refused. Its number is `reason as u8`: the variants count from 1 on.
-#[derive(Clone, Copy, Debug, PartialEq, Eq, Hash)]
+#[derive(Clone, Copy, Debug, PartialEq, Eq)]
 pub enum Reason {
     /// The input ends inside the field, and the unit doesn't end before.
     Truncated = 1,
@@ -122,7 +122,7 @@ impl Bad {
 }
 
 /// The section in which a fault is.
-#[derive(Clone, Copy, Debug, PartialEq, Eq, Hash)]
+#[derive(Clone, Copy, Debug, PartialEq, Eq)]
 pub enum SectionId {
     /// `.debug_info`
     Info,
@@ -143,7 +143,7 @@ impl SectionId {
 }
 
 /// A broken field.
-#[derive(Clone, Copy, Debug, PartialEq, Eq, Hash)]
+#[derive(Clone, Copy, Debug, PartialEq, Eq)]
 pub struct Fault {
     /// The section of the field.
     pub section: SectionId,

@@ -3,7 +3,7 @@ ghost use Rattle.std.specs.Prelude.{◌≡◌};
 ghost use Rattle.dw_leb.specs.Number.{length_size as length_size_of, offset_size as offset_size_of};
 
 /// The order of the bytes of a number of fixed size: that of the file that holds the sections.
-#[derive(Clone, Copy, Debug, PartialEq, Eq, Hash)]
+#[derive(Clone, Copy, Debug, PartialEq, Eq)]
 pub enum Order {
     /// The least significant byte first.
     Little,
@@ -12,7 +12,7 @@ pub enum Order {
 }
 
 /// The format of a unit, which its initial length gives (section 7.4).
-#[derive(Clone, Copy, Debug, PartialEq, Eq, Hash)]
+#[derive(Clone, Copy, Debug, PartialEq, Eq)]
 pub enum Format {
     /// Initial lengths and section offsets of 4 bytes.
     Dwarf32,

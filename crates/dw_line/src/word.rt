@@ -7,7 +7,7 @@ use dw_tool::names::attribute_named;
 use std::fmt;
 
 /// An argument that takes some words alone.
-#[derive(Clone, Copy, Debug, PartialEq, Eq, Hash)]
+#[derive(Clone, Copy, Debug, PartialEq, Eq)]
 pub enum Argument {
     /// The offset of an entry in `.debug_info`.
     Offset,
@@ -18,7 +18,7 @@ pub enum Argument {
 }
 
 /// A word that isn't what its argument may be.
-#[derive(Clone, Copy, Debug, PartialEq, Eq, Hash)]
+#[derive(Clone, Copy, Debug, PartialEq, Eq)]
 pub struct BadWord<'a> {
     /// The argument.
     pub argument: Argument,

@@ -12,7 +12,7 @@ pub struct EntryId {
 
 /// Why a reference names no entry (sections 2.2 and 7.5.5). Its number is `fault as u8`: the variants count
 /// from 1 on.
-#[derive(Clone, Copy, Debug, PartialEq, Eq, Hash, Error)]
+#[derive(Clone, Copy, Debug, PartialEq, Eq, Error)]
 pub enum RefFault {
     /// The value isn't a reference: its form is none of a reference, or it holds no number.
     #[error("NotReference")]

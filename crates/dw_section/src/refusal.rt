@@ -2,7 +2,7 @@
 use thiserror::Error;
 
 /// Why a unit isn't added to a section. Its number is `refusal as u8`: the variants count from 1 on.
-#[derive(Clone, Copy, Debug, PartialEq, Eq, Hash, Error)]
+#[derive(Clone, Copy, Debug, PartialEq, Eq, Error)]
 pub enum SectionRefusal {
     /// The unit's byte order isn't the section's.
     #[error("WrongOrder")]

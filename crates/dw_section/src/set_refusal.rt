@@ -3,7 +3,7 @@ use thiserror::Error;
 
 /// Why a number of a section isn't changed, for the first of these reasons that holds. Its number is
 /// `refusal as u8`: the variants count from 1 on.
-#[derive(Clone, Copy, Debug, PartialEq, Eq, Hash, Error)]
+#[derive(Clone, Copy, Debug, PartialEq, Eq, Error)]
 pub enum SetRefusal {
     /// No entry begins there.
     #[error("NoEntry")]

@@ -4,7 +4,7 @@ use thiserror::Error;
 /// Why the value of an attribute names no text (sections 7.5.5 and 7.26). Its number is `fault as u8`: the variants
 /// count from 1 on. Where several hold, the first one is answered of `NotText`, `Supplementary`, `NoBase`,
 /// `PastOffsets`, `PastSection` and `NoZero`, in this order.
-#[derive(Clone, Copy, Debug, PartialEq, Eq, Hash, Error)]
+#[derive(Clone, Copy, Debug, PartialEq, Eq, Error)]
 pub enum StrFault {
     /// The value isn't a text: its form is none of a text, or it holds neither bytes nor a number as that
     /// form does.

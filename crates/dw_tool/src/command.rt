@@ -1,7 +1,7 @@
 //! What the program is asked to do.
 
 /// What the program is to do.
-#[derive(Clone, Copy, Debug, PartialEq, Eq, Hash)]
+#[derive(Clone, Copy, Debug, PartialEq, Eq)]
 pub enum Command<'a> {
     /// Write the entries as text.
     Show,

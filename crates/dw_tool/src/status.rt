@@ -12,7 +12,7 @@ use std::io::ErrorKind;
 use thiserror::Error;
 
 /// What a run that went through says. Its number is the program's exit status.
-#[derive(Clone, Copy, Debug, PartialEq, Eq, Hash)]
+#[derive(Clone, Copy, Debug, PartialEq, Eq)]
 pub enum Status {
     /// All is well.
     Good = 0,
@@ -21,7 +21,7 @@ pub enum Status {
 }
 
 /// Why a request is refused, though the sections may be right.
-#[derive(Clone, Copy, Debug, PartialEq, Eq, Hash)]
+#[derive(Clone, Copy, Debug, PartialEq, Eq)]
 pub enum Refused {
     /// No entry begins at the offset that was given.
     NoEntry,

@@ -7,7 +7,7 @@ use thiserror::Error;
 
 /// Why a call that builds a unit is refused. Its number is `refusal as u8`: the variants count from
 /// 1 on.
-#[derive(Clone, Copy, Debug, PartialEq, Eq, Hash, Error)]
+#[derive(Clone, Copy, Debug, PartialEq, Eq, Error)]
 pub enum Refusal {
     /// The table has no declaration of this code.
     #[error("UnknownCode")]
