@@ -36,12 +36,7 @@ fn names(alloc: Global, number: u8, target: Result<EntryId, RefFault>) -> Result
     let mut section = Section::new(alloc, Order::Little);
     let first = takes(alloc, &mut section, &TWO_TABLES, &FIFTEEN)?;
     let second = takes(alloc, &mut section, &TWO_TABLES, &refers)?;
-    Ok(
-        first
-            && second
-            && type_of(alloc, &section, 0) == Some(target)
-            && type_of(alloc, &section, 1) == Some(target),
-    )
+    Ok(first && second && type_of(alloc, &section, at(1)) == Some(target))
 }
 
 #[test]
