@@ -11,15 +11,17 @@ const fn at(item: usize) -> EntryId {
     EntryId { item, offset: 12 }
 }
 
-/// What the type of the second unit's root resolves to. None where it matters which entries are known: those of no unit,
-/// or those of the item `known`.
-fn type_of(alloc: Global, section: &Section, known: usize) -> Option<Result<EntryId, RefFault>> {
-    let named = section.entry(at(1))?.attr(DW_AT_TYPE)?;
-    let target = section.resolve(at(1), &named);
+/// What the type of an entry resolves to. None where there is no entry, where it has none, and where it matters
+/// whether entries of the unit are known.
+fn type_of(alloc: Global, section: &Section, from: EntryId) -> Option<Result<EntryId, RefFault>> {
+    let unit = section.unit(from.item)?;
+    let entry = unit.entry_at(from.offset)?;
+    let named = entry.attr(DW_AT_TYPE)?;
+    let target = section.resolve(from, &named);
     let mut begins = Begins::new(alloc);
-    let among_none = section.resolve_among(&begins, at(1), &named);
-    begins.learn(section.unit(known)?);
-    let among_all = section.resolve_among(&begins, at(1), &named);
+    let among_none = section.resolve_among(&begins, from, &named);
+    begins.learn(unit);
+    let among_all = section.resolve_among(&begins, from, &named);
     if among_none == target && among_all == target {
         Some(target)
     } else {
@@ -34,12 +36,7 @@ fn names(alloc: Global, number: u8, target: Result<EntryId, RefFault>) -> Result
     let mut section = Section::new(alloc, Order::Little);
     let first = takes(alloc, &mut section, &TWO_TABLES, &FIFTEEN)?;
     let second = takes(alloc, &mut section, &TWO_TABLES, &refers)?;
-    Ok(
-        first
-            && second
-            && type_of(alloc, &section, 0) == Some(target)
-            && type_of(alloc, &section, 1) == Some(target),
-    )
+    Ok(first && second && type_of(alloc, &section, at(1)) == Some(target))
 }
 
 #[test]
@@ -64,16 +61,11 @@ const TWELVE: [u8; 17] = [
     0x0d, 0, 0, 0, 0x05, 0, 0x01, 0x08, 0, 0, 0, 0, 0x01, 0x0c, 0, 0, 0,
 ];
 
-/// What the type of the first unit's root resolves to.
-fn first_type(section: &Section) -> Option<Result<EntryId, RefFault>> {
-    let named = section.entry(at(0))?.attr(DW_AT_TYPE)?;
-    Some(section.resolve(at(0), &named))
-}
-
 #[test]
 fn a_number_is_no_reference(rt: HostRuntime) -> Result<(), Fail> {
     let mut section = Section::new(rt.alloc(), Order::Little);
     assert!(rt; takes(rt.alloc(), &mut section, &NUMBER, &TWELVE)?);
-    assert!(rt; first_type(&section) == Some(Err(RefFault::NotReference)));
+    let answer = type_of(rt.alloc(), &section, at(0));
+    assert!(rt; answer == Some(Err(RefFault::NotReference)));
     Ok(())
 }
