@@ -4,6 +4,21 @@ use crate::words::clause;
 use dw_form::Ctx;
 use dw_leb::{Format, Order};
 
+/// Where the answer depends on no context.
+pub const FIRST: Ctx = Ctx {
+    order: Order::Little,
+    format: Format::Dwarf32,
+    address_size: 8,
+};
+
+/// Whether the answers to the cases of a file depend on the context.
+pub fn depends_on_context(file: &str) -> bool {
+    !matches!(
+        file,
+        "numbers" | "lengths" | "names" | "tables" | "builders" | "headers"
+    )
+}
+
 /// Whether the case means this context.
 pub fn is_meant(ctx: Ctx, input: &str) -> bool {
     let words = clause(input, "in").unwrap_or("");

@@ -11,12 +11,12 @@ use std::alloc::Global;
 const KINDS: [&str; 8] = [
     "number 1",
     "wide 1",
-    "uleb 1 in 1",
-    "sleb 1 in 1",
+    "uleb 1/1",
+    "sleb 1/1",
     "block in 1: 01",
     "text 61",
     "present",
-    "implicit 1 in 1",
+    "implicit 1/1",
 ];
 
 /// Appends the answer to a case.

@@ -20,7 +20,7 @@ mod words;
 
 ghost use Rattle.dw_form.specs.Form.{IsContext};
 
-use crate::contexts::is_meant;
+use crate::contexts::{FIRST, depends_on_context, is_meant};
 use crate::error::CaseError;
 use case_file::{Case, case_of, is_answered};
 use dw_form::Ctx;
@@ -29,13 +29,14 @@ use std::alloc::Global;
 use std::rt::Files;
 use std::{fs, io};
 
-/// Files of cases whose answers depend on no context, one a topic.
-const ALONE: [&str; 6] = [
-    "numbers", "lengths", "names", "tables", "builders", "headers",
-];
-
-/// Files of cases whose answers depend on the order, the format and the size of an address.
-const IN_CONTEXTS: [&str; 7] = [
+/// One file a topic.
+const FILES: [&str; 13] = [
+    "numbers",
+    "lengths",
+    "names",
+    "tables",
+    "builders",
+    "headers",
     "forms",
     "values",
     "refused_values",
@@ -46,13 +47,9 @@ const IN_CONTEXTS: [&str; 7] = [
 ];
 
 fn main(rt: HostRuntime) -> io::Result<()> {
-    for file in ALONE {
+    for file in FILES {
         let text = fs::read_to_string(&rt, file)?;
         judge_each(&rt, file, text.as_str())?;
-    }
-    for file in IN_CONTEXTS {
-        let text = fs::read_to_string(&rt, file)?;
-        judge_each_in_contexts(&rt, file, text.as_str())?;
     }
     Ok(())
 }
@@ -62,27 +59,25 @@ fn judge_each(rt: &(impl AllocGlobal + Print), file: &str, text: &str) -> io::Re
     let mut count = 0u64;
     for (index, line) in text.lines().enumerate() {
         if let Some(case) = case_of(line) {
-            judge(rt, file, index, case)?;
+            judge_case(rt, file, index, case)?;
             count = count.saturating_add(1);
         }
     }
     println!(rt; "{file}: {count} cases")
 }
 
-/// The same, in contexts.
-fn judge_each_in_contexts(
+/// Judges a case, in each context that it means where its answer depends on that.
+fn judge_case(
     rt: &(impl AllocGlobal + Print),
     file: &str,
-    text: &str,
+    index: usize,
+    case: Case<'_>,
 ) -> io::Result<()> {
-    let mut count = 0u64;
-    for (index, line) in text.lines().enumerate() {
-        if let Some(case) = case_of(line) {
-            judge_in_contexts(rt, file, index, case)?;
-            count = count.saturating_add(1);
-        }
+    if depends_on_context(file) {
+        judge_in_contexts(rt, file, index, case)
+    } else {
+        judge(rt, file, index, case, FIRST)
     }
-    println!(rt; "{file}: {count} cases")
 }
 
 /// Judges a case in each context that it means.
@@ -102,7 +97,7 @@ fn judge_in_contexts(
                     address_size,
                 };
                 if is_meant(ctx, case.input) {
-                    judge_in(rt, file, index, case, ctx)?;
+                    judge(rt, file, index, case, ctx)?;
                     is_judged = true;
                 }
             }
@@ -114,22 +109,8 @@ fn judge_in_contexts(
     Ok(())
 }
 
-/// Judges a case.
-fn judge(
-    rt: &(impl AllocGlobal + Print),
-    file: &str,
-    index: usize,
-    case: Case<'_>,
-) -> io::Result<()> {
-    let mut text = String::new(rt.alloc());
-    if let Err(error) = answer(rt.alloc(), file, case.input, &mut text) {
-        write!(text, "{error}")?;
-    }
-    compare(rt, file, index, case, text.as_str())
-}
-
 /// Judges a case in a context.
-fn judge_in(
+fn judge(
     rt: &(impl AllocGlobal + Print),
     file: &str,
     index: usize,
@@ -139,27 +120,24 @@ fn judge_in(
     requires { IsContext ctx }
 {
     let mut text = String::new(rt.alloc());
-    if let Err(error) = answer_in(rt.alloc(), file, ctx, case.input, &mut text) {
+    if let Err(error) = answer(rt.alloc(), file, ctx, case.input, &mut text) {
         write!(text, "{error}")?;
     }
-    compare(rt, file, index, case, text.as_str())
-}
-
-/// Prints what was answered, unless it is as stated.
-fn compare(
-    rt: &impl Print,
-    file: &str,
-    index: usize,
-    case: Case<'_>,
-    answer: &str,
-) -> io::Result<()> {
     let line = index.saturating_add(1);
-    let _is_as_stated = is_answered(rt, file, line, case, answer.trim())?;
+    let _is_as_stated = is_answered(rt, file, line, case, text.as_str().trim())?;
     Ok(())
 }
 
 /// Appends what the library answers to a case of this file.
-fn answer(alloc: Global, file: &str, input: &str, text: &mut String) -> Result<(), CaseError> {
+fn answer(
+    alloc: Global,
+    file: &str,
+    ctx: Ctx,
+    input: &str,
+    text: &mut String,
+) -> Result<(), CaseError>
+    requires { IsContext ctx }
+{
     match file {
         "numbers" => numbers::answer(alloc, input, text),
         "lengths" => lengths::answer(alloc, input, text),
@@ -167,11 +145,11 @@ fn answer(alloc: Global, file: &str, input: &str, text: &mut String) -> Result<(
         "tables" => tables::answer(alloc, input, text),
         "builders" => builders::answer(alloc, input, text),
         "headers" => headers::answer(alloc, input, text),
-        _ => Err(CaseError::NoSuchCase),
+        _ => answer_in(alloc, file, ctx, input, text),
     }
 }
 
-/// The same in a context.
+/// The same where the answer depends on the context.
 fn answer_in(
     alloc: Global,
     file: &str,

@@ -50,9 +50,7 @@ pub fn answer(input: &str, text: &mut String) -> Result<(), CaseError> {
     match input {
         "reasons" => reasons(text),
         "refusals of tables" => refusals(text),
-        "errors of values" => of_values(text),
-        "errors of reads" => of_reads(text),
-        "errors of writes" => of_writes(text),
+        "errors" => errors(text),
         _ => Err(CaseError::NoSuchCase),
     }
 }
@@ -71,20 +69,16 @@ fn refusals(text: &mut String) -> Result<(), CaseError> {
     Ok(())
 }
 
-fn of_values(text: &mut String) -> Result<(), CaseError> {
-    let bad = ValueError::Bad(Reason::UnknownForm);
-    write!(text, "{bad}, {}", ValueError::NoMemory)?;
-    Ok(())
-}
-
-fn of_reads(text: &mut String) -> Result<(), CaseError> {
+fn errors(text: &mut String) -> Result<(), CaseError> {
+    let unknown = ValueError::Bad(Reason::UnknownForm);
+    write!(text, "{unknown}, {}, ", ValueError::NoMemory)?;
     let fault = ReadError::Fault(TRUNCATED);
     write!(text, "{fault}, {}, ", ReadError::NoMemory)?;
-    write!(text, "{}", ReadError::Io(ErrorKind::TimedOut))?;
-    Ok(())
-}
-
-fn of_writes(text: &mut String) -> Result<(), CaseError> {
-    write!(text, "{}", WriteError::Io(ErrorKind::WriteZero))?;
+    let timed_out = ReadError::Io(ErrorKind::TimedOut);
+    write!(
+        text,
+        "{timed_out}, {}",
+        WriteError::Io(ErrorKind::WriteZero)
+    )?;
     Ok(())
 }

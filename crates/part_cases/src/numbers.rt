@@ -10,60 +10,50 @@ use std::alloc::Global;
 /// Appends the answer to a case.
 pub fn answer(alloc: Global, input: &str, text: &mut String) -> Result<(), CaseError> {
     match verb(input) {
-        "least-uleb" => least_unsigned(input, text),
-        "least-sleb" => least_signed(input, text),
         "spell-uleb" => spelled_unsigned(input, text),
         "spell-sleb" => spelled_signed(input, text),
         _ => read(alloc, input, text),
     }
 }
 
-/// The unsigned number that words tell, as `128 in 2`: 128 in two bytes. None where there is none.
-pub fn unsigned_of(words: &str) -> Result<Option<Uleb>, CaseError> {
-    let (value, width) = words.split_once(" in ").ok_or(CaseError::NoSuchCase)?;
-    Ok(Uleb::with_width(number_of(value)?, small_of(width)?))
+/// The unsigned number of a word: `128/3` is 128 in three bytes, and `128` is it in the fewest.
+pub fn uleb_of(word: &str) -> Result<Uleb, CaseError> {
+    match word.split_once('/') {
+        Some((value, width)) => Uleb::with_width(number_of(value)?, small_of(width)?).ok_or(
+            CaseError::NoSuchNumber,
+        ),
+        None => Ok(Uleb::least(number_of(word)?)),
+    }
 }
 
 /// The same, signed.
-pub fn signed_in(words: &str) -> Result<Option<Sleb>, CaseError> {
-    let (value, width) = words.split_once(" in ").ok_or(CaseError::NoSuchCase)?;
-    let value = i64::try_from(signed_of(value)?)
+pub fn sleb_of(word: &str) -> Result<Sleb, CaseError> {
+    match word.split_once('/') {
+        Some((value, width)) => Sleb::with_width(integer_of(value)?, small_of(width)?).ok_or(
+            CaseError::NoSuchNumber,
+        ),
+        None => Ok(Sleb::least(integer_of(word)?)),
+    }
+}
+
+fn integer_of(word: &str) -> Result<i64, CaseError> {
+    i64::try_from(signed_of(word)?)
         .ok()
-        .ok_or(CaseError::NoSuchCase)?;
-    Ok(Sleb::with_width(value, small_of(width)?))
-}
-
-fn least_unsigned(input: &str, text: &mut String) -> Result<(), CaseError> {
-    allow(input, &["least-uleb"])?;
-    let least = Uleb::least(number(input, "least-uleb")?);
-    write!(text, "{} in {}", least.value, least.width)?;
-    Ok(())
-}
-
-fn least_signed(input: &str, text: &mut String) -> Result<(), CaseError> {
-    allow(input, &["least-sleb"])?;
-    let value = signed_of(words(input, "least-sleb")?)?;
-    let least = Sleb::least(i64::try_from(value).ok().ok_or(CaseError::NoSuchCase)?);
-    write!(text, "{} in {}", least.value, least.width)?;
-    Ok(())
+        .ok_or(CaseError::NoSuchCase)
 }
 
 fn spelled_unsigned(input: &str, text: &mut String) -> Result<(), CaseError> {
     allow(input, &["spell-uleb"])?;
-    match unsigned_of(words(input, "spell-uleb")?)? {
-        Some(number) => append_hexadecimal(number.bytes().as_slice(), text)?,
-        None => text.push_str("no such number")?,
-    }
-    Ok(())
+    let number = uleb_of(words(input, "spell-uleb")?)?;
+    write!(text, "{}/{}: ", number.value, number.width)?;
+    Ok(append_hexadecimal(number.bytes().as_slice(), text)?)
 }
 
 fn spelled_signed(input: &str, text: &mut String) -> Result<(), CaseError> {
     allow(input, &["spell-sleb"])?;
-    match signed_in(words(input, "spell-sleb")?)? {
-        Some(number) => append_hexadecimal(number.bytes().as_slice(), text)?,
-        None => text.push_str("no such number")?,
-    }
-    Ok(())
+    let number = sleb_of(words(input, "spell-sleb")?)?;
+    write!(text, "{}/{}: ", number.value, number.width)?;
+    Ok(append_hexadecimal(number.bytes().as_slice(), text)?)
 }
 
 /// A number at the front of bytes.
@@ -90,7 +80,7 @@ fn read_unsigned(input: &str, b: &[u8], lim: u64, text: &mut String) -> Result<(
     allow(input, &["uleb", "within"])?;
     match Uleb::read(b, lim) {
         Ok(number) => {
-            write!(text, "{} in {}", number.value, number.width)?;
+            write!(text, "{}/{}", number.value, number.width)?;
             remark(is_spelled(number, b), ", spelled otherwise", text)
         }
         Err(reason) => refused(reason, text),
@@ -107,7 +97,7 @@ fn read_signed(input: &str, b: &[u8], lim: u64, text: &mut String) -> Result<(),
     allow(input, &["sleb", "within"])?;
     match Sleb::read(b, lim) {
         Ok(number) => {
-            write!(text, "{} in {}", number.value, number.width)?;
+            write!(text, "{}/{}", number.value, number.width)?;
             remark(is_spelled_signed(number, b), ", spelled otherwise", text)
         }
         Err(reason) => refused(reason, text),

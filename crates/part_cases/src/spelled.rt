@@ -1,7 +1,7 @@
-//! Values in words: `number 7`, `wide 7` in sixteen bytes, `uleb 7 in 2` and `sleb -7 in 2` in two, `block in 1: 07`
-//! behind a length in one, `text 68 69`, `present`, and `implicit -7 in 1`, a constant of a declaration.
+//! Values in words: `number 7`, `wide 7` in sixteen bytes, `uleb 7/2` and `sleb -7/2` in two, `block in 1: 07` behind a
+//! length in one, `text 68 69`, `present`, and `implicit -7/1`, a constant of a declaration.
 use crate::error::CaseError;
-use crate::numbers::{signed_in, unsigned_of};
+use crate::numbers::{sleb_of, uleb_of};
 use crate::words::{clause, number_of, small_of, wide_of};
 use case_file::{append_bytes, append_hexadecimal};
 use dw_form::{AttrValue, Value};
@@ -10,7 +10,7 @@ use dw_leb::{Sleb, Uleb};
 /// The unsigned number that the clause of this key tells, if there is such a clause.
 pub fn unsigned(input: &str, key: &str) -> Result<Option<Uleb>, CaseError> {
     match clause(input, key) {
-        Some(words) => Ok(Some(unsigned_of(words)?.ok_or(CaseError::NoSuchCase)?)),
+        Some(word) => Ok(Some(uleb_of(word)?)),
         None => Ok(None),
     }
 }
@@ -18,7 +18,7 @@ pub fn unsigned(input: &str, key: &str) -> Result<Option<Uleb>, CaseError> {
 /// The same, signed.
 pub fn signed(input: &str, key: &str) -> Result<Option<Sleb>, CaseError> {
     match clause(input, key) {
-        Some(words) => Ok(Some(signed_in(words)?.ok_or(CaseError::NoSuchCase)?)),
+        Some(word) => Ok(Some(sleb_of(word)?)),
         None => Ok(None),
     }
 }
@@ -84,7 +84,7 @@ fn number_in(input: &str) -> Result<Value<'static>, CaseError> {
 /// Appends a value in the same words, behind the form that an indirect one names.
 pub fn append_attribute(value: &AttrValue<'_>, text: &mut String) -> Result<(), CaseError> {
     if let Some(via) = value.via {
-        write!(text, "via {:#x} in {}, ", via.value, via.width)?;
+        write!(text, "via {:#x}/{}, ", via.value, via.width)?;
     }
     append_value(&value.value, text)
 }
@@ -92,20 +92,31 @@ pub fn append_attribute(value: &AttrValue<'_>, text: &mut String) -> Result<(), 
 /// Appends a value in the same words.
 pub fn append_value(value: &Value<'_>, text: &mut String) -> Result<(), CaseError> {
     match *value {
-        Value::Num(number) => write!(text, "number {number:#x}")?,
-        Value::Wide(number) => write!(text, "wide {number:#x}")?,
-        Value::Uleb(number) => write!(text, "uleb {} in {}", number.value, number.width)?,
-        Value::Sleb(number) => write!(text, "sleb {} in {}", number.value, number.width)?,
-        Value::Implicit(number) => write!(text, "implicit {} in {}", number.value, number.width)?,
-        Value::Present => text.push_str("present")?,
-        Value::Block { width, bytes } => {
-            write!(text, "block in {width}: ")?;
-            append_hexadecimal(bytes, text)?;
-        }
-        Value::Text(bytes) => {
-            text.push_str("text ")?;
-            append_hexadecimal(bytes, text)?;
-        }
+        Value::Num(number) => append_fixed("number", number as u128, text),
+        Value::Wide(number) => append_fixed("wide", number, text),
+        Value::Uleb(number) => append_leb("uleb", number.value as i128, number.width, text),
+        Value::Sleb(number) => append_leb("sleb", number.value as i128, number.width, text),
+        Value::Implicit(number) => append_leb("implicit", number.value as i128, number.width, text),
+        Value::Present => Ok(text.push_str("present")?),
+        Value::Block { width, bytes } => append_block(width, bytes, text),
+        Value::Text(bytes) => append_text(bytes, text),
     }
-    Ok(())
+}
+
+fn append_fixed(name: &str, number: u128, text: &mut String) -> Result<(), CaseError> {
+    Ok(write!(text, "{name} {number:#x}")?)
+}
+
+fn append_leb(name: &str, value: i128, width: u8, text: &mut String) -> Result<(), CaseError> {
+    Ok(write!(text, "{name} {value}/{width}")?)
+}
+
+fn append_block(width: u8, bytes: &[u8], text: &mut String) -> Result<(), CaseError> {
+    write!(text, "block in {width}: ")?;
+    Ok(append_hexadecimal(bytes, text)?)
+}
+
+fn append_text(bytes: &[u8], text: &mut String) -> Result<(), CaseError> {
+    text.push_str("text ")?;
+    Ok(append_hexadecimal(bytes, text)?)
 }

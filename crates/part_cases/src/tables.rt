@@ -2,7 +2,7 @@
 //! tables and declarations a number alone is in the fewest bytes, and `3/2` is 3 in two bytes.
 use crate::error::CaseError;
 use crate::words::{
-    allow, append_clause, clause, number, number_of, remark, separate, small_of, verb, words,
+    allow, append_clause, clause, number, number_of, remark, separate, verb, words,
 };
 use case_file::append_bytes;
 use dw_abbrev::{Decl, Pair, Table, Tables};
@@ -216,14 +216,4 @@ fn append_number(number: Uleb, text: &mut String) -> Result<(), CaseError> {
         write!(text, "/{}", number.width)?;
     }
     Ok(())
-}
-
-/// The number of a word, as `3` or `3/2`.
-pub fn uleb_of(word: &str) -> Result<Uleb, CaseError> {
-    match word.split_once('/') {
-        Some((value, width)) => Uleb::with_width(number_of(value)?, small_of(width)?).ok_or(
-            CaseError::NoSuchCase,
-        ),
-        None => Ok(Uleb::least(number_of(word)?)),
-    }
 }

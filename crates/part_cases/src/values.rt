@@ -103,10 +103,9 @@ fn whole(alloc: Global, under: Under, b: &[u8], text: &mut String) -> Result<(),
         Ok((value, size)) => {
             append_attribute(&value, text)?;
             remark(size == b.len(), ", and bytes behind it", text)?;
-            remark(is_measured(under, b), ", measured otherwise", text)?;
             remark(
                 is_written_back(alloc, under, b)?,
-                ", written otherwise",
+                ", measured or written otherwise",
                 text,
             )?;
             remark(
@@ -119,26 +118,18 @@ fn whole(alloc: Global, under: Under, b: &[u8], text: &mut String) -> Result<(),
     }
 }
 
-/// Whether the size of the value that the bytes spell is theirs.
-fn is_measured(under: Under, b: &[u8]) -> bool
-    requires { IsContext under.ctx }
-{
-    match lend_value(under.ctx, under.form, under.constant, b, u64::MAX) {
-        Ok((value, _)) => size_of(under.ctx, under.form, &value) == b.len() as u64,
-        Err(_) => false,
-    }
-}
-
-/// Whether the value that the bytes spell is written as these.
+/// Whether the value that the bytes spell is measured and written as these.
 fn is_written_back(alloc: Global, under: Under, b: &[u8]) -> Result<bool, CaseError>
     requires { IsContext under.ctx }
 {
     let Ok((value, _)) = lend_value(under.ctx, under.form, under.constant, b, u64::MAX) else {
         return Ok(false);
     };
+    let size = size_of(under.ctx, under.form, &value);
     let mut writer = Watched::new(Vec::new(alloc));
     write_value(under.ctx, under.form, &value, &mut writer)?;
-    Ok(writer.fault() == None && writer.into_inner().as_slice() == b)
+    let is_as_measured = writer.fault() == None && size == b.len() as u64;
+    Ok(is_as_measured && writer.into_inner().as_slice() == b)
 }
 
 /// Whether the value is lent and stored where it ends the input, the unit, both or neither.
