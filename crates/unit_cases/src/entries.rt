@@ -6,16 +6,12 @@
 //!   name;
 //! - `numbers of OFFSET` and `bare values of OFFSET`, those that `next_number` gives until it gives none, and what
 //!   `next_bare` gives, with `other` for each attribute at which it gives none.
-use crate::show::{append_attribute, append_entry};
+use crate::show::{append_attribute, append_entry, separate};
 use crate::unit::number_of;
 use dw_unit::{EntryRef, NumberRef, Unit};
 use std::alloc::AllocError;
 
-pub fn append_entries(
-    unit: &Unit,
-    words: &[&str],
-    answer: &mut String,
-) -> Result<(), AllocError> {
+pub fn append_entries(unit: &Unit, words: &[&str], answer: &mut String) -> Result<(), AllocError> {
     match words {
         ["entries"] => append_all(unit, answer),
         ["last", "entry"] => append_last(unit, answer),
@@ -36,10 +32,8 @@ fn entry_at<'a>(unit: &'a Unit, offset: &str) -> Option<EntryRef<'a>> {
 }
 
 fn append_all(unit: &Unit, answer: &mut String) -> Result<(), AllocError> {
-    for (index, entry) in unit.entries().enumerate() {
-        if index > 0 {
-            answer.push_str("; ")?;
-        }
+    for entry in unit.entries() {
+        separate(answer)?;
         append_entry(&entry, answer)?;
     }
     Ok(())
@@ -70,23 +64,20 @@ fn append_of(
 }
 
 fn append_children(entry: &EntryRef<'_>, answer: &mut String) -> Result<(), AllocError> {
-    let mut separator = "";
     for child in entry.children() {
-        write!(answer, "{separator}{}", child.offset())?;
-        separator = ", ";
+        separate(answer)?;
+        write!(answer, "{}", child.offset())?;
     }
-    if separator.is_empty() {
+    if answer.is_empty() {
         answer.push_str("none")?;
     }
     Ok(())
 }
 
 fn append_attributes(entry: &EntryRef<'_>, answer: &mut String) -> Result<(), AllocError> {
-    let mut separator = "";
     for attr in entry.attrs() {
-        answer.push_str(separator)?;
+        separate(answer)?;
         append_attribute(&attr, answer)?;
-        separator = "; ";
     }
     Ok(())
 }
@@ -103,13 +94,17 @@ fn append_named(entry: &EntryRef<'_>, name: &str, answer: &mut String) -> Result
 
 fn append_numbers(entry: &EntryRef<'_>, answer: &mut String) -> Result<(), AllocError> {
     let mut attrs = entry.attrs();
-    let mut separator = "";
-    while let Some(number) = attrs.next_number() {
-        answer.push_str(separator)?;
+    for _ in entry.attrs() {
+        let Some(number) = attrs.next_number() else {
+            return Ok(());
+        };
+        separate(answer)?;
         append_number(&number, answer)?;
-        separator = "; ";
     }
-    Ok(())
+    match attrs.next_number() {
+        Some(_) => answer.push_str("; and one more"),
+        None => Ok(()),
+    }
 }
 
 /// Appends a number as an attribute, which has to be the same one.
@@ -125,10 +120,8 @@ fn append_number(number: &NumberRef, answer: &mut String) -> Result<(), AllocErr
 
 fn append_bare(entry: &EntryRef<'_>, answer: &mut String) -> Result<(), AllocError> {
     let mut attrs = entry.attrs();
-    let mut separator = "";
     for _ in entry.attrs() {
-        answer.push_str(separator)?;
-        separator = "; ";
+        separate(answer)?;
         match attrs.next_bare() {
             Some(bare) => append_attribute(&bare, answer)?,
             None => {

@@ -22,7 +22,15 @@ use std::{fs, io};
 
 /// The files of cases, one for each topic.
 const FILES: [&str; 9] = [
-    "units", "kinds", "attributes", "trees", "faults", "versions", "compilers", "puts", "built",
+    "units",
+    "kinds",
+    "attributes",
+    "trees",
+    "faults",
+    "versions",
+    "compilers",
+    "puts",
+    "built",
 ];
 
 fn main(rt: HostRuntime) -> io::Result<()> {

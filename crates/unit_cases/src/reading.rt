@@ -26,13 +26,7 @@ pub fn append_read(
     answer: &mut String,
 ) -> Result<(), AllocError> {
     let mut tables = Tables::new(alloc, input.section);
-    match dw_feed::read_unit_as(
-        alloc,
-        input.order,
-        input.versions,
-        &mut tables,
-        input.bytes,
-    ) {
+    match dw_feed::read_unit_as(alloc, input.order, input.versions, &mut tables, input.bytes) {
         Ok((mut unit, size)) => {
             append_laws(alloc, input, &unit, size, answer)?;
             append_said(alloc, question, &mut unit, answer)?;

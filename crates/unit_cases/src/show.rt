@@ -4,6 +4,15 @@ use dw_form::{AttrValue, Value};
 use dw_unit::{AttrRef, EntryRef, Header, Kind};
 use std::alloc::AllocError;
 
+/// Appends `; ` where something stands before.
+pub fn separate(answer: &mut String) -> Result<(), AllocError> {
+    if answer.is_empty() {
+        Ok(())
+    } else {
+        answer.push_str("; ")
+    }
+}
+
 /// Appends `KIND FORMAT ORDER, addresses of N, table at N`.
 pub fn append_header(header: &Header, answer: &mut String) -> Result<(), AllocError> {
     append_kind(header.kind(), answer)?;

@@ -9,6 +9,7 @@
 //! `BYTES`.
 use crate::put::append_unit_bytes;
 use crate::reading::is_written_as;
+use crate::show::separate;
 use crate::unit::append_size;
 use crate::values::open_with;
 use case_file::append_named;
@@ -41,11 +42,9 @@ pub fn append_steps(
     steps: &str,
     answer: &mut String,
 ) -> Result<(), AllocError> {
-    let mut separator = "";
     for step in steps.split(';') {
-        answer.push_str(separator)?;
+        separate(answer)?;
         append_step(alloc, file, builder, step.trim(), answer)?;
-        separator = "; ";
     }
     Ok(())
 }
