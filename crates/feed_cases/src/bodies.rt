@@ -3,7 +3,7 @@
 //! were taken and what was said, and with the fault at the end of the input. `held body of ..` is answered with what the
 //! feed holds after each piece too.
 use crate::input::{Input, Setting, feed_behind, front, is_written_as};
-use crate::show::{append_end, append_fault};
+use crate::show::{append_end, append_fault, separate};
 use case_file::append_named;
 use dw_feed::{BodyFeed, Progress};
 use dw_leb::Order;
@@ -46,18 +46,16 @@ fn append_pieces(
     answer: &mut String,
 ) -> Result<(), AllocError> {
     let mut bytes = Vec::from_slice(alloc, head)?;
-    let mut separator = "";
     for words in pieces.split('|') {
         let before = bytes.len();
         if !append_named(file, words, &mut bytes)? {
             return answer.push_str("no such bytes");
         }
-        answer.push_str(separator)?;
+        separate(answer)?;
         append_said(alloc, feed, bytes.as_slice(), before, answer)?;
         if is_held {
             append_held(feed, answer)?;
         }
-        separator = "; ";
     }
     Ok(())
 }

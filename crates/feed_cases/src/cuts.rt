@@ -31,7 +31,12 @@ fn push(alloc: Global, input: Input<'_>, feed: &mut BodyFeed, piece: &[u8]) -> (
 }
 
 /// Pushes an empty piece, which tells nothing unless the unit is refused by it, and then the piece.
-fn push_rested(alloc: Global, input: Input<'_>, feed: &mut BodyFeed, piece: &[u8]) -> (usize, Said) {
+fn push_rested(
+    alloc: Global,
+    input: Input<'_>,
+    feed: &mut BodyFeed,
+    piece: &[u8],
+) -> (usize, Said) {
     match push(alloc, input, feed, &[]) {
         (0, Said::More) => push(alloc, input, feed, piece),
         other => other,
@@ -74,11 +79,7 @@ pub fn at_once(alloc: Global, input: Input<'_>) -> Option<(Outcome, usize)> {
     pushed(alloc, input, size, size)
 }
 
-pub fn append_cuts(
-    alloc: Global,
-    input: Input<'_>,
-    answer: &mut String,
-) -> Result<(), AllocError> {
+pub fn append_cuts(alloc: Global, input: Input<'_>, answer: &mut String) -> Result<(), AllocError> {
     let Some(whole) = at_once(alloc, input) else {
         return answer.push_str("no feed");
     };

@@ -6,7 +6,7 @@
 //!   something else was said than `more`, what was said to one more byte, and the fault at the end;
 //! - `wants behind: BYTES`, answered with the count of bytes that a feed wants then.
 use crate::input::Setting;
-use crate::show::{append_end, append_fault};
+use crate::show::{append_end, append_fault, separate};
 use case_file::append_named;
 use dw_feed::{HeadFeed, Progress};
 use dw_unit::Header;
@@ -34,15 +34,13 @@ fn append_pieces(
     answer: &mut String,
 ) -> Result<(), AllocError> {
     let mut piece = Vec::new(alloc);
-    let mut separator = "";
     for words in pieces.split('|') {
         piece.clear();
         if !append_named(file, words, &mut piece)? {
             return answer.push_str("no such bytes");
         }
-        answer.push_str(separator)?;
+        separate(answer)?;
         append_said(feed.feed(piece.as_slice()), answer)?;
-        separator = "; ";
     }
     Ok(())
 }

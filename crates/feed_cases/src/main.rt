@@ -32,7 +32,13 @@ use std::{fs, io};
 
 /// The files of cases, one for each topic.
 const FILES: [&str; 7] = [
-    "heads", "wants", "bodies", "held", "readers", "cuts", "agreement",
+    "heads",
+    "wants",
+    "bodies",
+    "held",
+    "readers",
+    "cuts",
+    "agreement",
 ];
 
 fn main(rt: HostRuntime) -> io::Result<()> {

@@ -24,7 +24,13 @@ pub fn append_over(
     }
     match question.split_once("body of ") {
         Some(body) => append_body(alloc, file, section.as_slice(), body, bytes, answer),
-        None => append_whole(alloc, file, (setting, section.as_slice(), question), bytes, answer),
+        None => append_whole(
+            alloc,
+            file,
+            (setting, section.as_slice(), question),
+            bytes,
+            answer,
+        ),
     }
 }
 

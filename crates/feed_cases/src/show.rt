@@ -2,6 +2,15 @@
 use dw_leb::{Fault, ReadError, SectionId};
 use std::alloc::AllocError;
 
+/// Appends `; ` where something stands before.
+pub fn separate(answer: &mut String) -> Result<(), AllocError> {
+    if answer.is_empty() {
+        Ok(())
+    } else {
+        answer.push_str("; ")
+    }
+}
+
 /// Appends a fault as `REASON at OFFSET of SECTION`.
 pub fn append_fault(fault: Fault, answer: &mut String) -> Result<(), AllocError> {
     let section = match fault.section {
