@@ -7,7 +7,6 @@
 mod names;
 
 pub use names::append_named;
-
 use std::alloc::AllocError;
 use std::io;
 
