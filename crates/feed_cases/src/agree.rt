@@ -5,7 +5,7 @@
 //!
 //! The readers are one of bytes at hand, one that recurses, one over a reader that gives a byte a call, and a feed in
 //! pieces of one byte and in one piece.
-use crate::cuts::{at_once, pushed};
+use crate::cuts::{at_once, is_pushed, pushed};
 use crate::input::{Input, Outcome, Setting, front};
 use crate::readers::read_by;
 use dw_abbrev::Tables;
@@ -32,15 +32,17 @@ fn by_recursion(alloc: Global, input: Input<'_>) -> Outcome {
 /// Whether all readers come to the same outcome, and the feed after the same bytes.
 fn agree(alloc: Global, input: Input<'_>) -> bool {
     let outcome = at_hand(alloc, input);
-    let whole = at_once(alloc, input);
-    let is_fed = match whole {
-        Some((fed, _)) => fed == outcome,
-        None => true,
-    };
-    is_fed
-        && pushed(alloc, input, 0, 1) == whole
+    are_fed_to(alloc, input, outcome)
         && by_recursion(alloc, input) == outcome
         && read_by(alloc, input, 1).0 == outcome
+}
+
+/// Whether a feed comes to the outcome, if there is a header and a table for one.
+fn are_fed_to(alloc: Global, input: Input<'_>, outcome: Outcome) -> bool {
+    match at_once(alloc, input) {
+        Some(whole) => whole.0 == outcome && is_pushed(alloc, input, (0, 1), whole),
+        None => pushed(alloc, input, 0, 1).is_none(),
+    }
 }
 
 pub fn append_fronts(

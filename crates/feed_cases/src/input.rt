@@ -21,11 +21,11 @@ pub struct Input<'a> {
 }
 
 /// What came of reading a unit.
-#[derive(Clone, Copy, Debug, PartialEq, Eq)]
+#[derive(Clone, Copy, PartialEq, Eq)]
 pub enum Outcome {
     /// A unit of so many bytes, which is written as they are.
     Unit(u64),
-    /// A unit that is written otherwise.
+    /// A unit that is written otherwise, or a reader that has a fault.
     Otherwise,
     Refused(ReadError),
 }

@@ -51,11 +51,22 @@ fn append_whole(
         section,
         bytes: bytes.as_slice(),
     };
-    match (question, question.strip_prefix("read by ")) {
-        ("cuts", _) => append_cuts(alloc, input, answer),
-        ("fronts", _) => append_fronts(alloc, input, answer),
-        ("changes", _) => append_changes(alloc, input, answer),
-        (_, Some(count)) => append_read(alloc, input, count, answer),
-        (_, None) => answer.push_str("no such case"),
+    append_of(alloc, input, question, answer)
+}
+
+fn append_of(
+    alloc: Global,
+    input: Input<'_>,
+    question: &str,
+    answer: &mut String,
+) -> Result<(), AllocError> {
+    if let Some(count) = question.strip_prefix("read by ") {
+        return append_read(alloc, input, count, answer);
+    }
+    match question {
+        "cuts" => append_cuts(alloc, input, answer),
+        "fronts" => append_fronts(alloc, input, answer),
+        "changes" => append_changes(alloc, input, answer),
+        _ => answer.push_str("no such case"),
     }
 }

@@ -1,6 +1,9 @@
 //! Units of readers: `read by COUNT over TABLE: BYTES`, of one that gives so many bytes a call, answered with the size of
 //! the unit or its fault, and with the count of bytes that the reader has left. Readers that give other counts of bytes
 //! have to come to the same outcome.
+ghost use Rattle.std.specs.Prelude.{◌≡◌, None};
+ghost use Rattle.dw_leb.specs.Watch.{fault_of};
+
 use crate::input::{Input, Outcome, Setting};
 use crate::show::append_error;
 use dw_abbrev::Tables;
@@ -8,17 +11,34 @@ use dw_feed::read_unit_from_as;
 use dw_leb::Watched;
 use dw_leb::devices::Stepped;
 use std::alloc::{AllocError, Global};
+use std::io::Read;
 
-/// What comes of a reader that gives so many bytes a call, and how many it has left.
+/// What comes of a reader that gives so many bytes a call, and how many it has left. It has no fault then.
 pub fn read_by(alloc: Global, input: Input<'_>, count: usize) -> (Outcome, usize) {
+    let mut reader = Watched::new(Stepped::new(input.bytes, count));
+    let outcome = read_from(alloc, input, &mut reader);
+    let is_clear = reader.fault().is_none();
+    let left = reader.into_inner().inner().len();
+    (
+        if is_clear {
+            outcome
+        } else {
+            Outcome::Otherwise
+        },
+        left,
+    )
+}
+
+/// What comes of a reader of the input.
+fn read_from<R: Read>(alloc: Global, input: Input<'_>, reader: &mut Watched<R>) -> Outcome
+    requires { fault_of reader.old ≡ None }
+{
     let Setting { order, versions } = input.setting;
     let mut tables = Tables::new(alloc, input.section);
-    let mut reader = Watched::new(Stepped::new(input.bytes, count));
-    let outcome = match read_unit_from_as(alloc, order, versions, &mut tables, &mut reader) {
+    match read_unit_from_as(alloc, order, versions, &mut tables, reader) {
         Ok(unit) => Outcome::of_unit(alloc, input, &unit),
         Err(error) => Outcome::Refused(error),
-    };
-    (outcome, reader.into_inner().inner().len())
+    }
 }
 
 pub fn append_read(

@@ -25,19 +25,38 @@ pub fn append_read(
     question: &str,
     answer: &mut String,
 ) -> Result<(), AllocError> {
-    let mut tables = Tables::new(alloc, input.section);
-    match dw_feed::read_unit_as(alloc, input.order, input.versions, &mut tables, input.bytes) {
-        Ok((mut unit, size)) => {
-            append_laws(alloc, input, &unit, size, answer)?;
-            append_said(alloc, question, &mut unit, answer)?;
-            append_agreement(alloc, input, Ok(size), answer)
-        }
-        Err(error) => {
-            append_error(error, answer)?;
-            append_head_fault(input, error, answer)?;
-            append_agreement(alloc, input, Err(error), answer)
-        }
+    match read(alloc, input) {
+        Ok((mut unit, size)) => append_of_unit(alloc, input, (&mut unit, size), question, answer),
+        Err(error) => append_refusal(alloc, input, error, answer),
     }
+}
+
+fn read(alloc: Global, input: Input<'_>) -> Result<(Unit, usize), ReadError> {
+    let mut tables = Tables::new(alloc, input.section);
+    dw_feed::read_unit_as(alloc, input.order, input.versions, &mut tables, input.bytes)
+}
+
+fn append_of_unit(
+    alloc: Global,
+    input: Input<'_>,
+    (unit, size): (&mut Unit, usize),
+    question: &str,
+    answer: &mut String,
+) -> Result<(), AllocError> {
+    append_laws(alloc, input, unit, size, answer)?;
+    append_said(alloc, question, unit, answer)?;
+    append_agreement(alloc, input, Ok(size), answer)
+}
+
+fn append_refusal(
+    alloc: Global,
+    input: Input<'_>,
+    error: ReadError,
+    answer: &mut String,
+) -> Result<(), AllocError> {
+    append_error(error, answer)?;
+    append_head_fault(input, error, answer)?;
+    append_agreement(alloc, input, Err(error), answer)
 }
 
 /// Appends a fault as `REASON at OFFSET of SECTION`.
@@ -114,18 +133,31 @@ fn has_its_header(input: Input<'_>, unit: &Unit) -> bool {
         && read_header_as(input.order, input.versions, alone) == want
 }
 
-/// Says where a header is refused for another reason than the unit.
+/// Says where a header is refused for another reason than the unit, and where it is read, though the unit is refused for
+/// a field of it.
 fn append_head_fault(
     input: Input<'_>,
     error: ReadError,
     answer: &mut String,
 ) -> Result<(), AllocError> {
     match read_header_as(input.order, input.versions, input.bytes) {
-        Err(fault) if error != ReadError::Fault(fault) => {
+        Err(fault) if error == ReadError::Fault(fault) => Ok(()),
+        Err(fault) => {
             answer.push_str("; for its header ")?;
             append_fault(fault, answer)
         }
-        _ => Ok(()),
+        Ok((header, _)) if is_before(error, header.size()) => {
+            answer.push_str("; but its header is read")
+        }
+        Ok(_) => Ok(()),
+    }
+}
+
+/// Whether the field of a fault begins in `.debug_info` before this offset.
+fn is_before(error: ReadError, offset: u64) -> bool {
+    match error {
+        ReadError::Fault(fault) => fault.section == SectionId::Info && fault.offset < offset,
+        _ => false,
     }
 }
 

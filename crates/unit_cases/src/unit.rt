@@ -18,7 +18,16 @@ pub fn append_said(
     answer: &mut String,
 ) -> Result<(), AllocError> {
     let words: Vec<&str> = question.split_whitespace().collect(alloc)?;
-    match words.as_slice() {
+    append_to_words(alloc, words.as_slice(), unit, answer)
+}
+
+fn append_to_words(
+    alloc: Global,
+    words: &[&str],
+    unit: &mut Unit,
+    answer: &mut String,
+) -> Result<(), AllocError> {
+    match words {
         ["unit"] => append_unit(unit, answer),
         ["put", number, "as", name, "of", offset] => {
             append_put(alloc, unit, (offset, name, number), answer)
