@@ -1,9 +1,12 @@
 //! Cases that are kept as data, for programs that test a library: a file of lines `INPUT -> ANSWER`.
 //!
 //! Lines that are empty or begin with `#` say nothing to a program. Bytes are written in hexadecimal, apart by
-//! spaces, and `80*16` stands for sixteen bytes 0x80.
+//! spaces, and `80*16` stands for sixteen bytes 0x80. A line `let NAME = BYTES` gives bytes a name.
 #![tactic(auto)]
 
+mod names;
+
+pub use names::append_named;
 use std::alloc::AllocError;
 use std::io;
 
@@ -14,11 +17,11 @@ pub struct Case<'a> {
     pub answer: &'a str,
 }
 
-/// The case that the line states, `None` where it is empty or a comment. A line without an arrow is a case
-/// whose answer is empty, so that no line is passed over.
+/// The case that the line states, `None` where it is empty, a comment or a definition. Any other line without
+/// an arrow is a case whose answer is empty, so that no line is passed over.
 pub fn case_of(line: &str) -> Option<Case<'_>> {
     let line = line.trim();
-    if line.is_empty() || line.starts_with('#') {
+    if line.is_empty() || line.starts_with('#') || line.starts_with("let ") {
         return None;
     }
     let (input, answer) = line.split_once(" -> ").unwrap_or((line, ""));

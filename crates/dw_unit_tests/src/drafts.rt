@@ -1,14 +1,14 @@
 //! What no clause says of drafts: each call once with memory to spare, by a caller that tests what a
-//! call asks for with the draft's own observers, and makes it again where memory is refused; the same
-//! unit from a builder; an entry taken back.
+//! call asks for with the draft's own observers, and makes it again where memory is refused; an entry
+//! taken back. The same unit of a builder is a case of `unit_cases`.
 ghost use Rattle.std.specs.Prelude.{IsTrue};
 ghost use Rattle.dw_unit.specs.Draft.{PartialFits, PartialShort};
 
-use crate::common::{PADDED, TYPED, builder, finished, same, writes};
+use crate::common::{PADDED, TYPED, same, writes};
 use dw_abbrev::Tables;
 use dw_form::{AttrValue, Value, fits, size_of};
 use dw_leb::{Format, Order, Uleb};
-use dw_unit::{Draft, Header, Kind, Unit, UnitBuilder};
+use dw_unit::{Draft, Header, Kind, Unit};
 use std::alloc::Global;
 use std::process::Abort;
 use std::test::Fail;
@@ -174,23 +174,6 @@ fn is_the_padded(rt: &impl Abort, alloc: Global, draft: Draft) -> Result<(), Fai
     Ok(writes(rt, alloc, &unit, &PADDED)?)
 }
 
-/// The same unit by the calls of a builder.
-fn builds(builder: &mut UnitBuilder) -> Result<(), Fail> {
-    builder.open(wide_one()?, &[name()])?;
-    builder.open(Uleb::least(2), &[four()])?;
-    builder.close(2)?;
-    builder.pad(1)?;
-    builder.pad(2)?;
-    Ok(())
-}
-
-fn is_built(rt: &impl Abort, alloc: Global) -> Result<(), Fail> {
-    let mut builder = builder(alloc, &TYPED, Format::Dwarf32)?;
-    builds(&mut builder)?;
-    let unit = finished(builder)?;
-    Ok(writes(rt, alloc, &unit, &PADDED)?)
-}
-
 /// The draft has so many bytes, and no entry yet.
 fn is_empty_of(rt: &impl Abort, draft: &Draft, size: u64) {
     assert!(rt; draft.size() == size);
@@ -223,7 +206,6 @@ fn comes_up(rt: &impl Abort, draft: &mut Draft) -> Result<(), Fail> {
 
 #[test]
 fn a_unit_step_by_step(rt: HostRuntime) -> Result<(), Fail> {
-    is_built(&rt, rt.alloc())?;
     let mut draft = drafted(rt.alloc())?;
     goes_down(&rt, &mut draft)?;
     comes_up(&rt, &mut draft)?;

@@ -5,7 +5,7 @@ use dw_abbrev::Tables;
 use dw_feed::read_unit_from;
 use dw_form::{AttrValue, Value};
 use dw_leb::devices::Stepped;
-use dw_leb::{Format, Order, ReadError, Uleb, Watched};
+use dw_leb::{Order, ReadError, Uleb, Watched};
 use dw_unit::{Refusal, Unit, UnitBuilder};
 use std::alloc::Global;
 use std::process::Abort;
@@ -26,7 +26,7 @@ fn fill(builder: &mut UnitBuilder, children: u32) -> Result<(), Refusal> {
 }
 
 fn built(alloc: Global, children: u32) -> Result<Unit, Fail> {
-    let mut builder = builder(alloc, &VARIABLES, Format::Dwarf32)?;
+    let mut builder = builder(alloc, &VARIABLES)?;
     fill(&mut builder, children)?;
     Ok(finished(builder)?)
 }

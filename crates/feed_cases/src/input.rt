@@ -1,0 +1,82 @@
+//! Bytes over a section of tables, how they are read, and what came of it.
+use dw_abbrev::Tables;
+use dw_feed::BodyFeed;
+use dw_leb::{Order, ReadError, Watched, WriteError};
+use dw_unit::{Unit, Versions, read_header_as, write_unit};
+use std::alloc::Global;
+
+/// How bytes are read.
+#[derive(Clone, Copy)]
+pub struct Setting {
+    pub order: Order,
+    pub versions: Versions,
+}
+
+/// Bytes over a section of abbreviation tables.
+#[derive(Clone, Copy)]
+pub struct Input<'a> {
+    pub setting: Setting,
+    pub section: &'a [u8],
+    pub bytes: &'a [u8],
+}
+
+/// What came of reading a unit.
+#[derive(Clone, Copy, PartialEq, Eq)]
+pub enum Outcome {
+    /// A unit of so many bytes, which is written as they are.
+    Unit(u64),
+    /// A unit that is written otherwise, or a reader that has a fault.
+    Otherwise,
+    Refused(ReadError),
+}
+
+impl Outcome {
+    /// The outcome of a unit that was read of the input.
+    pub fn of_unit(alloc: Global, input: Input<'_>, unit: &Unit) -> Outcome {
+        let size = unit.size();
+        if is_written_as(alloc, unit, front(input.bytes, size as usize)) {
+            Outcome::Unit(size)
+        } else {
+            Outcome::Otherwise
+        }
+    }
+}
+
+/// The first so many bytes, and all where there are fewer.
+pub fn front(bytes: &[u8], size: usize) -> &[u8] {
+    bytes.get(..size).unwrap_or(bytes)
+}
+
+/// Whether the unit is written as these bytes.
+pub fn is_written_as(alloc: Global, unit: &Unit, bytes: &[u8]) -> bool {
+    match written(alloc, unit) {
+        Ok(found) => found.as_slice() == bytes,
+        Err(_) => false,
+    }
+}
+
+fn written(alloc: Global, unit: &Unit) -> Result<Vec<u8>, WriteError> {
+    let mut writer = Watched::new(Vec::new(alloc));
+    write_unit(unit, &mut writer)?;
+    Ok(writer.into_inner())
+}
+
+/// A feed of the unit whose header is at the front of the input.
+pub fn feed_behind(alloc: Global, input: Input<'_>) -> Option<BodyFeed> {
+    let Setting { order, versions } = input.setting;
+    let (header, length) = read_header_as(order, versions, input.bytes).ok()?;
+    let table = Tables::new(alloc, input.section)
+        .get(header.abbrev_offset())
+        .ok()?;
+    Some(BodyFeed::new(alloc, header, length, table))
+}
+
+/// What the input has behind the header at its front.
+pub fn behind_header(input: Input<'_>) -> &[u8] {
+    let Setting { order, versions } = input.setting;
+    let size = match read_header_as(order, versions, input.bytes) {
+        Ok((header, _)) => header.size() as usize,
+        Err(_) => 0,
+    };
+    input.bytes.get(size..).unwrap_or(input.bytes)
+}

@@ -1,0 +1,137 @@
+//! Questions about the entries of a unit:
+//!
+//! - `entries`, all in their order, and `last entry`;
+//! - `entry at OFFSET`, the one that begins there, and `children of OFFSET`, where the entries just below it begin;
+//! - `attributes of OFFSET`, all of the entry that begins there, and `attribute NAME of OFFSET`, its first one of a
+//!   name;
+//! - `numbers of OFFSET` and `bare values of OFFSET`, those that `next_number` gives until it gives none, and what
+//!   `next_bare` gives, with `other` for each attribute at which it gives none.
+use crate::show::{append_attribute, append_entry, separate};
+use crate::unit::number_of;
+use dw_unit::{EntryRef, NumberRef, Unit};
+use std::alloc::AllocError;
+
+pub fn append_entries(unit: &Unit, words: &[&str], answer: &mut String) -> Result<(), AllocError> {
+    match words {
+        ["entries"] => append_all(unit, answer),
+        ["last", "entry"] => append_last(unit, answer),
+        ["entry", "at", offset] => match entry_at(unit, offset) {
+            Some(entry) => append_entry(&entry, answer),
+            None => answer.push_str("nothing"),
+        },
+        [question @ .., "of", offset] => match entry_at(unit, offset) {
+            Some(entry) => append_of(&entry, question, answer),
+            None => answer.push_str("no such entry"),
+        },
+        _ => answer.push_str("no such case"),
+    }
+}
+
+fn entry_at<'a>(unit: &'a Unit, offset: &str) -> Option<EntryRef<'a>> {
+    unit.entry_at(number_of(offset)?)
+}
+
+fn append_all(unit: &Unit, answer: &mut String) -> Result<(), AllocError> {
+    for entry in unit.entries() {
+        separate(answer)?;
+        append_entry(&entry, answer)?;
+    }
+    Ok(())
+}
+
+fn append_last(unit: &Unit, answer: &mut String) -> Result<(), AllocError> {
+    let mut last = unit.root();
+    for entry in unit.entries() {
+        last = entry;
+    }
+    append_entry(&last, answer)
+}
+
+/// Appends the answer to a question about one entry.
+fn append_of(
+    entry: &EntryRef<'_>,
+    question: &[&str],
+    answer: &mut String,
+) -> Result<(), AllocError> {
+    match question {
+        ["children"] => append_children(entry, answer),
+        ["attributes"] => append_attributes(entry, answer),
+        ["attribute", name] => append_named(entry, name, answer),
+        ["numbers"] => append_numbers(entry, answer),
+        ["bare", "values"] => append_bare(entry, answer),
+        _ => answer.push_str("no such case"),
+    }
+}
+
+fn append_children(entry: &EntryRef<'_>, answer: &mut String) -> Result<(), AllocError> {
+    for child in entry.children() {
+        separate(answer)?;
+        write!(answer, "{}", child.offset())?;
+    }
+    if answer.is_empty() {
+        answer.push_str("none")?;
+    }
+    Ok(())
+}
+
+fn append_attributes(entry: &EntryRef<'_>, answer: &mut String) -> Result<(), AllocError> {
+    for attr in entry.attrs() {
+        separate(answer)?;
+        append_attribute(&attr, answer)?;
+    }
+    Ok(())
+}
+
+fn append_named(entry: &EntryRef<'_>, name: &str, answer: &mut String) -> Result<(), AllocError> {
+    let Some(name) = number_of(name) else {
+        return answer.push_str("no such case");
+    };
+    match entry.attr(name) {
+        Some(attr) => append_attribute(&attr, answer),
+        None => answer.push_str("nothing"),
+    }
+}
+
+fn append_numbers(entry: &EntryRef<'_>, answer: &mut String) -> Result<(), AllocError> {
+    let mut attrs = entry.attrs();
+    for _ in entry.attrs() {
+        let Some(number) = attrs.next_number() else {
+            return Ok(());
+        };
+        separate(answer)?;
+        append_number(&number, answer)?;
+    }
+    match attrs.next_number() {
+        Some(_) => answer.push_str("; and one more"),
+        None => Ok(()),
+    }
+}
+
+/// Appends a number as an attribute, which has to be the same one.
+fn append_number(number: &NumberRef, answer: &mut String) -> Result<(), AllocError> {
+    let attr = number.attribute();
+    let is_same = (attr.name, attr.form, attr.offset) == (number.name, number.form, number.offset)
+        && attr.attr.as_number() == Some(number.number);
+    if !is_same {
+        answer.push_str("another ")?;
+    }
+    append_attribute(&attr, answer)
+}
+
+fn append_bare(entry: &EntryRef<'_>, answer: &mut String) -> Result<(), AllocError> {
+    let mut attrs = entry.attrs();
+    for _ in entry.attrs() {
+        separate(answer)?;
+        match attrs.next_bare() {
+            Some(bare) => append_attribute(&bare, answer)?,
+            None => {
+                let _other = attrs.next();
+                answer.push_str("other")?;
+            }
+        }
+    }
+    match attrs.next_bare() {
+        Some(_) => answer.push_str("; and one more"),
+        None => Ok(()),
+    }
+}

@@ -1,0 +1,75 @@
+//! Cases of units: read from bytes, walked, changed in place and built (section 7.5).
+//!
+//! A case is a line `INPUT -> ANSWER` of a file in `data/`; `ask` and `build` say what an input is. Each line that
+//! differs is printed, and for each file how many cases it has.
+#![tactic(auto)]
+
+mod agree;
+mod ask;
+mod build;
+mod entries;
+mod put;
+mod reading;
+mod show;
+mod steps;
+mod unit;
+mod values;
+
+use case_file::{case_of, is_answered};
+use std::alloc::{AllocError, Global};
+use std::rt::Files;
+use std::{fs, io};
+
+/// The files of cases, one for each topic.
+const FILES: [&str; 9] = [
+    "units",
+    "kinds",
+    "attributes",
+    "trees",
+    "faults",
+    "versions",
+    "compilers",
+    "puts",
+    "built",
+];
+
+fn main(rt: HostRuntime) -> io::Result<()> {
+    for file in FILES {
+        judge_file(&rt, file)?;
+    }
+    Ok(())
+}
+
+fn judge_file(rt: &(impl AllocGlobal + Files + Print), file: &str) -> io::Result<()> {
+    let text = fs::read_to_string(rt, file)?;
+    let count = judge_cases(rt, file, text.as_str())?;
+    println!(rt; "{file}: {count} cases")
+}
+
+/// Judges each case of a file, and answers how many there are.
+fn judge_cases(rt: &(impl AllocGlobal + Print), file: &str, text: &str) -> io::Result<u64> {
+    let mut answer = String::new(rt.alloc());
+    let mut count = 0u64;
+    for (index, line) in text.lines().enumerate() {
+        if let Some(case) = case_of(line) {
+            answer.clear();
+            append_answer(rt.alloc(), text, case.input, &mut answer)?;
+            is_answered(rt, file, index.saturating_add(1), case, answer.as_str())?;
+            count = count.saturating_add(1);
+        }
+    }
+    Ok(count)
+}
+
+/// Appends the answer to an input, in a file that may give names to bytes.
+fn append_answer(
+    alloc: Global,
+    file: &str,
+    input: &str,
+    answer: &mut String,
+) -> Result<(), AllocError> {
+    match input.strip_prefix("build ") {
+        Some(script) => build::append_built(alloc, file, script, answer),
+        None => ask::append_answer(alloc, file, input, answer),
+    }
+}
