@@ -6,7 +6,7 @@ ghost use Rattle.dw_ctype.specs.Names as definition;
 use dw_leb::constants::tag::*;
 
 /// The word before the name of a structure, a union, an enumeration or a class.
-#[derive(Clone, Copy, Debug, PartialEq, Eq)]
+#[derive(Clone, Copy, PartialEq, Eq)]
 pub(crate) enum Keyword {
     Struct,
     Union,
@@ -15,7 +15,7 @@ pub(crate) enum Keyword {
 }
 
 /// What a declarator gets for a type that refers to another one.
-#[derive(Clone, Copy, Debug, PartialEq, Eq)]
+#[derive(Clone, Copy, PartialEq, Eq)]
 pub(crate) enum Mark {
     Pointer,
     Reference,
@@ -23,7 +23,7 @@ pub(crate) enum Mark {
 }
 
 /// A qualifier of a type.
-#[derive(Clone, Copy, Debug, PartialEq, Eq)]
+#[derive(Clone, Copy, PartialEq, Eq)]
 pub(crate) enum Qualifier {
     Const,
     Volatile,
@@ -32,7 +32,7 @@ pub(crate) enum Qualifier {
 }
 
 /// How a type is written.
-#[derive(Clone, Copy, Debug, PartialEq, Eq)]
+#[derive(Clone, Copy, PartialEq, Eq)]
 pub(crate) enum Kind {
     /// By its name.
     Named,

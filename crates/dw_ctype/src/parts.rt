@@ -17,7 +17,7 @@ use std::alloc::{AllocError, Global};
 use std::marker::Model;
 
 /// What the text of an entry needs.
-#[derive(Debug, Drop)]
+#[derive(Drop)]
 pub(crate) struct Parts<'a> {
     /// The types whose texts it counts: its own, and then those of its parameters.
     pub(crate) types: Vec<Typed>,
@@ -26,7 +26,7 @@ pub(crate) struct Parts<'a> {
 }
 
 /// The parts of entries of a section.
-#[derive(Debug, Drop)]
+#[derive(Drop)]
 pub(crate) struct Kept<'a> {
     section: &'a Section,
     parts: IndexMap<EntryId, Parts<'a>>,

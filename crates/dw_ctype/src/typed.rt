@@ -15,7 +15,7 @@ use dw_unit::EntryRef;
 pub(crate) const MOST_STEPS: u8 = 64;
 
 /// What an entry's type is: what its first DW_AT_type resolves to.
-#[derive(Clone, Copy, Debug, PartialEq, Eq)]
+#[derive(Clone, Copy, PartialEq, Eq)]
 pub(crate) enum Typed {
     /// The entry has no such attribute.
     Missing,

@@ -2,7 +2,7 @@
 use dw_leb::{Fault, Reason};
 
 /// What a feed makes of the field at its place.
-#[derive(Clone, Copy, Debug, PartialEq, Eq)]
+#[derive(Clone, Copy, PartialEq, Eq)]
 pub(crate) enum Step {
     /// It is whole, and so many bytes of the piece are left over.
     Found(usize),
@@ -15,7 +15,7 @@ pub(crate) enum Step {
 }
 
 /// What one attempt to read the field at the place gives.
-#[derive(Clone, Copy, Debug, PartialEq, Eq)]
+#[derive(Clone, Copy, PartialEq, Eq)]
 pub(crate) enum Attempt {
     /// It is at the front, with so many bytes, and was put into the draft.
     Whole(usize),
@@ -26,7 +26,7 @@ pub(crate) enum Attempt {
 }
 
 /// What a unit makes of a piece.
-#[derive(Clone, Copy, Debug, PartialEq, Eq)]
+#[derive(Clone, Copy, PartialEq, Eq)]
 pub(crate) enum Taken {
     /// All bytes of the piece were taken, and more are needed.
     More,

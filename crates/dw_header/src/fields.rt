@@ -13,7 +13,7 @@ use crate::versions::Versions;
 use dw_leb::{Bad, Format, Order, Reason, read_fixed};
 
 /// The fields between the version and the first entry.
-#[derive(Clone, Copy, Debug)]
+#[derive(Clone, Copy)]
 pub(crate) struct HeaderFields {
     pub(crate) kind: Kind,
     pub(crate) address_size: u8,

@@ -16,7 +16,7 @@ use dw_leb::constants::form::*;
 use dw_unit::AttrRef;
 
 /// What a reference is an offset or a signature of (section 7.5.5).
-#[derive(Clone, Copy, Debug, PartialEq, Eq)]
+#[derive(Clone, Copy, PartialEq, Eq)]
 pub(crate) enum RefKind {
     /// An offset from the unit's first byte.
     InUnit,

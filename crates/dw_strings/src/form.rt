@@ -6,7 +6,7 @@ ghost use Rattle.dw_strings.specs.Text.{stored_forms};
 use dw_leb::constants::form::*;
 
 /// Where a text is that its attribute names by a number.
-#[derive(Clone, Copy, Debug, PartialEq, Eq)]
+#[derive(Clone, Copy, PartialEq, Eq)]
 pub(crate) enum StoredIn {
     /// At an offset of `.debug_str`.
     Str,

@@ -52,7 +52,7 @@ impl EntryTree {
 }
 
 /// The head of a value with another number, and where among the heads of an entry it stands.
-#[derive(Debug, Drop)]
+#[derive(Drop)]
 struct Patch {
     at: usize,
     bytes: ArrayVec<u8, 32>,
