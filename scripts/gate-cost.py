@@ -120,6 +120,9 @@ def yardstick():
     with tempfile.TemporaryDirectory(prefix="gate-cost-") as room:
         for part in ("src", "specs", "proofs"):
             shutil.copytree(f"crates/dw_leb/{part}", f"{room}/crates/dw_leb/{part}")
+        # (another text, so that the gate proves its own)
+        with open(f"{room}/crates/dw_leb/src/lib.rt", "a", encoding="utf-8") as it:
+            it.write("\n// A yardstick.\n")
         shutil.copy2("HANDLES", room)
         with open(f"{room}/crates.txt", "w", encoding="utf-8") as it:
             it.write(next(line for line in read("crates.txt").split("\n") if line.startswith("dw_leb:")) + "\n")

@@ -1,7 +1,7 @@
 #!/usr/bin/env python3
 """Tries wrong bodies in rounds, many of them in one check: the prover has to refuse each.
 
-Usage: scripts/wrong_bodies.py [NAME..] [--must-fail] [--edit EDIT] [--jobs N] [--anew] [--cache FOLDER] [--logs FOLDER]
+Usage: scripts/wrong_bodies.py [NAME..] [--must-fail] [--edit EDIT] [--built] [--jobs N] [--anew] [--cache FOLDER] [--logs FOLDER]
 
 A wrong body is a file crates/NAME/wrong/*.edit (with --must-fail crates/NAME/must-fail/*.edit too): lines `file: src/a.rt`, and then
 pairs `old: TEXT` and `new: TEXT`, where TEXT stands in that file exactly once. Where no body holds the text, a line `fn: a::T::f ..` names
@@ -13,8 +13,9 @@ its own function is refused. It fails where the function is proved (NOT REFUSED)
 TRIED); where its proof file just names what the edit took away, or another goal than `clause:` is refused (WEAK); and where it
 can't be applied or compiled (BAD EDIT). A line is printed for each, with the function and the goals.
 
-What passed is kept by a sum of all that it stands on, and not tried again without --anew. The libraries below a crate have to be built (by
-`rt ci` or `rt lib`). The last line is `N passed, M failed`, and the status is 0 where none failed and some passed.
+What passed is kept by a sum of all that it stands on, and not tried again without --anew. The libraries below a crate have to be built, by
+`rt lib`; with --built those that `rt ci` left are taken as they are, of which nothing says from what files they were made. The last line
+is `N passed, M failed`, and the status is 0 where none failed and some passed.
 """
 
 import argparse
@@ -393,6 +394,7 @@ def asked():
     ask.add_argument("names", nargs="*", metavar="NAME", help="the crates, or else all")
     ask.add_argument("--must-fail", action="store_true", help="try the edits of must-fail/ too")
     ask.add_argument("--edit", action="append", default=[], help="try this edit, by its name (repeatable)")
+    ask.add_argument("--built", action="store_true", help="take the libraries as they are: rt ci has just passed")
     ask.add_argument("--jobs", type=int, default=len(os.sched_getaffinity(0)), help="how many checks at one time")
     ask.add_argument("--anew", action="store_true", help="try what passed before, too")
     ask.add_argument("--cache", default=f"{os.environ.get('XDG_CACHE_HOME') or os.path.expanduser('~/.cache')}/wrong_bodies")
@@ -411,7 +413,7 @@ def work_in(top, given):
             continue
         crate = Crate(f"{top}/crates/{name}", top, known)
         crate.logs = given.logs
-        lacking = [it.name for it in crate.below() if not it.is_built()]
+        lacking = [it.name for it in crate.below() if not (os.path.isdir(it.rlib) if given.built else it.is_built())]
         if lacking:
             sys.exit(f"wrong_bodies.py: {', '.join(lacking)} must be built before {name}: rt lib {lacking[-1]}")
         work.append((crate, [read(crate, it) for it in files]))
