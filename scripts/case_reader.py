@@ -10,7 +10,7 @@ import sys
 TOP = os.path.dirname(os.path.dirname(os.path.abspath(__file__)))
 FILES = ["info", "abbrev", "str", "line-str", "str-offsets"]
 
-MARK = re.compile(r"(!\^|[$%=~!?|])(?: |$)")
+MARK = re.compile(r"(!\^|[$%=~!?|^])(?: |$)")
 NAME = re.compile(r"([a-z][a-z0-9_-]+) =(?: |$)")
 TITLE = re.compile(r"\[.*\]")
 WORD = re.compile(r'"(?:[^"\\]|\\.)*"\S*|\S+')
@@ -23,6 +23,7 @@ class Answer:
     """What a command has to answer."""
 
     output: bytes = b""
+    output_begins: bytes = b""
     counts: list = dataclasses.field(default_factory=list)
     error: bytes = b""
     error_begins: bytes = b""
@@ -126,6 +127,8 @@ class Reader:
     def say(self, answer, mark, text):
         if mark == "|":
             answer.output += text.encode() + b"\n"
+        elif mark == "^":
+            answer.output_begins += text.encode() + b"\n"
         elif mark == "=":
             answer.output += bytes_of(words_of(text), self.names)
         elif mark == "~":

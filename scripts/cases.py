@@ -17,6 +17,7 @@ How a line of a FILE begins says what it is:
     % WORDS           runs it with these words alone
     TEXT              a line of standard output; so is `| TEXT`, for one that is empty or begins as other lines here
     = BYTES           standard output, in bytes
+    ^ TEXT            standard output begins with this line, and whatever else may stand behind it
     ~ NUMBER "TEXT"   so many lines of standard output begin with TEXT, and whatever else may stand there
     ! TEXT            a line of standard error
     !^ TEXT           standard error begins with TEXT, and whatever else may stand there
@@ -59,6 +60,7 @@ $ type 13
 """
 FOUND = "$ find a\n0xc DW_TAG_compile_unit\n"
 WRONG = {"$ find a\n? 0": ["output"], "$ find a\n= info": ["output"], FOUND + "| ": ["output"], "$ find a\n~ 2 \"0xc\"": ["output"],
+         "$ find a\n^ 0xc": ["output"],
          FOUND + "! memory": ["error"], FOUND + "!^ e": ["error"], FOUND + "? 1": ["status"],
          "$ find a\n! memory\n? 1": ["output", "error", "status"]}
 
@@ -85,7 +87,9 @@ def differences(answer, output, error, status):
         found = sum(line.startswith(start) for line in output.split(b"\n"))
         if found != count:
             yield "output", f"{count} lines that begin with {shown(start)}", f"{found} in\n{shown(output)}"
-    if (answer.output or not answer.counts) and output != answer.output:
+    if not output.startswith(answer.output_begins):
+        yield "output", f"at its front {shown(answer.output_begins)}", shown(output)
+    if (answer.output or not (answer.counts or answer.output_begins)) and output != answer.output:
         yield "output", shown(answer.output), shown(output)
     if not error.startswith(answer.error_begins):
         yield "error", f"at its front {shown(answer.error_begins)}", shown(error)

@@ -1,4 +1,5 @@
-//! Sections from readers that give few bytes a call, or fail.
+//! What no clause of `read_section` says: sections whose bytes are known from the standard, from readers that give
+//! few bytes a call, each with memory to spare.
 use crate::common::{FIFTEEN, TWO_TABLES, spells};
 use dw_abbrev::Tables;
 use dw_leb::devices::Stepped;
@@ -22,11 +23,95 @@ fn stepped(
     read_section_as(alloc, Order::Little, versions, &mut tables, &mut reader)
 }
 
+/// Whether the bytes, one a call, are a section of one item that isn't read.
+fn is_one_other(alloc: Global, versions: Versions, bytes: &[u8]) -> Result<bool, Fail> {
+    let section = stepped(alloc, versions, bytes, 1)?;
+    Ok(section.items().len() == 1 && section.unit(0).is_none() && spells(alloc, &section, bytes)?)
+}
+
+/// No room for a version or for a unit type, and versions that aren't asked for.
+#[test]
+fn items_that_are_kept_as_their_bytes(rt: HostRuntime) -> Result<(), Fail> {
+    let five: [&[u8]; 4] = [
+        &[0x02, 0, 0, 0, 0x05, 0],
+        &[0x03, 0, 0, 0, 0x05, 0, 0x05],
+        &[0, 0, 0, 0],
+        &[0x02, 0, 0, 0, 0x04, 0],
+    ];
+    for bytes in five {
+        assert!(rt; is_one_other(rt.alloc(), Versions::Five, bytes)?);
+    }
+    let four: [&[u8]; 2] = [&[0x02, 0, 0, 0, 0x03, 0], &[0x02, 0, 0, 0, 0x05, 0]];
+    for bytes in four {
+        assert!(rt; is_one_other(rt.alloc(), Versions::FourAndFive, bytes)?);
+    }
+    Ok(())
+}
+
 #[test]
 fn nothing_is_a_section_without_items(rt: HostRuntime) -> Result<(), Fail> {
     let section = stepped(rt.alloc(), Versions::Five, &[], 1)?;
     assert!(rt; section.items().is_empty() && section.size() == 0);
     Ok(())
+}
+
+/// The fault in `.debug_info` of these bytes, one a call.
+fn refused(alloc: Global, versions: Versions, bytes: &[u8]) -> Option<(u64, Reason)> {
+    match stepped(alloc, versions, bytes, 1) {
+        Err(
+            ReadError::Fault(
+                Fault {
+                    section: SectionId::Info,
+                    offset,
+                    reason,
+                },
+            ),
+        ) => Some((offset, reason)),
+        _ => None,
+    }
+}
+
+/// An item that ends with byte 2^63 - 2 of the section, and one that ends a byte behind it.
+const AT_THE_LIMIT: [u8; 14] = [
+    0xff, 0xff, 0xff, 0xff, 0xf3, 0xff, 0xff, 0xff, 0xff, 0xff, 0xff, 0x7f, 0x04, 0,
+];
+
+const PAST_THE_LIMIT: [u8; 14] = [
+    0xff, 0xff, 0xff, 0xff, 0xf4, 0xff, 0xff, 0xff, 0xff, 0xff, 0xff, 0x7f, 0x04, 0,
+];
+
+/// The type of the unit is missing; the item is cut, or ends too far away; a unit of version 4 has no room for its
+/// other fields.
+#[test]
+fn items_that_are_refused(rt: HostRuntime) {
+    for (bytes, versions, offset, reason) in [
+        (
+            [0x03, 0, 0, 0, 0x05, 0].as_slice(),
+            Versions::Five,
+            6,
+            Reason::Truncated,
+        ),
+        (
+            AT_THE_LIMIT.as_slice(),
+            Versions::Five,
+            12,
+            Reason::Truncated,
+        ),
+        (
+            PAST_THE_LIMIT.as_slice(),
+            Versions::Five,
+            0,
+            Reason::LengthTooBig,
+        ),
+        (
+            [0x02, 0, 0, 0, 0x04, 0].as_slice(),
+            Versions::FourAndFive,
+            6,
+            Reason::PastUnit,
+        ),
+    ] {
+        assert!(rt; refused(rt.alloc(), versions, bytes) == Some((offset, reason)));
+    }
 }
 
 /// A compile unit of version 4 of the name "a", and behind it the fifteen bytes.
