@@ -1,0 +1,151 @@
+//! The jobs that a user of this library waits for, over sections of tens of megabytes.
+//!
+//! `jobs JOB SIZE SEED` does one job and prints a digest of all its results. Its sections are joined out of real units, which
+//! it reads from files in the folder that it runs in (`gcc/debug_info` and so on). SIZE says how often each unit is there; SEED gives the
+//! order of the units, and other numbers in the places of some of theirs. The jobs are `copy`, `check`, `show`,
+//! `questions`, `pieces` and `made`; `all` does each of them.
+#![tactic(auto)]
+
+mod bytes;
+mod corpus;
+mod digest;
+mod error;
+mod joined;
+mod made;
+mod parts;
+mod pieces;
+mod questions;
+mod random;
+mod small;
+mod table;
+mod whole;
+
+use crate::corpus::Corpus;
+use crate::digest::Digest;
+use crate::error::JobError;
+use crate::random::Random;
+use dw_tool::command::Command;
+use std::env;
+use std::rt::{Env, Files};
+
+fn main(rt: HostRuntime) -> Result<(), JobError> {
+    let words = env::args(&rt)?.skip(1).collect::<Vec<String>>(rt.alloc())?;
+    match words.as_slice() {
+        [job, size, seed] => {
+            let size = size.as_str().parse().map_err(|_| JobError::Usage)?;
+            let seed = seed.as_str().parse().map_err(|_| JobError::Usage)?;
+            act(&rt, job.as_str(), size, seed)
+        }
+        _ => Err(JobError::Usage),
+    }
+}
+
+/// Does a job, and prints its digest.
+fn act(
+    rt: &(impl AllocGlobal + Files + Print),
+    job: &str,
+    size: usize,
+    seed: u64,
+) -> Result<(), JobError> {
+    if job != "all" {
+        return act_and_tell(rt, job, size, seed);
+    }
+    for job in ["copy", "check", "show", "questions", "pieces", "made"] {
+        act_and_tell(rt, job, size, seed)?;
+    }
+    Ok(())
+}
+
+fn act_and_tell(
+    rt: &(impl AllocGlobal + Files + Print),
+    job: &str,
+    size: usize,
+    seed: u64,
+) -> Result<(), JobError> {
+    let mut random = Random::new(seed);
+    let mut digest = Digest::new();
+    act_on(rt, job, size, &mut random, &mut digest)?;
+    println!(rt; "{job} {:016x}", digest.value())?;
+    Ok(())
+}
+
+fn act_on(
+    rt: &(impl AllocGlobal + Files),
+    job: &str,
+    size: usize,
+    random: &mut Random,
+    digest: &mut Digest,
+) -> Result<(), JobError> {
+    match job {
+        "copy" => {
+            run_over(rt, "gcc", Command::Copy, size, random, digest)?;
+            run_over(rt, "clang", Command::Copy, size, random, digest)?;
+            run_over(rt, "dwz", Command::Copy, size, random, digest)?;
+            run_over(rt, "gcc", Command::Copy, size, random, digest)
+        }
+        "check" => {
+            run_over(rt, "gcc", Command::Check, size, random, digest)?;
+            run_over(rt, "clang", Command::Check, size, random, digest)
+        }
+        "show" => {
+            run_over(rt, "gcc", Command::Show, size, random, digest)?;
+            run_over(rt, "clang", Command::Show, size, random, digest)
+        }
+        "questions" => {
+            run_over(rt, "gcc", Command::Find(b"push_back"), size, random, digest)?;
+            ask(rt, "gcc", size, random, digest)?;
+            ask(rt, "clang", size, random, digest)
+        }
+        "pieces" => push(rt, size, random, digest),
+        "made" => make(rt, size, random, digest),
+        _ => Err(JobError::Usage),
+    }
+}
+
+/// A command over a section of the units in a folder.
+fn run_over(
+    rt: &(impl AllocGlobal + Files),
+    folder: &str,
+    command: Command<'_>,
+    size: usize,
+    random: &mut Random,
+    digest: &mut Digest,
+) -> Result<(), JobError> {
+    let corpus = Corpus::read(rt, folder)?;
+    whole::of_corpus(rt.alloc(), &corpus, command, size, random, digest)
+}
+
+/// Questions about the entries of a section of the units in a folder.
+fn ask(
+    rt: &(impl AllocGlobal + Files),
+    folder: &str,
+    size: usize,
+    random: &mut Random,
+    digest: &mut Digest,
+) -> Result<(), JobError> {
+    let corpus = Corpus::read(rt, folder)?;
+    questions::of_corpus(rt.alloc(), &corpus, size, random, digest)
+}
+
+/// Units that come in pieces.
+fn push(
+    rt: &(impl AllocGlobal + Files),
+    size: usize,
+    random: &mut Random,
+    digest: &mut Digest,
+) -> Result<(), JobError> {
+    let corpus = Corpus::read(rt, "gcc")?;
+    pieces::of_corpus(rt.alloc(), &corpus, size, random, digest)?;
+    pieces::of_corpus(rt.alloc(), &corpus, size, random, digest)
+}
+
+/// Small units with a table each: built, changed, written and checked; and the smallest ones that there are.
+fn make(
+    rt: &(impl AllocGlobal + Files),
+    size: usize,
+    random: &mut Random,
+    digest: &mut Digest,
+) -> Result<(), JobError> {
+    made::units(rt.alloc(), size.saturating_mul(500), random, digest)?;
+    small::units(rt.alloc(), size.saturating_mul(2000), random, digest)
+}
