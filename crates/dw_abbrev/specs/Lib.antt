@@ -8,4 +8,5 @@ pub mod TableView
 pub mod TableErrors
 pub mod Spelling
 pub mod Build
+pub mod Prefix
 pub mod Laws

@@ -8,10 +8,12 @@ ghost use Rattle.dw_abbrev.specs.Table.{described_of, is_null};
 ghost use Rattle.dw_abbrev.specs.Build.{new_refusal, without_pairs, pair_refusal, with_pair, or_memory, has_too_many, DeclarationFits};
 ghost use Rattle.dw_abbrev.specs.ReadTable.{read_described};
 ghost use Rattle.dw_abbrev.specs.PairView.{pair_of, pair_from};
+ghost use Rattle.dw_abbrev.specs.Prefix.{IsPrefix};
 ghost use Rattle.dw_abbrev.specs.Place.{Gives, IsErrorAt};
 
 use crate::fields::{flag_at, uleb_at, write_flag, write_uleb, zero};
 use crate::pair::{MOST_PAIRS, Pair, misfit, pairs_at, write_pairs};
+use crate::prefix::FixedPrefix;
 use crate::refusal::TableRefusal;
 use dw_leb::{ReadError, Sleb, Uleb, Watched, WriteError};
 use std::alloc::Global;
@@ -25,6 +27,8 @@ pub struct Decl {
     tag: Uleb,
     children: bool,
     pairs: Vec<Pair>,
+    /// That of its entries' values, kept since each entry asks for it.
+    prefix: FixedPrefix,
     name_zero: Uleb,
     form_zero: Uleb,
 }
@@ -38,11 +42,12 @@ impl Model for Decl {
     ghost use Rattle.dw_leb.specs.View.{uleb_of};
     ghost use Rattle.dw_abbrev.specs.PairView.{pair_of};
     ghost use Rattle.dw_abbrev.specs.Build.{ArePairs};
+    ghost use Rattle.dw_abbrev.specs.Prefix.{IsPrefix};
     ghost use Rattle.dw_abbrev.specs.Table.{is_null};
 
     ghost view = { λ d. record { code = uleb_of d.code; tag = uleb_of d.tag; children = d.children; pairs = map pair_of d.pairs.items; name_zero = d.name_zero.width; form_zero = d.form_zero.width } };
 
-    ghost invariant = { λ d. record { name_zero : IsZero (uleb_of d.name_zero); form_zero : IsZero (uleb_of d.form_zero); some : is_null (uleb_of d.code) ≡ false; pairs : ArePairs (map pair_of d.pairs.items) } };
+    ghost invariant = { λ d. record { name_zero : IsZero (uleb_of d.name_zero); form_zero : IsZero (uleb_of d.form_zero); some : is_null (uleb_of d.code) ≡ false; pairs : ArePairs (map pair_of d.pairs.items); prefix : IsPrefix (map pair_of d.pairs.items) d.prefix } };
 }
 
 impl Decl {
@@ -70,6 +75,7 @@ impl Decl {
             tag,
             children,
             pairs: Vec::new(alloc),
+            prefix: FixedPrefix::empty(),
             name_zero,
             form_zero,
         })
@@ -100,7 +106,9 @@ impl Decl {
         if let Some(refusal) = misfit(pair) {
             return Err(refusal);
         }
+        let prefix = self.prefix.extended(&pair, self.pairs.len());
         self.pairs.push(pair)?;
+        self.prefix = prefix;
         Ok(())
     }
 
@@ -130,6 +138,14 @@ impl Decl {
         ensures { map pair_of result.now ≡ self.now.pairs }
     {
         self.pairs.as_slice()
+    }
+
+    /// The values at the front of its entries whose sizes their forms tell.
+    #[inline(always)]
+    pub fn prefix(&self) -> FixedPrefix
+        ensures { IsPrefix self.now.pairs result }
+    {
+        self.prefix
     }
 
     /// The counts of bytes, 1 to 16, in which the two zeros behind the pairs are written.
@@ -202,6 +218,7 @@ pub(crate) fn decl_at(
         tag,
         children,
         pairs: pairs.list,
+        prefix: pairs.prefix,
         name_zero: pairs.name_zero,
         form_zero: pairs.form_zero,
     };

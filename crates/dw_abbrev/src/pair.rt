@@ -1,5 +1,5 @@
 //! Attribute specifications: the pairs of name and form (section 7.5.3).
-ghost use Rattle.std.specs.Prelude.{◌≡◌, ◌<◌, ◌≤◌, true, length, None, IfOk, IfErr, OnOk, map, option_map};
+ghost use Rattle.std.specs.Prelude.{◌≡◌, ◌<◌, ◌≤◌, true, length, None, IfOk, IfErr, IfSome, OnOk, map, option_map};
 ghost use Rattle.dw_leb.specs.View.{uleb_of, sleb_of};
 ghost use Rattle.dw_leb.specs.Watch.{inner_of, fault_of, writer_fault, Wrote};
 ghost use Rattle.dw_abbrev.specs.Spelling.{pair_bytes, pairs_bytes};
@@ -7,10 +7,14 @@ ghost use Rattle.dw_abbrev.specs.Table.{is_end as ends_pairs, refused_pair};
 ghost use Rattle.dw_abbrev.specs.ReadTable.{read_names, read_constant, read_pairs};
 ghost use Rattle.dw_abbrev.specs.PairView.{pair_of, pairs_of};
 ghost use Rattle.dw_abbrev.specs.Place.{Gives, IsErrorAt};
+ghost use Rattle.dw_form.specs.FormSize.{FormSizeFits};
+ghost use Rattle.dw_abbrev.specs.Prefix.{IsPrefix, told};
 ghost use Rattle.dw_abbrev.specs.Build.{constant_belongs, pair_refusal, ArePairs};
 
 use crate::fields::{fault, sleb_at, uleb_at, write_sleb, write_uleb};
+use crate::prefix::FixedPrefix;
 use crate::refusal::TableRefusal;
+use dw_form::FormSize;
 use dw_leb::constants::form::DW_FORM_IMPLICIT_CONST;
 use dw_leb::{ReadError, Reason, Sleb, Uleb, Watched, WriteError};
 use std::alloc::Global;
@@ -43,10 +47,22 @@ pub(crate) fn misfit(pair: Pair) -> Option<TableRefusal>
     None
 }
 
+/// How many bytes the values of a pair have, where its form tells. Those that are a constant of their declaration have none.
+pub(crate) fn told(pair: &Pair) -> Option<FormSize>
+    ensures told { result ≡ told (pair_of pair.now) }
+    ensures few { IfSome result FormSizeFits }
+{
+    if pair.constant.is_some() && pair.form.value == DW_FORM_IMPLICIT_CONST {
+        return Some(FormSize::Bytes(0));
+    }
+    FormSize::of(pair.form.value)
+}
+
 /// The pairs of a declaration, and the two zeros that end them.
 #[derive(Drop)]
 pub(crate) struct Pairs {
     pub(crate) list: Vec<Pair>,
+    pub(crate) prefix: FixedPrefix,
     pub(crate) name_zero: Uleb,
     pub(crate) form_zero: Uleb,
 }
@@ -123,15 +139,18 @@ pub(crate) fn pairs_at(
     ensures forward { IfOk result (λ x. (at < x.1) × (x.1 ≤ length abbreviations.now)) }
     ensures zeros { IfOk result (λ x. (x.0.name_zero.value ≡ 0) × (x.0.form_zero.value ≡ 0)) }
     ensures pairs { IfOk result (λ x. ArePairs (map pair_of x.0.list.items)) }
+    ensures prefix { IfOk result (λ x. IsPrefix (map pair_of x.0.list.items) x.0.prefix) }
     ensures err { IfErr result (λ e. IsErrorAt read_pairs abbreviations.now at e) }
 {
     let mut list = Vec::new(alloc);
+    let mut prefix = FixedPrefix::empty();
     let mut here = at;
     loop {
         let ((name, form), behind) = names_at(abbreviations, here, list.len())?;
         if is_end(name, form) {
             let pairs = Pairs {
                 list,
+                prefix,
                 name_zero: name,
                 form_zero: form,
             };
@@ -143,6 +162,7 @@ pub(crate) fn pairs_at(
             form,
             constant,
         };
+        prefix = prefix.extended(&pair, list.len());
         list.push(pair)?;
         here = next;
     }

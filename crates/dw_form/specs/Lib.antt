@@ -12,6 +12,7 @@ pub mod BareFits
 pub mod HeadLent
 pub mod HeadFront
 pub mod HeadSize
+pub mod FormSize
 pub mod FormMoments
 pub mod Renumber
 pub mod Renumbered

@@ -1,6 +1,7 @@
 //! What no case says of tables: that what was read is shared, and a writer that fails.
 use crate::common::same;
-use dw_abbrev::{Table, Tables};
+use dw_abbrev::{FixedPrefix, Table, Tables};
+use dw_form::FormSize;
 use dw_leb::devices::Stepped;
 use dw_leb::{ReadError, Watched, WriteError};
 use std::alloc::Global;
@@ -11,6 +12,13 @@ use std::test::Fail;
 
 /// One declaration: code 1, tag 0x11, no children, one pair of name 3 and form 8.
 const ONE_PAIR: [u8; 8] = [0x01, 0x11, 0, 0x03, 0x08, 0, 0, 0];
+
+/// Code 1 with a number of 2 bytes, an address, an offset into a section, a constant of its own, a text and a flag: the first
+/// four have sizes that their forms tell.
+const SIX_PAIRS: [u8; 19] = [
+    0x01, 0x34, 0, 0x0b, 0x05, 0x11, 0x01, 0x02, 0x17, 0x1c, 0x21, 0x07, 0x03, 0x08, 0x3f, 0x19, 0,
+    0, 0,
+];
 
 /// Whether the table there is this one.
 fn is_shared(tables: &mut Tables<'_>, offset: u64, first: &Rc<Table>) -> Result<bool, ReadError> {
@@ -52,5 +60,34 @@ fn fails_behind_four(rt: &impl Abort, alloc: Global, table: &Table) {
 fn keeps_a_writers_fault(rt: HostRuntime) -> Result<(), Fail> {
     let table = Table::read(rt.alloc(), &ONE_PAIR, 0)?;
     fails_behind_four(&rt, rt.alloc(), &table);
+    Ok(())
+}
+
+/// The first values of an entry of six pairs, whose forms tell their sizes.
+fn first_of_six(alloc: Global) -> Result<FixedPrefix, Fail> {
+    let table = Table::read(alloc, &SIX_PAIRS, 0)?;
+    let decl = table.get(1).ok_or("no declaration")?;
+    Ok(decl.prefix())
+}
+
+#[test]
+fn tells_the_size_of_the_first_values(rt: HostRuntime) -> Result<(), Fail> {
+    let first = first_of_six(rt.alloc())?;
+    assert!(rt; first.count == 4);
+    assert!(rt; first.size(8, 4) == 14);
+    assert!(rt; first.size(4, 8) == 14);
+    assert!(rt; first.size(2, 8) == 12);
+    Ok(())
+}
+
+#[test]
+fn tells_the_sizes_of_forms(rt: HostRuntime) -> Result<(), Fail> {
+    assert!(rt; FormSize::of(0x01) == Some(FormSize::Address));
+    assert!(rt; FormSize::of(0x0e) == Some(FormSize::Offset));
+    assert!(rt; FormSize::of(0x19) == Some(FormSize::Bytes(0)));
+    assert!(rt; FormSize::of(0x1e) == Some(FormSize::Bytes(16)));
+    assert!(rt; FormSize::of(0x08) == None);
+    assert!(rt; FormSize::of(0x21) == None);
+    assert!(rt; FormSize::of(0x02) == None);
     Ok(())
 }

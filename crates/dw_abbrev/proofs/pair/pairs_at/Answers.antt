@@ -10,7 +10,7 @@ use Rattle.dw_abbrev.proofs.BuildLemmas.{more_pairs, whole_pair, first_none}
 use Rattle.dw_abbrev.proofs.pair.pairs_at.Goals as goal
 
 pub loop-list-init : goal.loop-list-init
-loop-list-init c = rw c.new-list.ensures.items (record { read = no_pairs c.args.abbreviations.now c.args.at c.requires; pairs = tt; within = c.requires })
+loop-list-init c = rw c.new-list.ensures.items (record { read = no_pairs c.args.abbreviations.now c.args.at c.requires; pairs = tt; prefix = c.empty-prefix.ensures; within = c.requires })
 
 pub returns-in_err-name-clause-err : goal.returns-in_err-name-clause-err
 returns-in_err-name-clause-err c =
@@ -37,5 +37,9 @@ loop-list-preserved c =
           (uleb_of c.in_ok-name.name, uleb_of c.in_ok-name.form) c.in_ok-name.behind c.in_ok-name.ensures.ok (sym c.is_end.ensures ∙ c.if-is_end.false) c.in_ok-name.ensures.forward.0 (option_map sleb_of c.in_ok-constant.constant) c.in_ok-constant.next c.in_ok-constant.ensures.ok);
       pairs = rw (map-append pair_of c.loop-list.list.items (p ∷ [])) (more_pairs (map pair_of c.loop-list.list.items) (pair_of p) c.loop-list.invariant.pairs
           (whole_pair (pair_of p) (first_none _ _ c.in_ok-name.ensures.judged) (sym c.is_end.ensures ∙ c.if-is_end.false) c.in_ok-constant.ensures.belongs));
+      prefix = rw (map-append pair_of c.loop-list.list.items (p ∷ [])) (c.extended-prefix.ensures (map pair_of c.loop-list.list.items) (omega (arith, c.loop-list.list.ok.0, length-map c.loop-list.list.items pair_of, c.len-in-loop-list.ensures)) c.loop-list.invariant.prefix);
       within = c.in_ok-constant.ensures.forward.1;
     })
+
+pub returns-then-is_end-clause-prefix : goal.returns-then-is_end-clause-prefix
+returns-then-is_end-clause-prefix c = c.loop-list.invariant.prefix

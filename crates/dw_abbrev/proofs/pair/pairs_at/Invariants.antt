@@ -4,6 +4,7 @@ use Rattle.std.specs.Prelude.{map}
 use Rattle.dw_abbrev.specs.Table.{is_end, pair_parts}
 use Rattle.dw_abbrev.specs.ReadTable.{read_names, read_constant}
 use Rattle.dw_abbrev.specs.Build.{ArePairs}
+use Rattle.dw_abbrev.specs.Prefix.{IsPrefix}
 use Rattle.dw_abbrev.specs.Place.{ReadTo}
 use Rattle.dw_abbrev.proofs.pair.pairs_at.Given as goal
 
@@ -13,6 +14,7 @@ invariant-loop-list l =
     record {
       read : ReadTo (λ before. read_names (length before)) is_end read_constant l.abbreviations l.at (map pair_parts (map pair_of l.list.items)) l.here;
       pairs : ArePairs (map pair_of l.list.items);
+      prefix : IsPrefix (map pair_of l.list.items) l.prefix;
       within : l.here ≤ length l.abbreviations;
     }
 
