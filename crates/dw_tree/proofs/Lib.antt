@@ -3,6 +3,7 @@ pub mod Stands
 pub mod RowTokens
 pub mod Lists
 pub mod RunSteps
+mod ToldRuns
 pub mod Parted
 pub mod Begins
 pub mod Limits
@@ -19,6 +20,9 @@ pub mod WriteLemmas
 pub mod Written
 pub mod FindRows
 pub mod Plain
+pub mod Plains
 pub mod Patches
 pub mod Putting
 pub mod PutNumber
+pub mod Skipped
+pub mod Marking

@@ -225,6 +225,10 @@ module _ (k : Ctx) (t : Table) (start : ℕ) (rows : List Row) (hs pool open_at 
 
 -- ---- one more value
 
+-- with one value more it still waits for others
+abbrev pub one_given_is_short : Unfinished → Type 0
+one_given_is_short r = r.given + 1 < r.count
+
 -- the next pair
 split : (qs : List Pair) (vs : List Attribute) → length vs < length qs → (front : List Pair) × (p : Pair) × (back : List Pair) × (qs ≡ front ++ p ∷ back) × (length vs ≡ length front) × (drop (length vs) qs ≡ p ∷ back)
 split [] [] lt = absurd (omega (arith, lt))
@@ -285,6 +289,19 @@ module _ (k : Ctx) (t : Table) (start : ℕ) (rows : List Row) (hs pool open_at 
       let spelled = uleb.spell (uleb_of r.code) in
       omega (arith, en, l.here_is, prefix_bytes k t own_pairs vs v u.entry.prefix_fits n, length-append spelled (first_values k own_pairs (vs ++ v ∷ [])), length-append spelled (first_values k own_pairs vs))
 
+  -- where others are still to come, the lists are those of the entry with this value
+  pub value_more : one_given_is_short r → AreLists k t start rows hs' pool' open_at (Some (one_given r)) here' xs (vs ++ v ∷ [])
+  value_more h = record {
+    rows_are = l.rows_are;
+    account = given_more;
+    small = small;
+    is_spelled = l.is_spelled;
+    stand = l.stand;
+    are_given = record { entry = entry_more; short = h };
+    deep = l.deep;
+    here_is = end_more;
+  }
+
   pub value_given : (rows' : List Row) (open' : List ℕ) (o : Option Unfinished) (n m : ℕ) → m ≡ length rows → n ≡ length open_at + 1 → rows' ≡ settled_rows (one_given r) n rows → open' ≡ settled_open (one_given r) m open_at → o ≡ settled_unfinished (one_given r)
       → StandFor k t start rows' hs' pool' open' o here' (settle t (spot_after xs) (uleb_of r.code) (vs ++ v ∷ []))
   value_given = settles k t start rows hs' pool' open_at here' xs (vs ++ v ∷ []) (one_given r) entry_more l.rows_are given_more small l.is_spelled l.stand end_more
@@ -327,6 +344,19 @@ module _ (k : Ctx) (t : Table) (start : ℕ) (rows : List Row) (hs pool open_at 
   end_begins =
       let spelled = uleb.spell (uleb_of r.code) in
       omega (arith, en, l.here_is, length-append spelled (first_values k (pairs_at t r.code.value) []), length-uleb (uleb_of r.code))
+
+  -- where it has values, the lists are those of the entry without any
+  pub entry_opens : 0 < r.count → AreLists k t start rows hs pool open_at (Some r) here' xs []
+  entry_opens h = record {
+    rows_are = l.rows_are;
+    account = account_begins;
+    small = l.small;
+    is_spelled = l.is_spelled;
+    stand = l.stand;
+    are_given = record { entry = entry_begins; short = omega (arith, given, h) };
+    deep = l.deep;
+    here_is = end_begins;
+  }
 
   pub entry_begun : (rows' : List Row) (open' : List ℕ) (o : Option Unfinished) (n m : ℕ) → m ≡ length rows → n ≡ length open_at + 1 → rows' ≡ settled_rows r n rows → open' ≡ settled_open r m open_at → o ≡ settled_unfinished r
       → StandFor k t start rows' hs pool open' o here' (settle t (spot_after xs) (uleb_of r.code) [])

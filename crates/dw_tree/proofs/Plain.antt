@@ -17,7 +17,7 @@ use Rattle.dw_tree.specs.Flat.{pairs_at}
 use Rattle.dw_tree.specs.Steps.{FirstFits, first_bytes, settle}
 use Rattle.dw_tree.specs.Completed.{one_given, settled_rows, settled_open, settled_unfinished}
 use Rattle.dw_tree.specs.DraftInvariant.{AreLists}
-use Rattle.dw_tree.proofs.Lists.{StandFor, value_given}
+use Rattle.dw_tree.proofs.Lists.{StandFor, one_given_is_short, value_given, value_more}
 
 all_taken : (v : Value) (via : ℕ) (bytes : List ℕ) → is_plain v ≡ true → take (own_size v via (length bytes)) bytes ≡ bytes
 all_taken (Num x) via bytes e = take_all (length bytes) bytes (omega arith)
@@ -65,3 +65,15 @@ plain_given k t start rows hs pool open_at here xs vs r l v fits plain bytes e r
     (eh ∙ ap (λ (b : List ℕ). hs ++ b) (e ∙ sym (front_alone v own (length pool) plain)))
     (sym (append-nil pool) ∙ ap (λ (b : List ℕ). pool ++ b) (sym (no_content v.value plain)))
     l.small here' (en ∙ ap (λ (b : List ℕ). here + length b) e) rows' open' o n m em eo er eq eu
+
+-- the same, where others are still to come
+pub plain_more : (k : Ctx) (t : Table) (start : ℕ) (rows : List Row) (hs pool open_at : List ℕ) (here : ℕ) (xs : List Token) (vs : List Attribute) (r : Unfinished) (l : AreLists k t start rows hs pool open_at (Some r) here xs vs)
+    (v : Attribute) → FirstFits k (drop (length vs) (pairs_at t r.code.value)) v → is_plain v.value ≡ true → (bytes : List ℕ) → bytes ≡ first_bytes k (drop (length vs) (pairs_at t r.code.value)) v
+    → (hs' : List ℕ) (here' : ℕ) → hs' ≡ hs ++ bytes → here' ≡ here + length bytes → one_given_is_short r
+    → AreLists k t start rows hs' pool open_at (Some (one_given r)) here' xs (vs ++ v ∷ [])
+plain_more k t start rows hs pool open_at here xs vs r l v fits plain bytes e hs' here' eh en short =
+    let own = first_bytes k (drop (length vs) (pairs_at t r.code.value)) v in
+    value_more k t start rows hs pool open_at here xs vs r l v fits hs' pool
+    (eh ∙ ap (λ (b : List ℕ). hs ++ b) (e ∙ sym (front_alone v own (length pool) plain)))
+    (sym (append-nil pool) ∙ ap (λ (b : List ℕ). pool ++ b) (sym (no_content v.value plain)))
+    l.small here' (en ∙ ap (λ (b : List ℕ). here + length b) e) short

@@ -1,5 +1,5 @@
 -- The steps of writing values in runs.
-use Rattle.std.proofs.Common.{◌≡◌, ℕ, ◌+◌, ◌-◌, ◌≤◌, List, [], ◌∷◌, ◌++◌, length, take, drop, Option, Some, refl, sym, ap, ap₂, subst, ◌∙◌, arith, append_assoc, append-nil, length-take-le}
+use Rattle.std.proofs.Common.{◌≡◌, ℕ, ◌+◌, ◌-◌, ◌≤◌, List, [], ◌∷◌, ◌++◌, length, take, drop, Option, refl, sym, ap, ap₂, subst, ◌∙◌, arith, append_assoc, append-nil, length-take-le}
 use Rattle.std.proofs.lemmas.List.{take-append-drop}
 use Rattle.std.proofs.Math.Seq.{drop-append-add, take-append-add}
 use Rattle.std.specs.Prelude.{Result, Ok, Err}
@@ -10,15 +10,15 @@ use Rattle.dw_form.specs.declared.shape.Ctx.{Ctx}
 use Rattle.dw_form.specs.Form.{attribute}
 use Rattle.dw_abbrev.specs.Table.{Pair}
 use Rattle.dw_tree.specs.RowHeads.{Here, First, Next, next_here, run_bytes, first_bytes, behind_first, first_is, behind_is}
-use Rattle.dw_tree.specs.Runs.{form_size, form_size_next}
+use Rattle.dw_tree.specs.WholeHeads.{IsWhole, whole_next}
 
-drop-more : (run : List ℕ) (size n : ℕ) → size ≤ length run → drop (size + n) run ≡ drop n (drop size run)
+pub drop-more : (run : List ℕ) (size n : ℕ) → size ≤ length run → drop (size + n) run ≡ drop n (drop size run)
 drop-more run size n within =
     let long = length-take-le size run within in
     ap (λ (b : List ℕ). drop (size + n) b) (sym (take-append-drop size run))
     ∙ (ap (λ (m : ℕ). drop (m + n) (take size run ++ drop size run)) (sym long) ∙ drop-append-add (take size run) (drop size run) n)
 
-take-more : (run : List ℕ) (size n : ℕ) → size ≤ length run → take (size + n) run ≡ take size run ++ take n (drop size run)
+pub take-more : (run : List ℕ) (size n : ℕ) → size ≤ length run → take (size + n) run ≡ take size run ++ take n (drop size run)
 take-more run size n within =
     let long = length-take-le size run within in
     ap (λ (b : List ℕ). take (size + n) b) (sym (take-append-drop size run))
@@ -32,12 +32,12 @@ module _ (k : Ctx) (ps : List Pair) (p : Pair) (rest : List Pair) (run pool : Li
   first = next.first
 
   -- the next value stays in the run
-  pub joins_run : (end : ℕ) → size ≤ end → form_size k p.form.value ≡ Some (end - size)
+  pub joins_run : (end : ℕ) → size ≤ end → IsWhole k p.form.value (drop size run) (end - size)
       → (take size run ++ run_bytes k ps (drop size run) pool ≡ take end run ++ run_bytes k rest (drop end run) pool) × Here k rest (drop end run) pool
-  joins_run end le sized =
+  joins_run end le whole =
       let n : ℕ = end - size in
       let sum : size + n ≡ end = omega (arith, le) in
-      let t = form_size_next k p (drop size run) pool n sized first in
+      let t = whole_next k p (drop size run) pool n whole first in
       let behind : drop end run ≡ first.rest = ap (λ (m : ℕ). drop m run) (sym sum) ∙ (drop-more run size n within ∙ t.1) in
       let front : take end run ≡ take size run ++ (attribute k p.form.value p.constant).spell first.value = ap (λ (m : ℕ). take m run) (sym sum) ∙ (take-more run size n within ∙ ap (λ (b : List ℕ). take size run ++ b) t.0) in (
         ap (λ (qs : List Pair). take size run ++ run_bytes k qs (drop size run) pool) is

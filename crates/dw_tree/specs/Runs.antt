@@ -1,7 +1,6 @@
--- Values whose size their form tells: their heads are their spelling, so they can be written as they are kept.
-use Rattle.std.specs.Prelude.{◌≡◌, ◌≤◌, ℕ, Bool, true, false, List, ◌++◌, length, take, drop, Option, Some, None, ◌==◌, if◌then◌else◌}
-use Rattle.std.proofs.Common.{refl, sym, ap, subst, ◌∙◌, arith, length-append}
-use Rattle.std.proofs.lemmas.List.{drop_at, take_at}
+-- Values whose size their form tells.
+use Rattle.std.specs.Prelude.{◌≡◌, ℕ, Bool, true, false, length, Option, Some, None, ◌==◌, if◌then◌else◌}
+use Rattle.std.proofs.Common.{refl, sym, subst, ◌∙◌}
 use Rattle.std.proofs.lemmas.Bool.{eqb-true}
 use Rattle.dw_leb.specs.Part.{Part, FitsAs, spelled_as}
 use Rattle.dw_leb.specs.Number.{Unsigned, Signed, fixed}
@@ -10,9 +9,7 @@ use Rattle.dw_form.specs.declared.shape.Ctx.{Ctx}
 use Rattle.dw_form.specs.declared.shape.Shape.{Shape}
 use Rattle.dw_form.specs.declared.shape.Shape.TheVariants as shapes
 use Rattle.dw_form.specs.Form.{Value, Num, Wide, Present, Implicit, Attribute, shape, shaped, shaped_if, attribute, by_indirection}
-use Rattle.dw_abbrev.specs.Table.{Pair}
-use Rattle.dw_tree.specs.RowHeads.{First}
-use Rattle.dw_form.specs.HeadSize.{is_plain, plain_head}
+use Rattle.dw_form.specs.HeadSize.{is_plain}
 
 -- ---- values whose size their form tells
 
@@ -65,16 +62,3 @@ form_size_there k form c a n e fits = by (form == 0x16) refl a.via fits
     by true is via f = let none : form_size k form ≡ None = subst (λ (m : ℕ). form_size k m ≡ None) (sym (eqb-true form 0x16 is)) (indirect_shape k) in absurd cc
     by false is None f = by_shape k c (shape form k.address_size k.format) a.value n e f
     by false is (Some u) f = absurd f
-
--- so the value's bytes are the next ones
-pub form_size_next : (k : Ctx) (p : Pair) (hs pool : List ℕ) (n : ℕ) → form_size k p.form.value ≡ Some n → (x : First k p hs pool)
-    → (take n hs ≡ (attribute k p.form.value p.constant).spell x.value) × (drop n hs ≡ x.rest) × (n ≤ length hs)
-form_size_next k p hs pool n e x =
-    let own = form_size_there k p.form.value p.constant x.value n e x.fits in
-    let same = plain_head k p.form.value p.constant x.value x.start own.0 x.fits in
-    let split : hs ≡ (attribute k p.form.value p.constant).spell x.value ++ x.rest = x.split ∙ ap (λ (b : List ℕ). b ++ x.rest) same in
-    let size = own.1 in (
-      ap (take n) split ∙ take_at ((attribute k p.form.value p.constant).spell x.value) x.rest n size,
-      ap (drop n) split ∙ drop_at ((attribute k p.form.value p.constant).spell x.value) x.rest n size,
-      omega (arith, ap length split, length-append ((attribute k p.form.value p.constant).spell x.value) x.rest, size),
-    )

@@ -51,6 +51,11 @@ value_at v g (Some r) = record g { place = settle g.table g.place.spot r.code (r
 abbrev pub with_value : Attribute → Growing → Growing
 with_value v g = value_at v g g.place.unfinished
 
+-- it is given these values, one after the other
+abbrev pub with_values : List Attribute → Growing → Growing
+with_values [] g = g
+with_values (v ∷ vs) g = with_values vs (with_value v g)
+
 -- the partial value of the unfinished entry
 abbrev pub partial_in : Option UnfinishedEntry → Option PartialValue
 partial_in None = None
@@ -148,6 +153,16 @@ pub record IsPlainNext (k : Ctx) (t : Table) (o : Option UnfinishedEntry) (v : A
 
 abbrev pub SpellsPlain : Ctx → Table → Option UnfinishedEntry → List ℕ → Type 0
 SpellsPlain k t o bytes = (v : Attribute) × IsPlainNext k t o v bytes
+
+-- these bytes spell values of the first pairs, one behind the other, and none is a text or block
+abbrev pub ArePlain : Ctx → List Pair → List Attribute → List ℕ → Type 0
+ArePlain k ps [] bytes = bytes ≡ []
+ArePlain k [] (v ∷ vs) bytes = ⊥
+ArePlain k (p ∷ ps) (v ∷ vs) bytes = ((attribute k p.form.value p.constant).Fits v × (is_plain v.value ≡ true)) × ((rest : List ℕ) × (bytes ≡ (attribute k p.form.value p.constant).spell v ++ rest) × ArePlain k ps vs rest)
+
+-- so many of them
+abbrev pub SpellsFirst : Ctx → List Pair → ℕ → List ℕ → Type 0
+SpellsFirst k ps count bytes = (vs : List Attribute) × (length vs ≡ count) × ArePlain k ps vs bytes
 
 -- ---- a whole tree
 

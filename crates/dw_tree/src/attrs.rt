@@ -1,6 +1,7 @@
 //! The attributes of an entry, as they are lent (sections 2.2, 7.5.2 and 7.5.3).
-ghost use Rattle.std.specs.Prelude.{◌≡◌, ◌∷◌, ◌<◌, ◌^◌, ℕ, None, length, map, option_map, is_some, IfSome};
+ghost use Rattle.std.specs.Prelude.{◌≡◌, ◌∷◌, ◌<◌, ◌^◌, ◌==◌, ℕ, None, length, map, option_map, is_some, IfSome, IsFalse};
 ghost use Rattle.std.specs.Iterator.{YieldsFirstBy, item_count};
+ghost use Rattle.std.specs.List.{list_any};
 ghost use Rattle.dw_leb.specs.View.{uleb_of};
 ghost use Rattle.dw_form.specs.Lent.{attribute_of};
 ghost use Rattle.dw_form.specs.Head.{head};
@@ -8,9 +9,10 @@ ghost use Rattle.dw_form.specs.Pieces.{form_in, HasSpelling, spelling};
 ghost use Rattle.dw_abbrev.specs.PairView.{pair_of};
 ghost use Rattle.dw_tree.specs.RowHeads.{values_at};
 ghost use Rattle.dw_tree.specs.Lent.{lent_attribute, lent_attributes};
-ghost use Rattle.dw_tree.specs.Lent.{AreLent, attr_of, begins_bare, begins_with_number, number_of};
+ghost use Rattle.dw_tree.specs.Lent.{AreLent, attr_of, begins_bare, begins_with_number, first_named, number_of};
+ghost use Rattle.dw_tree.specs.Names.{first_name, others_of};
 
-use crate::write::behind;
+use crate::write::{behind, whole_end};
 use dw_abbrev::Pair;
 use dw_form::{AttrValue, Ctx, Value, lend_bare, lend_head, lend_number, size_by_head};
 use dw_leb::Uleb;
@@ -158,6 +160,70 @@ impl<'a> Attrs<'a> {
         self.at += size;
         Some(first)
     }
+
+    /// The name of the next attribute.
+    #[inline(always)]
+    pub(crate) fn name(&self) -> Option<u64>
+        ensures { result ≡ first_name self.now }
+    {
+        let (pair, _) = self.pairs.split_first()?;
+        Some(pair.name.value)
+    }
+
+    /// Whether the declaration names this one among those that are left. No value is looked at.
+    #[inline(always)]
+    pub(crate) fn has_name(&self, name: u64) -> bool
+        ensures { IsFalse result → first_named name self.now ≡ None }
+    {
+        any_named(self.pairs, name)
+    }
+
+    /// Steps over the next attribute, and doesn't decode its value where only the value's end has to be found.
+    #[inline(always)]
+    pub(crate) fn step_over(&mut self)
+        ensures { self.new ≡ others_of self.old }
+    {
+        if let Some((pair, pairs)) = self.pairs.split_first() {
+            match whole_end(self.ctx, pair.form.value, self.heads, 0) {
+                Some(size) => {
+                    self.pairs = pairs;
+                    self.heads = behind(self.heads, size);
+                    self.at += size as u64;
+                }
+                None => self.step_over_content(),
+            }
+        }
+    }
+
+    /// The same, whatever the value.
+    fn step_over_content(&mut self)
+        ensures { self.new ≡ others_of self.old }
+    {
+        if let Some((pair, pairs)) = self.pairs.split_first() {
+            match lend_head(
+                self.ctx,
+                pair.form.value,
+                pair.constant,
+                self.heads,
+                self.pool,
+            ) {
+                Some((attr, head_size)) => {
+                    self.pairs = pairs;
+                    self.heads = behind(self.heads, head_size);
+                    self.at += spelled_size(self.ctx, pair.form.value, &attr, head_size);
+                }
+                None => unreachable!(),
+            }
+        }
+    }
+}
+
+/// Whether one of these pairs has this name.
+#[inline(always)]
+fn any_named(pairs: &[Pair], name: u64) -> bool
+    ensures { result ≡ list_any (λ p. p.name.value == name) pairs.now }
+{
+    pairs.iter().any(|pair| pair.name.value == name)
 }
 
 impl<'a> Iterator for Attrs<'a> {

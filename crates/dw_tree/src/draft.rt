@@ -1,5 +1,5 @@
 //! A tree under construction.
-ghost use Rattle.std.specs.Prelude.{◌≡◌, ◌≢◌, ◌+◌, ◌++◌, ◌<◌, ◌≤◌, ◌^◌, ◌-◌, ◌*◌, [], length, map, option_map, IfOk, IfSome, None, Some, is_some, IsSome, OnOk, OnErr, vec_len, vec_capacity};
+ghost use Rattle.std.specs.Prelude.{◌≡◌, ◌≢◌, ◌+◌, ◌++◌, ◌<◌, ◌≤◌, ◌^◌, ◌-◌, ◌*◌, [], List, length, take, map, option_map, IfOk, IfSome, None, Some, is_some, IsSome, OnOk, OnErr, vec_len, vec_capacity};
 ghost use Rattle.dw_leb.specs.Number.{uleb};
 ghost use Rattle.dw_leb.specs.View.{uleb_of};
 ghost use Rattle.dw_form.specs.Form.{IsContext, Attribute};
@@ -15,11 +15,11 @@ ghost use Rattle.dw_tree.specs.RowHeads.{heads_in};
 ghost use Rattle.dw_tree.specs.Emptiness.{is_bare};
 ghost use Rattle.dw_tree.specs.declared.row.RowKind.TheVariants.{Null};
 ghost use Rattle.dw_tree.specs.Completed.{one_given, row_with, settled_rows, settled_open, settled_unfinished};
-ghost use Rattle.dw_tree.specs.Steps.{begun_at, with_value, partial_in, partial_attribute, started, extended, ended, closed_at, undone, end_of, NextFits, IsPlainNext, SpellsPlain, next_bytes, next_front, next_pair, next_pairs, finished};
+ghost use Rattle.dw_tree.specs.Steps.{begun_at, with_value, partial_in, partial_attribute, started, extended, ended, closed_at, undone, end_of, NextFits, IsPlainNext, SpellsPlain, ArePlain, SpellsFirst, with_values, next_bytes, next_front, next_pair, next_pairs, finished};
 
 use crate::row::{PartialValue, Row, RowKind, Unfinished};
 use crate::tree::EntryTree;
-use dw_abbrev::{Pair, Table};
+use dw_abbrev::{Decl, Pair, Table};
 use dw_form::{AttrValue, Ctx, Value, put_found, put_head};
 use dw_leb::Uleb;
 use std::alloc::{AllocError, Global};
@@ -153,6 +153,46 @@ impl TreeDraft {
             self.here += spelling.len() as u64;
             count_value(&mut self.rows, &mut self.nested, &mut self.unfinished);
         }
+        Ok(())
+    }
+
+    /// An entry of this code begins, which `decl` declares, and is given its first values, `count` of them and none a text or
+    /// block, by the bytes that spell them one behind the other: the first `size` of these. With all its values the entry is
+    /// complete. It is what `begin` and as many calls of `plain_value` do.
+    #[inline(always)]
+    pub fn begin_with(
+        &mut self,
+        code: Uleb,
+        decl: &Decl,
+        bytes: &[u8],
+        size: usize,
+        count: usize,
+    ) -> Result<(), AllocError>
+        requires some { 0 < code.value }
+        requires known { declared self.old.table code.value ≡ Some decl.now }
+        requires free { self.old.place.unfinished ≡ None }
+        requires level { length self.old.place.spot.above < nesting }
+        requires within { size ≤ length bytes.now }
+        requires spelled { SpellsFirst self.old.context decl.now.pairs count (take size bytes.now) }
+        requires near { end_of self.old + (code.width + size) < 2 ^ 63 }
+        ensures ok { (vs : List Attribute) → length vs ≡ count → ArePlain self.old.context decl.now.pairs vs (take size bytes.now) → OnOk result (self.new ≡ with_values vs (begun_at (uleb_of code) self.old)) }
+        ensures err { OnErr result (self.new ≡ self.old) }
+    {
+        self.rows.reserve(1)?;
+        self.nested.reserve(1)?;
+        let first = self.heads.len();
+        append_front(&mut self.heads, bytes, size)?;
+        let unfinished = Unfinished {
+            code,
+            offset: self.here,
+            first,
+            given: count,
+            count: decl.pairs().len(),
+            children: decl.has_children(),
+            pool: self.pool.len(),
+        };
+        self.here += code.width as u64 + size as u64;
+        self.unfinished = settle(&mut self.rows, &mut self.nested, unfinished);
         Ok(())
     }
 
@@ -334,6 +374,14 @@ impl TreeDraft {
         self.nested.len()
     }
 
+    /// Whether an entry waits for values.
+    #[inline(always)]
+    pub fn is_unfinished(&self) -> bool
+        ensures { result ≡ is_some self.now.place.unfinished }
+    {
+        self.unfinished.is_some()
+    }
+
     /// Whether there is no entry, besides an unfinished one.
     pub fn is_empty(&self) -> bool
         ensures { result ≡ is_bare self.now.place.spot }
@@ -452,6 +500,25 @@ fn append_few(list: &mut Vec<u8>, bytes: &[u8]) -> Result<(), AllocError>
         8 => list.extend_from_slice(&bytes[..8]),
         _ => list.extend_from_slice(bytes),
     }
+}
+
+/// As many bytes as most entries have at most, which are moved at once.
+const AT_ONCE: usize = 32;
+
+/// Appends the first `size` bytes. Where there are few of them and enough behind them, more are moved at once, and cut off.
+#[inline(always)]
+fn append_front(list: &mut Vec<u8>, bytes: &[u8], size: usize) -> Result<(), AllocError>
+    requires { size ≤ length bytes.now }
+    ensures items { OnOk result (list.new.items ≡ list.old.items ++ take size bytes.now) }
+    ensures err { OnErr result (list.new.items ≡ list.old.items) }
+{
+    if size > AT_ONCE || bytes.len() < AT_ONCE {
+        return list.extend_from_slice(&bytes[..size]);
+    }
+    let before = list.len();
+    list.extend_from_slice(&bytes[..AT_ONCE])?;
+    list.truncate(before + size);
+    Ok(())
 }
 
 /// The unfinished entry has one value more. Where it has all then, its row is put; else it is read on, and

@@ -105,10 +105,16 @@ impl<'a> EntryRef<'a> {
     pub fn attr(&self, name: u64) -> Option<AttrRef<'a>>
         ensures { option_map attr_of result ≡ first_named name (attributes_of self.now) }
     {
-        for attr in self.attrs() {
-            if attr.name == name {
-                return Some(attr);
+        // Nothing is decoded but the value that is asked for.
+        let mut attrs = self.attrs();
+        if !attrs.has_name(name) {
+            return None;
+        }
+        while let Some(first) = attrs.name() {
+            if first == name {
+                return attrs.next();
             }
+            attrs.step_over();
         }
         None
     }

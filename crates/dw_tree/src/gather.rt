@@ -7,18 +7,17 @@ ghost use Rattle.dw_form.specs.Pieces.{content_of, tail_of};
 ghost use Rattle.dw_tree.specs.Row.{row_bytes};
 ghost use Rattle.dw_tree.specs.RowHeads.{Here, First, run_bytes, first_bytes, behind_first};
 ghost use Rattle.dw_tree.specs.Flat.{token_at, RowReads};
+ghost use Rattle.dw_tree.specs.Grown.{Grown};
+ghost use Rattle.dw_tree.specs.ToldFronts.{ToldFront};
 
 use crate::row::{Row, RowKind};
-use crate::write::{behind, front, told_end};
+use crate::write::{behind, front, whole_end};
 use arrayvec::ArrayVec;
-use dw_abbrev::{Pair, Table};
+use dw_abbrev::{Decl, Pair, Table};
 use dw_form::{Ctx, Value, front_len, lend_head};
 
 /// The bytes of rows, one behind the other, that are still to be written.
 pub(crate) type Gathered = ArrayVec<u8, 512>;
-
-/// The bytes of one row.
-type Spelled = ArrayVec<u8, 128>;
 
 /// Puts the bytes of a row behind those that were gathered, where there is room for them. Else nothing is changed, and
 /// the answer is false.
@@ -42,7 +41,7 @@ pub(crate) fn gather(
     }
 }
 
-/// The same of an entry, whatever its code and its values.
+/// The same of an entry, whatever its code and its values. What was put of one that has no room is taken back.
 fn put_row(
     ctx: Ctx,
     table: &Table,
@@ -56,67 +55,73 @@ fn put_row(
     ensures put { IsTrue result → gathered.new.items ≡ gathered.old.items ++ row_bytes ctx table.now (token_at ctx table.now heads.now pool.now row) }
     ensures same { IsFalse result → gathered.new.items ≡ gathered.old.items }
 {
-    match spelled_row(ctx, table, heads, pool, row) {
-        Some(spelled) => gathered.try_extend_from_slice(spelled.as_slice()).is_ok(),
-        None => false,
+    let before = gathered.len();
+    match put_entry(ctx, table, heads, pool, row, gathered) {
+        Some(()) => true,
+        None => {
+            gathered.truncate(before);
+            false
+        }
     }
 }
 
-/// The bytes of an entry's row: its code and its values. None of a null, and where they are too many.
+/// Puts an entry's code and values. None for a null, and where there is no room for all.
 #[inline(always)]
-fn spelled_row(ctx: Ctx, table: &Table, heads: &[u8], pool: &[u8], row: Row) -> Option<Spelled>
+fn put_entry(
+    ctx: Ctx,
+    table: &Table,
+    heads: &[u8],
+    pool: &[u8],
+    row: Row,
+    gathered: &mut Gathered,
+) -> Option<()>
     requires context { IsContext ctx }
     requires reads { RowReads ctx table.now heads.now pool.now row }
-    ensures { IfSome result (λ x. x.items ≡ row_bytes ctx table.now (token_at ctx table.now heads.now pool.now row)) }
+    ensures put { IfSome result (λ x. gathered.new.items ≡ gathered.old.items ++ row_bytes ctx table.now (token_at ctx table.now heads.now pool.now row)) }
+    ensures kept { Grown gathered.old.items gathered.new.items }
 {
     if let RowKind::Null = row.kind {
         return None;
     }
     let decl = table.get(row.code)?;
-    let mut spelled = Spelled::new();
-    put_bytes(row.code().bytes().as_slice(), &mut spelled)?;
-    put_values(
-        ctx,
-        decl.pairs(),
-        behind(heads, row.first),
-        pool,
-        &mut spelled,
-    )?;
-    Some(spelled)
+    put_bytes(row.code().bytes().as_slice(), gathered)?;
+    put_values(ctx, decl, behind(heads, row.first), pool, gathered)
 }
 
-/// Puts the bytes of values under their pairs behind those of their row. Values whose size their form tells are put
-/// together, as they stand. None where there is no room for all.
+/// Puts the bytes of an entry's values behind those that were gathered. Values without content are put together, as they
+/// stand. None where there is no room for all.
 #[inline(always)]
 fn put_values(
     ctx: Ctx,
-    pairs: &[Pair],
+    decl: &Decl,
     heads: &[u8],
     pool: &[u8],
-    spelled: &mut Spelled,
+    gathered: &mut Gathered,
 ) -> Option<()>
     requires context { IsContext ctx }
-    requires here { Here ctx (map pair_of pairs.now) heads.now pool.now }
-    ensures { IfSome result (λ x. spelled.new.items ≡ spelled.old.items ++ run_bytes ctx (map pair_of pairs.now) heads.now pool.now) }
+    requires here { Here ctx decl.now.pairs heads.now pool.now }
+    ensures put { IfSome result (λ x. gathered.new.items ≡ gathered.old.items ++ run_bytes ctx decl.now.pairs heads.now pool.now) }
+    ensures kept { Grown gathered.old.items gathered.new.items }
 {
-    let mut left = pairs;
+    let (told, others) = told_front(ctx, decl);
+    let mut left = others;
     let mut run = heads;
-    let mut size = 0;
+    let mut size = told;
     while let Some((pair, others)) = left.split_first() {
-        match told_end(ctx, pair.form.value, run, size) {
+        match whole_end(ctx, pair.form.value, run, size) {
             Some(end) => size = end,
             None => {
-                put_bytes(front(run, size), spelled)?;
-                run = put_one(ctx, pair, behind(run, size), pool, spelled)?;
+                put_bytes(front(run, size), gathered)?;
+                run = put_one(ctx, pair, behind(run, size), pool, gathered)?;
                 size = 0;
             }
         }
         left = others;
     }
-    put_bytes(front(run, size), spelled)
+    put_bytes(front(run, size), gathered)
 }
 
-/// Puts the bytes of a pair's value behind those of its row, and gives what stands behind its head. None where there is
+/// Puts the bytes of a pair's value behind those that were gathered, and gives what stands behind its head. None where there is
 /// no room for them.
 #[inline(always)]
 fn put_one<'a>(
@@ -124,41 +129,44 @@ fn put_one<'a>(
     pair: &Pair,
     heads: &'a [u8],
     pool: &'a [u8],
-    spelled: &mut Spelled,
+    gathered: &mut Gathered,
 ) -> Option<&'a [u8]>
     requires context { IsContext ctx }
     requires first { First ctx (pair_of pair.now) heads.now pool.now }
-    ensures put { IfSome result (λ x. spelled.new.items ≡ spelled.old.items ++ first_bytes ctx (pair_of pair.now) heads.now pool.now) }
+    ensures put { IfSome result (λ x. gathered.new.items ≡ gathered.old.items ++ first_bytes ctx (pair_of pair.now) heads.now pool.now) }
     ensures rest { IfSome result (λ x. x.now ≡ behind_first ctx (pair_of pair.now) heads.now pool.now) }
+    ensures kept { Grown gathered.old.items gathered.new.items }
 {
     let (attr, size) = lend_head(ctx, pair.form.value, pair.constant, heads, pool)?;
-    put_content(front(heads, front_len(&attr, size)), &attr.value, spelled)?;
+    put_content(front(heads, front_len(&attr, size)), &attr.value, gathered)?;
     Some(behind(heads, size))
 }
 
 /// Puts these bytes and those of a text or a block, with the end of a text, behind those of their row. None where there
 /// is no room for them.
 #[inline(always)]
-fn put_content(front: &[u8], value: &Value<'_>, spelled: &mut Spelled) -> Option<()>
-    ensures { IfSome result (λ x. spelled.new.items ≡ spelled.old.items ++ (front.now ++ (content_of (value_of value.now) ++ tail_of (value_of value.now)))) }
+fn put_content(front: &[u8], value: &Value<'_>, gathered: &mut Gathered) -> Option<()>
+    ensures put { IfSome result (λ x. gathered.new.items ≡ gathered.old.items ++ (front.now ++ (content_of (value_of value.now) ++ tail_of (value_of value.now)))) }
+    ensures kept { Grown gathered.old.items gathered.new.items }
 {
-    put_bytes(front, spelled)?;
+    put_bytes(front, gathered)?;
     match *value {
-        Value::Block { bytes, .. } => put_bytes(bytes, spelled),
+        Value::Block { bytes, .. } => put_bytes(bytes, gathered),
         Value::Text(bytes) => {
-            put_bytes(bytes, spelled)?;
-            put_bytes(&[0], spelled)
+            put_bytes(bytes, gathered)?;
+            put_bytes(&[0], gathered)
         }
         _ => Some(()),
     }
 }
 
-/// Puts bytes behind those of their row. None where there is no room for them.
+/// Puts bytes behind those that were gathered. None where there is no room for them.
 #[inline(always)]
-fn put_bytes(bytes: &[u8], spelled: &mut Spelled) -> Option<()>
-    ensures { IfSome result (λ x. spelled.new.items ≡ spelled.old.items ++ bytes.now) }
+fn put_bytes(bytes: &[u8], gathered: &mut Gathered) -> Option<()>
+    ensures put { IfSome result (λ x. gathered.new.items ≡ gathered.old.items ++ bytes.now) }
+    ensures kept { Grown gathered.old.items gathered.new.items }
 {
-    spelled.try_extend_from_slice(bytes).ok()
+    gathered.try_extend_from_slice(bytes).ok()
 }
 
 /// Puts a byte and a run of bytes behind those that were gathered, where there is room for them.
@@ -174,8 +182,8 @@ fn put_both(code: u8, run: &[u8], gathered: &mut Gathered) -> bool
     gathered.try_extend_from_slice(run).is_ok()
 }
 
-/// The code of a row and the bytes of its values, where the code has one byte, and their forms tell the sizes of its
-/// values. Of a null they are none.
+/// The code of a row and the bytes of its values, where the code has one byte, and its values have no content. Of a null
+/// they are none.
 #[inline(always)]
 fn plain_row<'a>(
     ctx: Ctx,
@@ -195,22 +203,34 @@ fn plain_row<'a>(
         return Some((0, &heads[..0]));
     }
     let decl = table.get(row.code)?;
-    let run = plain_run(ctx, decl.pairs(), behind(heads, row.first), pool)?;
+    let run = plain_run(ctx, decl, behind(heads, row.first), pool)?;
     Some(((row.code % 128) as u8, run))
 }
 
-/// The bytes of values under their pairs, where their forms tell their sizes: they are their heads.
+/// The bytes of an entry's values, where they have no content: they are their heads.
 #[inline(always)]
-fn plain_run<'a>(ctx: Ctx, pairs: &[Pair], heads: &'a [u8], _pool: &[u8]) -> Option<&'a [u8]>
+fn plain_run<'a>(ctx: Ctx, decl: &Decl, heads: &'a [u8], _pool: &[u8]) -> Option<&'a [u8]>
     requires context { IsContext ctx }
-    requires here { Here ctx (map pair_of pairs.now) heads.now _pool.now }
-    ensures { IfSome result (λ run. run.now ≡ run_bytes ctx (map pair_of pairs.now) heads.now _pool.now) }
+    requires here { Here ctx decl.now.pairs heads.now _pool.now }
+    ensures { IfSome result (λ run. run.now ≡ run_bytes ctx decl.now.pairs heads.now _pool.now) }
 {
-    let mut left = pairs;
-    let mut size = 0;
-    while let Some((pair, others)) = left.split_first() {
-        size = told_end(ctx, pair.form.value, heads, size)?;
-        left = others;
+    let (told, others) = told_front(ctx, decl);
+    let mut left = others;
+    let mut size = told;
+    while let Some((pair, behind_it)) = left.split_first() {
+        size = whole_end(ctx, pair.form.value, heads, size)?;
+        left = behind_it;
     }
     Some(front(heads, size))
+}
+
+/// How many bytes the first values of each entry of this declaration have, whose forms tell their sizes (section 7.5.6), and
+/// the pairs of the others.
+#[inline(always)]
+fn told_front(ctx: Ctx, decl: &Decl) -> (usize, &[Pair])
+    ensures { ToldFront ctx decl.now.pairs result.0 (map pair_of result.1.now) }
+{
+    let prefix = decl.prefix();
+    let size = prefix.size(ctx.address_size, ctx.format.offset_size());
+    (size, &decl.pairs()[prefix.count as usize..])
 }

@@ -1,14 +1,16 @@
 //! Writing a tree.
-ghost use Rattle.std.specs.Prelude.{◌≡◌, ◌≤◌, ◌-◌, length, map, take, drop, None, Some, IfSome, IfOk};
+ghost use Rattle.std.specs.Prelude.{◌≡◌, ◌≤◌, ◌<◌, ◌-◌, length, map, take, drop, position, None, Some, IfSome, IfOk};
 ghost use Rattle.dw_leb.specs.Watch.{inner_of, fault_of, writer_fault, Wrote};
 ghost use Rattle.dw_leb.specs.Number.{uleb};
+ghost use Rattle.dw_leb.specs.Scan.{is_last};
 ghost use Rattle.dw_abbrev.specs.PairView.{pair_of};
 ghost use Rattle.dw_abbrev.specs.Table.{zero_of};
 ghost use Rattle.dw_form.specs.Form.{IsContext};
 ghost use Rattle.dw_tree.specs.Tree.{tree as part, nesting};
 ghost use Rattle.dw_tree.specs.Row.{row_bytes};
 ghost use Rattle.dw_tree.specs.RowHeads.{Here, First, run_bytes, first_bytes, behind_first};
-ghost use Rattle.dw_tree.specs.Runs.{form_size};
+ghost use Rattle.dw_tree.specs.Runs.{size_of_shape};
+ghost use Rattle.dw_tree.specs.WholeHeads.{IsWhole};
 ghost use Rattle.dw_tree.specs.Flat.{token_at, RowReads};
 ghost use Rattle.dw_tree.specs.DraftInvariant.{TokenFits};
 
@@ -98,16 +100,33 @@ pub fn write_null<W: Write>(width: u8, writer: &mut Watched<W>) -> Result<(), Wr
     }
 }
 
-/// Where the value at `size` ends, if its form tells its size.
+/// Where the value at `size` ends, if it has no content: its head is its spelling. Its form tells its size, or it is a LEB128
+/// number, which ends at its first byte without bit 7 (section 7.6).
 #[inline(always)]
-pub(crate) fn told_end(ctx: Ctx, form: u64, run: &[u8], size: usize) -> Option<usize>
+pub(crate) fn whole_end(ctx: Ctx, form: u64, run: &[u8], size: usize) -> Option<usize>
     requires context { IsContext ctx }
     requires within { size ≤ length run.now }
-    ensures sized { IfSome result (λ end. form_size ctx form ≡ Some (end - size)) }
+    ensures whole { IfSome result (λ end. IsWhole ctx form (drop size run.now) (end - size)) }
     ensures behind { IfSome result (λ end. size ≤ end) }
     ensures room { IfSome result (λ end. end ≤ length run.now) }
 {
-    let n = match Shape::of(form, ctx.address_size, ctx.format)? {
+    let shape = Shape::of(form, ctx.address_size, ctx.format)?;
+    match shape {
+        Shape::Uleb => number_end(run, size),
+        Shape::Sleb => number_end(run, size),
+        _ => told_end(shape, run, size),
+    }
+}
+
+/// Where the value at `size` ends, if its shape tells its size.
+#[inline(always)]
+fn told_end(shape: Shape, run: &[u8], size: usize) -> Option<usize>
+    requires { size ≤ length run.now }
+    ensures sized { IfSome result (λ end. size_of_shape (Some shape) ≡ Some (end - size)) }
+    ensures behind { IfSome result (λ end. size ≤ end) }
+    ensures room { IfSome result (λ end. end ≤ length run.now) }
+{
+    let n = match shape {
         Shape::Fixed(n) => n as usize,
         Shape::Present => 0,
         Shape::Implicit => 0,
@@ -118,6 +137,27 @@ pub(crate) fn told_end(ctx: Ctx, form: u64, run: &[u8], size: usize) -> Option<u
     } else {
         None
     }
+}
+
+/// Where the LEB128 number at `size` ends.
+#[inline(always)]
+fn number_end(run: &[u8], size: usize) -> Option<usize>
+    requires { size ≤ length run.now }
+    ensures found { IfSome result (λ end. position is_last (drop size run.now) ≡ Some (end - size - 1)) }
+    ensures behind { IfSome result (λ end. size < end) }
+    ensures room { IfSome result (λ end. end ≤ length run.now) }
+{
+    let last = last_at(behind(run, size))?;
+    Some(size + last + 1)
+}
+
+/// The place of the first byte that ends a number.
+#[inline(always)]
+fn last_at(b: &[u8]) -> Option<usize>
+    ensures found { result ≡ position is_last b.now }
+    ensures within { IfSome result (λ i. i < length b.now) }
+{
+    b.iter().position(|x| *x < 128)
 }
 
 /// The first `n` bytes.
@@ -138,8 +178,7 @@ pub(crate) fn behind(b: &[u8], n: usize) -> &[u8]
     &b[n..]
 }
 
-/// Writes values under the pairs of their declaration. Values whose size their form tells are written
-/// together, as they stand.
+/// Writes values under the pairs of their declaration. Values without content are written together, as they stand.
 fn write_values<W: Write>(
     ctx: Ctx,
     pairs: &[Pair],
@@ -157,7 +196,7 @@ fn write_values<W: Write>(
     let mut run = heads;
     let mut size = 0;
     while let Some((pair, others)) = left.split_first() {
-        match told_end(ctx, pair.form.value, run, size) {
+        match whole_end(ctx, pair.form.value, run, size) {
             Some(end) => size = end,
             None => {
                 write_all(writer, front(run, size))?;

@@ -7,7 +7,7 @@ use Rattle.dw_tree.proofs.gather.plain_run.Given as goal
 abbrev pub invariant-loop-pair : goal.invariant-loop-pair
 invariant-loop-pair l =
     record {
-      front : run_bytes l.ctx (map pair_of l.pairs) l.heads l._pool ≡ take l.size l.heads ++ run_bytes l.ctx (map pair_of l.left) (drop l.size l.heads) l._pool;
+      front : run_bytes l.ctx l.decl.pairs l.heads l._pool ≡ take l.size l.heads ++ run_bytes l.ctx (map pair_of l.left) (drop l.size l.heads) l._pool;
       here : Here l.ctx (map pair_of l.left) (drop l.size l.heads) l._pool;
       within : l.size ≤ length l.heads;
     }

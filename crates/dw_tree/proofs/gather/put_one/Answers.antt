@@ -24,5 +24,5 @@ returns-clause-put c =
     let count : c.front_len.result ≡ front_count k p c.args.heads.now c.args.pool.now x = c.front_len.ensures ∙ ap₂ front_size lent.0 lent.1 in
     let front = c.front.ensures ∙ ap (λ (n : ℕ). take n c.args.heads.now) count in
     let content = ap (λ (a : Attribute). content_of a.value ++ tail_of a.value) lent.0 in
-    c.in_ok-put_content.ensures
-    ∙ ap (λ (b : List ℕ). c.args.spelled.now.items ++ b) (ap₂ (λ (b d : List ℕ). b ++ d) front content ∙ sym (parted k p c.args.heads.now c.args.pool.now x).0)
+    c.in_ok-put_content.ensures.put
+    ∙ ap (λ (b : List ℕ). c.args.gathered.now.items ++ b) (ap₂ (λ (b d : List ℕ). b ++ d) front content ∙ sym (parted k p c.args.heads.now c.args.pool.now x).0)

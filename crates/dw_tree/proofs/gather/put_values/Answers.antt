@@ -1,9 +1,16 @@
-use Rattle.std.proofs.Common.{◌≡◌, ◌++◌, List, ℕ, take, drop, map, sym, ap, subst, ◌∙◌, arith, append_assoc}
+use Rattle.std.proofs.Common.{◌≡◌, ◌++◌, List, ℕ, take, drop, map, refl, sym, ap, subst, ◌∙◌, arith, append_assoc}
 use Rattle.dw_abbrev.specs.PairView.{pair_of}
 use Rattle.dw_abbrev.specs.declared.pair.Pair.{Pair as RustPair}
 use Rattle.dw_tree.specs.RowHeads.{Here, First, run_bytes, first_bytes, behind_first}
+use Rattle.dw_tree.specs.Grown.{grown_same, grown_then}
 use Rattle.dw_tree.proofs.RunSteps.{first, joins_run, parts, others}
+use Rattle.dw_tree.proofs.ToldRuns.{begins}
 use Rattle.dw_tree.proofs.gather.put_values.Goals as goal
+
+pub loop-pair-init : goal.loop-pair-init
+loop-pair-init c =
+    let i = begins c.args.ctx c.args.decl.now.pairs c.args.heads.now c.args.pool.now c.told_front-told.result.0 (map pair_of c.told_front-told.result.1.now) c.told_front-told.ensures c.requires.here in
+    record { put = ap (λ (b : List ℕ). c.args.gathered.now.items ++ b) i.front; kept = grown_same c.args.gathered.now.items c.args.gathered.now.items refl; here = i.here; within = i.within }
 
 pub put_one-requires-clause-first : goal.put_one-requires-clause-first
 put_one-requires-clause-first c =
@@ -11,12 +18,12 @@ put_one-requires-clause-first c =
     subst (λ (hs : List ℕ). First c.args.ctx (pair_of c.in-Some.pair.now) hs c.args.pool.now) (sym c.behind.ensures)
     (first c.args.ctx (map pair_of c.loop-pair.left.now) (pair_of c.in-Some.pair.now) (map pair_of c.in-Some.others.now) c.loop-pair.run.now c.args.pool.now c.loop-pair.size is c.loop-pair.invariant.within c.loop-pair.invariant.here)
 
-pub loop-pair-preserved-in-Some-told_end : goal.loop-pair-preserved-in-Some-told_end
-loop-pair-preserved-in-Some-told_end c =
+pub loop-pair-preserved-in-Some-whole_end : goal.loop-pair-preserved-in-Some-whole_end
+loop-pair-preserved-in-Some-whole_end c =
     let is = ap (λ (ps : List RustPair). map pair_of ps) c.in-Some.ensures.cases.0 in
-    let next = c.in-Some-told_end.ensures in
-    let j = joins_run c.args.ctx (map pair_of c.loop-pair.left.now) (pair_of c.in-Some.pair.now) (map pair_of c.in-Some.others.now) c.loop-pair.run.now c.args.pool.now c.loop-pair.size is c.loop-pair.invariant.within c.loop-pair.invariant.here c.in-Some-told_end.end next.behind next.sized in
-    record { put = c.loop-pair.invariant.put ∙ ap (λ (b : List ℕ). c.loop-pair.spelled.items ++ b) j.0; here = j.1; within = next.room }
+    let next = c.in-Some-whole_end.ensures in
+    let j = joins_run c.args.ctx (map pair_of c.loop-pair.left.now) (pair_of c.in-Some.pair.now) (map pair_of c.in-Some.others.now) c.loop-pair.run.now c.args.pool.now c.loop-pair.size is c.loop-pair.invariant.within c.loop-pair.invariant.here c.in-Some-whole_end.end next.behind next.whole in
+    record { put = c.loop-pair.invariant.put ∙ ap (λ (b : List ℕ). c.loop-pair.gathered.items ++ b) j.0; kept = c.loop-pair.invariant.kept; here = j.1; within = next.room }
 
 pub loop-pair-preserved : goal.loop-pair-preserved
 loop-pair-preserved c =
@@ -29,11 +36,11 @@ loop-pair-preserved c =
     let rest = map pair_of c.in-Some.others.now in
     let is = ap (λ (ps : List RustPair). map pair_of ps) c.in-Some.ensures.cases.0 in
     let i = c.loop-pair.invariant in
-    let before = c.loop-pair.spelled.items in
+    let before = c.loop-pair.gathered.items in
     let told = take size run in
     let own = first_bytes k pair (drop size run) pool in
     let next = run_bytes k rest (behind_first k pair (drop size run) pool) pool in
-    let first_put = c.in_ok-put_bytes-in-None.ensures ∙ ap (λ (b : List ℕ). before ++ b) c.front.ensures in
+    let first_put = c.in_ok-put_bytes-in-None.ensures.put ∙ ap (λ (b : List ℕ). before ++ b) c.front.ensures in
     let both = c.in_ok-run-in-None.ensures.put
     ∙ (ap (λ (b : List ℕ). b ++ first_bytes k pair c.behind.result.now pool) first_put
     ∙ ap (λ (hs : List ℕ). (before ++ told) ++ first_bytes k pair hs pool) c.behind.ensures) in
@@ -43,7 +50,9 @@ loop-pair-preserved c =
     ∙ (ap (λ (b : List ℕ). before ++ (told ++ b)) (parts k left pair rest run pool size is i.within i.here)
     ∙ (regrouped ∙ ap (λ (b : List ℕ). b ++ next) (sym both))) in
     record {
-      put = all ∙ ap (λ (hs : List ℕ). c.put_one.new.spelled.items ++ run_bytes k rest hs pool) (sym behind);
+      put = all ∙ ap (λ (hs : List ℕ). c.put_one.new.gathered.items ++ run_bytes k rest hs pool) (sym behind);
+      kept = grown_then c.args.gathered.now.items c.put_bytes.new.gathered.items c.put_one.new.gathered.items
+          (grown_then c.args.gathered.now.items before c.put_bytes.new.gathered.items i.kept c.put_bytes.ensures.kept) c.put_one.ensures.kept;
       here = subst (λ (hs : List ℕ). Here k rest hs pool) (sym behind) (others k left pair rest run pool size is i.within i.here);
       within = omega arith;
     }
