@@ -15,6 +15,7 @@ pub mod GivenValue
 pub mod Chain
 pub mod RootRead
 pub mod DraftLemmas
+pub mod EachValue
 pub mod PutValues
 pub mod OpenLemmas
 pub mod Found

@@ -54,6 +54,11 @@ begun code d = with_place (begun_at code (tree_in d)).place d
 abbrev pub given : Attribute → Drafted → Drafted
 given v d = with_place (with_value v (tree_in d)).place d
 
+-- it is given these values, one after the other
+abbrev pub given_each : List Attribute → Drafted → Drafted
+given_each [] d = d
+given_each (v ∷ vs) d = given_each vs (given v d)
+
 -- a text or block begins as its next value, of which no bytes are there yet
 abbrev pub started : Option Unsigned → Option ℕ → Drafted → Drafted
 started via width d = with_place (started_at via width (tree_in d)).place d

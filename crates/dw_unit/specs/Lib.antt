@@ -8,6 +8,7 @@ pub mod Entries
 pub mod UnitView
 pub mod BodyView
 pub mod Draft
+pub mod EachGiven
 pub mod Build
 pub mod Inside
 pub mod Put

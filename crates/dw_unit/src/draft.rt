@@ -1,5 +1,5 @@
 //! Units under construction, step by step (sections 2.3 and 7.5).
-ghost use Rattle.std.specs.Prelude.{◌≡◌, ◌≢◌, ◌≤◌, ◌<◌, ◌+◌, ◌↔◌, [], length, IsTrue, true, false, None, Some, is_some, IsSome, IfSome, option_map, map, IfOk, OnOk, OnErr};
+ghost use Rattle.std.specs.Prelude.{◌≡◌, ◌≢◌, ◌≤◌, ◌<◌, ◌+◌, ◌↔◌, [], List, length, take, IsTrue, true, false, None, Some, is_some, IsSome, IfSome, option_map, map, IfOk, OnOk, OnErr};
 ghost use Rattle.dw_leb.specs.View.{uleb_of};
 ghost use Rattle.dw_form.specs.Form.{Attribute};
 ghost use Rattle.dw_form.specs.HeadFront.{front_bytes};
@@ -10,16 +10,16 @@ ghost use Rattle.dw_abbrev.specs.Table.{declared, zero_of};
 ghost use Rattle.dw_tree.specs.Tree.{nesting};
 ghost use Rattle.dw_tree.specs.PoolBytes.{held_in};
 ghost use Rattle.dw_tree.specs.Emptiness.{is_bare};
-ghost use Rattle.dw_tree.specs.Steps.{partial_in, NextFits, IsPlainNext, SpellsPlain, next_pair, next_pairs};
+ghost use Rattle.dw_tree.specs.Steps.{partial_in, NextFits, IsPlainNext, SpellsPlain, ArePlain, SpellsFirst, next_pair, next_pairs};
 ghost use Rattle.dw_header.specs.Header.{context_of};
 ghost use Rattle.dw_unit.specs.Unit.{UnitFits, bytes_of};
 ghost use Rattle.dw_header.specs.HeaderPlace.{header_size};
-ghost use Rattle.dw_unit.specs.Draft.{drafted_size, tree_in, empty, begun, given, started, extended, ended, closed, padded, undone, finished, size_limit as limit_of, passes_limit, IsOnlyRoot, value_bytes, partial_of, PartialFits, PartialShort};
+ghost use Rattle.dw_unit.specs.Draft.{drafted_size, tree_in, empty, begun, given, given_each, started, extended, ended, closed, padded, undone, finished, size_limit as limit_of, passes_limit, IsOnlyRoot, value_bytes, partial_of, PartialFits, PartialShort};
 
 use crate::body::Body;
 use crate::unit::Unit;
 use arrayvec::ArrayVec;
-use dw_abbrev::{Pair, Table};
+use dw_abbrev::{Decl, Pair, Table};
 use dw_form::{AttrValue, front_len, size_of, value_front};
 use dw_header::Header;
 use dw_leb::{Format, Uleb};
@@ -98,6 +98,34 @@ impl Draft {
         ensures err { OnErr result (self.new ≡ self.old) }
     {
         self.tree.begin(code)
+    }
+
+    /// An entry of this code begins, which `decl` declares, and is given its first values, `count` of them and none a text or
+    /// block, by the bytes that spell them one behind the other (sections 7.5.2 and 7.5.5): the first `size` of these, by a
+    /// caller that has read them. It is what `begin` and as many calls of `plain_value` do, but that `AllocError` takes back
+    /// all of it.
+    #[inline(always)]
+    pub fn begin_with(
+        &mut self,
+        code: Uleb,
+        decl: &Decl,
+        bytes: &[u8],
+        size: usize,
+        count: usize,
+    ) -> Result<(), AllocError>
+        requires some { 0 < code.value }
+        requires known { declared self.old.table code.value ≡ Some decl.now }
+        requires free { self.old.place.unfinished ≡ None }
+        requires level { length self.old.place.spot.above < nesting }
+        requires only { IsOnlyRoot self.old.place.spot }
+        requires within { size ≤ length bytes.now }
+        requires spelled { SpellsFirst (context_of self.old.header) decl.now.pairs count (take size bytes.now) }
+        requires short { passes_limit self.old (code.width + size) ≡ false }
+        ensures ok { (vs : List Attribute) → length vs ≡ count → ArePlain (context_of self.old.header) decl.now.pairs vs (take size bytes.now) → OnOk result (self.new ≡ given_each vs (begun (uleb_of code) self.old)) }
+        ensures size { OnOk result (drafted_size self.new ≡ drafted_size self.old + (code.width + size)) }
+        ensures err { OnErr result (self.new ≡ self.old) }
+    {
+        self.tree.begin_with(code, decl, bytes, size, count)
     }
 
     /// The unfinished entry is given its next value (section 7.5.3). With its last value it is
@@ -377,6 +405,14 @@ impl Draft {
         ensures { IsTrue result ↔ (length self.now.place.spot.above < nesting) }
     {
         self.depth() < NESTING
+    }
+
+    /// Whether an entry waits for values (section 7.5.3).
+    #[inline(always)]
+    pub fn is_unfinished(&self) -> bool
+        ensures { result ≡ is_some self.now.place.unfinished }
+    {
+        self.tree.is_unfinished()
     }
 
     /// Whether there is no entry, besides an unfinished one.
