@@ -1,10 +1,11 @@
 -- The values of an entry, one by one, each one a step of the feed.
-use Rattle.std.proofs.Common.{◌≡◌, ℕ, zero, suc, ◌+◌, ◌-◌, ◌*◌, ◌<◌, ◌≤◌, Bool, true, false, List, [], ◌∷◌, ◌++◌, length, take, drop, map, slice_get, slice_index_or, Option, Some, None, refl, sym, ap, subst, ◌∙◌, arith, inr, length-append, length-drop}
+use Rattle.std.proofs.Common.{◌≡◌, ℕ, zero, suc, ◌+◌, ◌-◌, ◌<◌, ◌≤◌, Bool, true, false, List, [], ◌∷◌, ◌++◌, length, take, drop, map, slice_get, slice_index_or, Option, Some, None, refl, sym, ap, subst, ◌∙◌, arith, inr, length-append, length-drop}
 use Rattle.std.proofs.lemmas.List.{length-take-le, drop-drop}
 use Rattle.std.proofs.lemmas.Bool.{eqb-true}
 use Rattle.std.specs.Prelude.{◌==◌, is_some}
 use Rattle.dw_leb.specs.Number.{Unsigned}
 use Rattle.dw_leb.specs.Decide.{AreBytes}
+use Rattle.dw_leb.specs.Reader.{Found}
 use Rattle.dw_form.specs.Form.{Attribute}
 use Rattle.dw_form.specs.Pieces.{via_bytes}
 use Rattle.dw_abbrev.specs.PairView.{pair_of}
@@ -20,11 +21,12 @@ use Rattle.dw_feed.specs.BodyView.{drafted, coming}
 use Rattle.dw_feed.specs.EntrySteps.{NoneKept, NextSays, TakesOn}
 use Rattle.dw_feed.specs.FeedInvariant.{Keeps, context, frames_of, chain_of, body_so_far, left, moved_to}
 use Rattle.dw_feed.specs.FeedSteps.{At, at_first}
-use Rattle.dw_feed.specs.FieldReader.{Follows, follows}
-use Rattle.dw_feed.specs.FieldSteps.{Waits, StepSays}
-use Rattle.dw_feed.specs.PlainFeed.{root_if_whole, whole_at}
+use Rattle.dw_feed.specs.FieldReader.{PlaceBehind, Follows, follows}
+use Rattle.dw_feed.specs.FieldSteps.{HasPart, FieldPart, Waits, StepSays, code_part}
+use Rattle.dw_feed.specs.PlainFeed.{field_at, root_if_whole, whole_at}
 use Rattle.dw_feed.specs.ValueSteps.{behind_value, part_free}
-use Rattle.dw_feed.proofs.Turns.{longest, turns, value_less, settled_free, none_part, goes_at, goes_has}
+use Rattle.dw_feed.specs.FieldTurns.{turns}
+use Rattle.dw_feed.proofs.Turns.{none_part, none_partial, goes_at, goes_has, goes_less}
 
 -- ---- the pairs that are left
 
@@ -53,15 +55,20 @@ settled_left t s code vs = by (declared t code.value) refl
 
 -- ---- one value
 
--- it is given to the draft of a feed that has nothing of the field
+-- the draft of a feed that has nothing of the field is changed
+pub draft_is : (f : Drafted → Drafted) (g : PartialUnit) (d new : Drafted) (n : ℕ) (named : Option Unsigned) (to_come : ℕ) (pending : List ℕ) → coming d n named to_come pending ≡ g → NoneKept g → new ≡ f d
+    → coming new n named to_come pending ≡ coming (f (drafted g)) g.unit_length None 0 []
+draft_is f g d new n named to_come pending view none_kept e =
+    ap (λ (x : Drafted). coming x n named to_come pending) e
+    ∙ ap (λ (u : PartialUnit). coming (f (drafted u)) u.unit_length u.named u.to_come u.pending) view
+    ∙ ap (λ (o : Option Unsigned). coming (f (drafted g)) g.unit_length o g.to_come g.pending) none_kept.unnamed
+    ∙ ap (λ (m : ℕ). coming (f (drafted g)) g.unit_length None m g.pending) none_kept.none_to_come
+    ∙ ap (λ (bs : List ℕ). coming (f (drafted g)) g.unit_length None 0 bs) none_kept.none_pending
+
+-- a value is given to it
 pub next_given : (g : PartialUnit) (d new : Drafted) (n : ℕ) (named : Option Unsigned) (to_come : ℕ) (pending : List ℕ) → coming d n named to_come pending ≡ g → NoneKept g → (v : Attribute) → new ≡ given v d
     → coming new n named to_come pending ≡ moved_to (given v (drafted g)).place g.padding g
-next_given g d new n named to_come pending view none_kept v e =
-    ap (λ (x : Drafted). coming x n named to_come pending) e
-    ∙ ap (λ (u : PartialUnit). coming (given v (drafted u)) u.unit_length u.named u.to_come u.pending) view
-    ∙ ap (λ (o : Option Unsigned). coming (given v (drafted g)) g.unit_length o g.to_come g.pending) none_kept.unnamed
-    ∙ ap (λ (m : ℕ). coming (given v (drafted g)) g.unit_length None m g.pending) none_kept.none_to_come
-    ∙ ap (λ (bs : List ℕ). coming (given v (drafted g)) g.unit_length None 0 bs) none_kept.none_pending
+next_given g d new n named to_come pending view none_kept v e = draft_is (given v) g d new n named to_come pending view none_kept e
 
 pub next_unchanged : (g : PartialUnit) (d new : Drafted) (n : ℕ) (named : Option Unsigned) (to_come : ℕ) (pending : List ℕ) → coming d n named to_come pending ≡ g → new ≡ d → coming new n named to_come pending ≡ g
 next_unchanged g d new n named to_come pending view e = ap (λ (x : Drafted). coming x n named to_come pending) e ∙ view
@@ -78,15 +85,8 @@ given_left g v = by g.place.unfinished refl
         ∙ ap (λ (m : ℕ). drop m (declared_pairs (declared g.table r.code.value))) n
         ∙ sym (drop-drop 1 (length r.values) (declared_pairs (declared g.table r.code.value)))
 
-given_free : (g : PartialUnit) (v : Attribute) → partial_in (given v (drafted g)).place.unfinished ≡ None
-given_free g v = by g.place.unfinished refl
-  where
-    by : (o : Option UnfinishedEntry) → g.place.unfinished ≡ o → partial_in (value_at v (tree_in (drafted g)) o).place.unfinished ≡ None
-    by None e = ap partial_in e
-    by (Some r) e = settled_free g.table g.place.spot r.code (r.values ++ v ∷ [])
-
 -- no entry is closed by a value
-above_kept : (t : Table) (s : Spot) (code : Unsigned) (vs : List Attribute) → length s.above ≤ length (settle t s code vs).spot.above
+pub above_kept : (t : Table) (s : Spot) (code : Unsigned) (vs : List Attribute) → length s.above ≤ length (settle t s code vs).spot.above
 above_kept t s code vs = by (declared t code.value)
   where
     full : (b children : Bool) → length s.above ≤ length (settled b children s code vs).spot.above
@@ -106,7 +106,7 @@ given_above g v = by g.place.unfinished
     by (Some r) = above_kept g.table g.place.spot r.code (r.values ++ v ∷ [])
 
 -- below an open entry the unit isn't whole
-below_open : (g : PartialUnit) → 0 < length (frames_of g) → is_some (root_if_whole g) ≡ false
+pub below_open : (g : PartialUnit) → 0 < length (frames_of g) → is_some (root_if_whole g) ≡ false
 below_open g inside = by (frames_of g) (chain_of g) g.place.unfinished (left g) inside
   where
     by : (fs : List Frame) (ts : Forest) (o : Option UnfinishedEntry) (lim : ℕ) → 0 < length fs → is_some (whole_at fs ts o lim) ≡ false
@@ -114,6 +114,12 @@ below_open g inside = by (frames_of g) (chain_of g) g.place.unfinished (left g) 
     by (f ∷ fs) ts o lim h = refl
 
 -- ---- fields that were taken, one behind the other
+
+turns_less_or : (new g g0 : PartialUnit) (size over rest b : ℕ) → size ≡ over → turns new over < turns g rest → turns g rest ≤ turns g0 b → turns new size ≤ turns g0 b
+turns_less_or new g g0 size over rest b is less few = by (turns new over) (turns g rest) (turns g0 b) (turns new size) (ap (turns new) is) less few
+  where
+    by : (x y z w : ℕ) → w ≡ x → x < y → y ≤ z → w ≤ z
+    by x y z w e h k = omega (arith, e, h, k)
 
 module _ (g0 : PartialUnit) (b : List ℕ) (keeps : Keeps g0) (none_there : part g0 ≡ []) (fit : AreBytes b) where
   at_start : At g0 b g0 (part g0 ++ b)
@@ -132,59 +138,101 @@ module _ (g0 : PartialUnit) (b : List ℕ) (keeps : Keeps g0) (none_there : part
     rest_fit : AreBytes rest
     rest_fit = subst (λ (bs : List ℕ). AreBytes (bs ++ rest)) on.none_there here.fit
 
-    module _ (inside : 0 < length (frames_of g)) (size : ℕ) (new : PartialUnit) (says : NextSays g rest (Some size) new) where
+    -- one field more, the unit not whole behind it
+    module _ (size : ℕ) (new : PartialUnit) (q : PlaceBehind) (found : field_at g rest (left g) ≡ Found q size) (there : size ≤ length rest) (moved : new ≡ moved_to q.0 q.1 g) (on_from : is_some (root_if_whole new) ≡ false) where
       abbrev over : ℕ
       over = length rest - size
 
-      says_found : StepSays g (part g ++ rest) (steps.Found over) new
-      says_found = subst (λ (bs : List ℕ). StepSays g (bs ++ rest) (steps.Found over) new) (sym on.none_there) (behind_value g says.0, size, says.1, omega (arith, says.2), says.3)
+      step_found : StepSays g (part g ++ rest) (steps.Found over) new
+      step_found = subst (λ (bs : List ℕ). StepSays g (bs ++ rest) (steps.Found over) new) (sym on.none_there) (q, size, found, omega (arith, there), moved)
 
+      own_size : length rest - over ≡ size
+      own_size = omega (arith, there)
+
+      size_is : length (drop size rest) ≡ over
+      size_is = length-drop size rest
+
+      less : turns new over < turns g (length rest)
+      less = goes_less g0 b g rest here waits over new step_found
+
+      pub on_step : TakesOn g0 b new (drop size rest)
+      on_step = record {
+        at = λ g1 piece a. subst (λ (n : ℕ). At g1 piece new (part new ++ drop n rest)) own_size (goes_at g1 piece g rest (on.at g1 piece a) waits over new step_found on_from);
+        has = goes_has g0 b g rest here waits over new step_found;
+        none_there = none_part g0 b g rest here waits over new step_found;
+        same_table = ap (λ (u : PartialUnit). u.table) moved ∙ on.same_table;
+        within = omega (arith, length-drop size rest, on.within);
+        fewer = turns_less_or new g g0 (length (drop size rest)) over (length rest) (length b) size_is less on.fewer;
+      }
+
+      leads : Follows (context g) g.table g.place g.padding rest (left g) size q
+      leads = follows (context g) g.table (frames_of g) (chain_of g) g.place.unfinished g.padding rest (left g) rest_fit here.keeps.stands q size found
+
+      pub step_within : size ≤ left g
+      step_within = leads.1
+
+      pub step_left : left new ≡ left g - size
+      step_left =
+          let all = ap length leads.0.1 in
+          omega (arith, ap left moved, all, length-append (body_so_far g) (take size rest), length-take-le size rest there)
+
+      pub step_none_kept : NoneKept new
+      step_none_kept = record { unnamed = ap (λ (u : PartialUnit). u.named) moved; none_to_come = ap (λ (u : PartialUnit). u.to_come) moved; none_pending = ap (λ (u : PartialUnit). u.pending) moved }
+
+      pub step_free : partial_in new.place.unfinished ≡ None
+      step_free = none_partial g0 b g rest here waits over new step_found
+
+    module _ (inside : 0 < length (frames_of g)) (size : ℕ) (new : PartialUnit) (says : NextSays g rest (Some size) new) where
       pub inside_with : 0 < length (frames_of new)
       inside_with = omega (arith, inside, given_above g says.0, ap (λ (u : PartialUnit). length (frames_of u)) says.3)
 
       not_whole : is_some (root_if_whole new) ≡ false
       not_whole = below_open new inside_with
 
-      own_size : length rest - over ≡ size
-      own_size = omega (arith, says.2)
-
-      left_pairs : pairs_left new.table new.place.unfinished ≡ drop 1 (pairs_left g.table g.place.unfinished)
+      pub left_pairs : pairs_left new.table new.place.unfinished ≡ drop 1 (pairs_left g.table g.place.unfinished)
       left_pairs = ap (λ (u : PartialUnit). pairs_left u.table u.place.unfinished) says.3 ∙ given_left g says.0
 
       pub on_with : TakesOn g0 b new (drop size rest)
-      on_with = record {
-        at = λ g1 piece a. subst (λ (n : ℕ). At g1 piece new (part new ++ drop n rest)) own_size (goes_at g1 piece g rest (on.at g1 piece a) waits over new says_found not_whole);
-        has = goes_has g0 b g rest here waits over new says_found;
-        none_there = none_part g0 b g rest here waits over new says_found;
-        same_table = ap (λ (u : PartialUnit). u.table) says.3 ∙ on.same_table;
-        within = omega (arith, length-drop size rest, on.within);
-        fewer = omega (arith, ap length left_pairs, length-drop 1 (pairs_left g.table g.place.unfinished), on.fewer);
-      }
+      on_with = on_step size new (behind_value g says.0) says.1 says.2 says.3 not_whole
 
       -- ---- what the loop over the pairs keeps beside
 
-      leads : Follows (context g) g.table g.place g.padding rest (left g) size (behind_value g says.0)
-      leads = follows (context g) g.table (frames_of g) (chain_of g) g.place.unfinished g.padding rest (left g) rest_fit here.keeps.stands (behind_value g says.0) size says.1
-
       pub size_within : size ≤ left g
-      size_within = leads.1
+      size_within = step_within size new (behind_value g says.0) says.1 says.2 says.3 not_whole
 
       pub left_with : left new ≡ left g - size
-      left_with =
-          let all = ap length leads.0.1 in
-          omega (arith, ap left says.3, all, length-append (body_so_far g) (take size rest), length-take-le size rest says.2)
+      left_with = step_left size new (behind_value g says.0) says.1 says.2 says.3 not_whole
 
       pub none_kept_with : NoneKept new
-      none_kept_with = record { unnamed = ap (λ (u : PartialUnit). u.named) says.3; none_to_come = ap (λ (u : PartialUnit). u.to_come) says.3; none_pending = ap (λ (u : PartialUnit). u.pending) says.3 }
+      none_kept_with = step_none_kept size new (behind_value g says.0) says.1 says.2 says.3 not_whole
 
       pub free_with : partial_in new.place.unfinished ≡ None
-      free_with = ap (λ (u : PartialUnit). partial_in u.place.unfinished) says.3 ∙ given_free g says.0
+      free_with = step_free size new (behind_value g says.0) says.1 says.2 says.3 not_whole
 
       pub context_with : context new ≡ context g
       context_with = ap context says.3
 
       pub pairs_with : (ps : List RustPair) (i : ℕ) → pairs_left g.table g.place.unfinished ≡ drop i (map pair_of ps) → pairs_left new.table new.place.unfinished ≡ drop (i + 1) (map pair_of ps)
       pairs_with ps i e = left_pairs ∙ ap (drop 1) e ∙ drop-drop 1 i (map pair_of ps)
+
+-- ---- runs of fields, one behind the other
+
+-- nothing was taken
+pub on_none : (g : PartialUnit) (b : List ℕ) → HasPart g → part g ≡ [] → TakesOn g b g b
+on_none g b has none_there = record { at = λ g0 piece a. a; has = has; none_there = none_there; same_table = refl; within = omega arith; fewer = omega arith }
+
+pub on_more : (g : PartialUnit) (b : List ℕ) (h : PartialUnit) (c : List ℕ) (new : PartialUnit) (rest : List ℕ) → TakesOn g b h c → TakesOn h c new rest → TakesOn g b new rest
+on_more g b h c new rest first second = record {
+  at = λ g0 piece a. second.at g0 piece (first.at g0 piece a);
+  has = second.has;
+  none_there = second.none_there;
+  same_table = second.same_table ∙ first.same_table;
+  within = omega (arith, first.within, second.within);
+  fewer = le_from (turns new (length rest)) (turns h (length c)) (turns g (length b)) second.fewer first.fewer;
+}
+  where
+    le_from : (x y z : ℕ) → x ≤ y → y ≤ z → x ≤ z
+    le_from x y z h k = omega (arith, h, k)
 
 -- ---- the next pair
 
@@ -193,7 +241,7 @@ next_item [] i p lt = absurd (omega (arith, lt))
 next_item (q ∷ ps) zero p lt = refl
 next_item (q ∷ ps) (suc i) p lt = next_item ps i p (omega (arith, lt))
 
-first_of : (ps : List Pair) (n : ℕ) (p : Pair) (qs : List Pair) → drop n ps ≡ p ∷ qs → slice_get ps n ≡ Some p
+pub first_of : (ps : List Pair) (n : ℕ) (p : Pair) (qs : List Pair) → drop n ps ≡ p ∷ qs → slice_get ps n ≡ Some p
 first_of [] zero p qs e = absurd cc
 first_of [] (suc n) p qs e = absurd cc
 first_of (q ∷ ps) zero p qs e = cc
@@ -213,6 +261,12 @@ none_part_of g none_kept between =
     ∙ ap (λ (o : Option Unsigned). via_bytes o ++ g.pending) none_kept.unnamed
     ∙ none_kept.none_pending
 
+-- nothing is kept of a code of which nothing is there
+pub code_none_kept : (g : PartialUnit) → g.place.unfinished ≡ None → HasPart g → part g ≡ [] → NoneKept g
+code_none_kept g free has none_there =
+    let h : FieldPart g None = subst (FieldPart g) free has in
+    record { unnamed = h.0; none_to_come = h.1; none_pending = sym (code_part g free h.0) ∙ none_there }
+
 -- ---- in the loop over the fields
 
 -- behind a field that was found nothing is kept
@@ -226,15 +280,7 @@ found_none_kept g bytes n new says = record {
 pub found_table : (g : PartialUnit) (bytes : List ℕ) (n : ℕ) (new : PartialUnit) → StepSays g bytes (steps.Found n) new → new.table ≡ g.table
 found_table g bytes n new says = ap (λ (u : PartialUnit). u.table) says.4
 
--- no more fields may still come
-pub turns_on : (g : PartialUnit) (b : List ℕ) (new : PartialUnit) (rest : List ℕ) → TakesOn g b new rest → turns new (length rest) ≤ turns g (length b)
-turns_on g b new rest on =
-    let few = on.fewer in
-    let less = value_less (length rest) (length b) (length (pairs_left new.table new.place.unfinished)) (suc (length (pairs_left g.table g.place.unfinished))) (longest g.table) on.within (omega (arith, few)) in
-    let same : turns new (length rest) ≡ length rest * suc (longest g.table) + length (pairs_left new.table new.place.unfinished) = ap (λ (t : Table). length rest * suc (longest t) + length (pairs_left new.table new.place.unfinished)) on.same_table in
-    let more : length b * suc (longest g.table) + suc (length (pairs_left g.table g.place.unfinished)) ≡ suc (turns g (length b)) = omega arith in
-    omega (arith, less, same, more)
-
+-- fewer fields may still come
 pub turns_less : (new g old : PartialUnit) (rest b left : List ℕ) → turns new (length rest) ≤ turns g (length b) → turns g (length b) < turns old (length left) → turns new (length rest) < turns old (length left)
 turns_less new g old rest b left more less = by (turns new (length rest)) (turns g (length b)) (turns old (length left)) more less
   where

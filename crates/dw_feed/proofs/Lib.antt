@@ -11,4 +11,6 @@ mod DraftRoom
 mod ValueRoom
 mod Turns
 mod EntryLemmas
+mod EntryRuns
+mod ToldValues
 mod Zero

@@ -1,4 +1,4 @@
--- How many fields may still come: each has a byte, or is one of the values of the unfinished entry.
+-- Fewer fields may still come behind each that is found.
 use Rattle.std.proofs.Common.{◌≡◌, ◌⊎◌, ℕ, zero, suc, ◌+◌, ◌-◌, ◌*◌, ◌<◌, ◌≤◌, Bool, true, false, List, [], ◌∷◌, ◌++◌, length, take, drop, Option, Some, None, refl, sym, ap, subst, ◌∙◌, arith, inl, inr, length-append, length-drop}
 use Rattle.std.proofs.lemmas.List.{length-take-le}
 use Rattle.std.specs.Prelude.{◌==◌, is_some, if◌then◌else◌}
@@ -27,18 +27,8 @@ use Rattle.dw_feed.specs.FeedSteps.{At, RanSays, found_wants, done_says, goes_on
 use Rattle.dw_feed.specs.FieldReader.{PlaceBehind, by_code, read_value, read_field, follows}
 use Rattle.dw_feed.specs.PartialValues.{none_kept}
 use Rattle.dw_feed.specs.PlainFeed.{field_at, ran, fault_at, root_if_whole, unit_with}
+use Rattle.dw_feed.specs.FieldTurns.{longest_of, longest, turns}
 use Rattle.dw_feed.specs.FieldSteps.{Waits, Standing, HasPart, HasNext, FieldPart, ValuePart, StepSays, keeps_stands, next_here, has_moment, same_wants}
-
-abbrev pub longest_of : List Declaration → ℕ
-longest_of [] = 0
-longest_of (d ∷ ds) = length d.pairs + longest_of ds
-
--- no declaration has more pairs
-abbrev pub longest : Table → ℕ
-longest t = longest_of t.declarations
-
-abbrev pub turns : PartialUnit → ℕ → ℕ
-turns g n = n * suc (longest g.table) + length (pairs_left g.table g.place.unfinished)
 
 -- with a byte less
 pub byte_less : (m n a b l : ℕ) → m < n → a ≤ l → m * suc l + a < n * suc l + b

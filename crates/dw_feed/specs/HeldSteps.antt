@@ -14,7 +14,8 @@ use Rattle.dw_tree.specs.Tree.{Forest, leaf, branch, declared_pairs}
 use Rattle.dw_tree.specs.Row.{Token, leaf_row, branch_row, null_row, all_rows}
 use Rattle.dw_tree.specs.Place.{Frame, Spot, UnfinishedEntry, PartialValue, Place, leave_from, rows_before, rows_before-push}
 use Rattle.dw_tree.specs.Steps.{Growing, settled, settle_by, settle, value_at, partial_in, partial_attribute, ended_by, FirstFits, NextFits}
-use Rattle.dw_unit.specs.Draft.{Drafted, tree_in, drafted_size, size_limit, passes_limit, empty, begun, given, ended, closed, with_place, value_bytes, partial_of, PartialFits, PartialShort}
+use Rattle.dw_unit.specs.Draft.{Drafted, tree_in, drafted_size, size_limit, passes_limit, empty, begun, given, given_each, ended, closed, with_place, value_bytes, partial_of, PartialFits, PartialShort}
+use Rattle.dw_unit.specs.EachGiven.{begun_settles}
 use Rattle.dw_feed.specs.HeldCounts.{entries_in, values_in, unfinished_entries, unfinished_values}
 
 -- ---- counted
@@ -179,6 +180,25 @@ module _ (d : Drafted) (entries values : ℕ) (counted : IsCounted d entries val
         few = m.few counted.few;
       } in
       subst (λ (x : Drafted). IsCounted x (entries + 1) values) (sym is) there
+
+  -- an entry begins, and is given its first values
+  pub begun_with_counted : (code : Unsigned) (decl : Declaration) → declared d.table code.value ≡ Some decl → d.place.unfinished ≡ None → 0 < code.width → (vs : List Attribute) → length vs ≤ length decl.pairs
+      → (more : ℕ) (new : Drafted) → new ≡ given_each vs (begun code d) → drafted_size new ≡ drafted_size d + (code.width + more) → IsCounted new (entries + 1) (values + length vs)
+  begun_with_counted code decl known free some vs few more new is size =
+      let m = settle_holds d.table counted.pairs_are_few d.place.spot code vs (subst IsSome (sym known) refl) in
+      let there : IsCounted (with_place (settle d.table d.place.spot code vs) d) (entries + 1) (values + length vs) = record {
+        entries_are = omega (arith, counted.entries_are, m.entries, ap unfinished_entries free);
+        values_are = omega (arith, counted.values_are, m.values, ap unfinished_values free);
+        short = omega (arith, counted.short, size, ap drafted_size (is ∙ begun_settles d code decl known vs few), some);
+        pairs_are_few = counted.pairs_are_few;
+        few = m.few counted.few;
+      } in
+      subst (λ (x : Drafted). IsCounted x (entries + 1) (values + length vs)) (sym (is ∙ begun_settles d code decl known vs few)) there
+
+  pub values_room : (n : ℕ) → passes_limit d n ≡ false → (code : ℕ) (decl : Declaration) → declared d.table code ≡ Some decl → d.place.unfinished ≡ None → (count : ℕ) → count ≤ length decl.pairs → values + count < 2 ^ 128
+  values_room n h code decl known free count few =
+      let most : length decl.pairs ≤ most_pairs = subst (λ (o : Option Declaration). IfSome o (λ x. length x.pairs ≤ most_pairs)) known (counted.pairs_are_few code) in
+      omega (arith, counted.values_are, counted.entries_are, ap unfinished_values free, ap unfinished_entries free, counted.few, counted.short, below d n h, few, most)
 
   pub begun_room : (n : ℕ) → passes_limit d n ≡ false → entries + 1 < 2 ^ 64
   begun_room n h = omega (arith, counted.short, below d n h)

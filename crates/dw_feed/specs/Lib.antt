@@ -43,5 +43,7 @@ pub mod EmptyPiece
 pub mod ContentSteps
 pub mod NamedValues
 pub mod LengthFields
+pub mod FieldTurns
 pub mod EntrySteps
+pub mod FirstValues
 pub mod PlainValues

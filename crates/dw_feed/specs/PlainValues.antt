@@ -1,16 +1,18 @@
--- Values whose size their form tells (section 7.5.6): whatever their bytes are, they are there where there are as many.
-use Rattle.std.proofs.Common.{◌≡◌, ℕ, ◌≤◌, Bool, true, false, List, length, take, Option, Some, None, refl, sym, ap, subst, ◌∙◌}
+-- Values that are no texts or blocks (section 7.5.6): those whose size their form tells are there where there are as many bytes,
+-- numbers in LEB128 where they end.
+use Rattle.std.proofs.Common.{◌≡◌, ◌≢◌, ℕ, ◌<◌, ◌≤◌, Bool, true, false, List, length, take, Option, Some, None, refl, ap, subst, ◌∙◌, arith}
 use Rattle.std.specs.Prelude.{◌==◌, if◌then◌else◌}
-use Rattle.std.proofs.lemmas.Bool.{eqb-true, le-ltb}
+use Rattle.std.proofs.lemmas.Bool.{eqb-true, le-ltb, lt-ltb}
+use Rattle.dw_leb.specs.declared.errors.Reason.TheVariants.{Truncated}
 use Rattle.dw_leb.specs.Part.{Taken}
-use Rattle.dw_leb.specs.Number.{Signed}
+use Rattle.dw_leb.specs.Number.{Unsigned, Signed}
 use Rattle.dw_leb.specs.Decide.{AreBytes, Says}
-use Rattle.dw_leb.specs.Reader.{Outcome, Found, mapped, at_front}
-use Rattle.dw_leb.specs.ReadNumber.{bytes_of, undigits, ordered}
+use Rattle.dw_leb.specs.Reader.{Outcome, Found, Broken, mapped, at_front}
+use Rattle.dw_leb.specs.ReadNumber.{bytes_of, undigits, ordered, read_uleb, read_sleb}
 use Rattle.dw_form.specs.declared.shape.Ctx.{Ctx}
 use Rattle.dw_form.specs.declared.shape.Shape.{Shape}
 use Rattle.dw_form.specs.declared.shape.Shape.TheVariants as shapes
-use Rattle.dw_form.specs.Form.{Value, Num, Wide, Present, Implicit, Attribute, attribute, shape}
+use Rattle.dw_form.specs.Form.{Value, Num, Wide, Uleb, Sleb, Present, Implicit, Attribute, attribute, shape}
 use Rattle.dw_form.specs.HeadSize.{is_plain}
 use Rattle.dw_form.specs.ReadForm.{fixed_from, read_shaped_if, read_by_indirection, direct_from, read_attribute}
 use Rattle.dw_form.specs.DecideForm.{attribute_decides}
@@ -93,12 +95,71 @@ read_plain k p bytes lim n e h within = by (p.form.value == 0x16) refl
         let own = by_told k p.constant (shape p.form.value k.address_size k.format) bytes lim n e h within in
         (direct_from own.0, ap (λ (r : Outcome Value). at_front (mapped direct_from r)) own.1, own.2)
 
+plain_by : (k : Ctx) (p : Pair) (bytes : List ℕ) (lim n : ℕ) → AreBytes bytes → FoundPlainly (read_attribute k p.form.value p.constant bytes lim) n → PlainAt k p bytes lim n
+plain_by k p bytes lim n fit own = record {
+  value = own.0;
+  taken = subst (λ (out : Outcome Attribute). Says (attribute k p.form.value p.constant) bytes lim out) own.1 ((attribute_decides k p.form.value p.constant).says bytes lim fit);
+  read = own.1;
+  plain = own.2;
+}
+
 pub plain_there : (k : Ctx) (p : Pair) (bytes : List ℕ) (lim n : ℕ) → AreBytes bytes → told_size k p ≡ Some n → n ≤ length bytes → n ≤ lim → PlainAt k p bytes lim n
-plain_there k p bytes lim n fit e h within =
-    let own = read_plain k p bytes lim n e h within in
-    record {
-      value = own.0;
-      taken = subst (λ (out : Outcome Attribute). Says (attribute k p.form.value p.constant) bytes lim out) own.1 ((attribute_decides k p.form.value p.constant).says bytes lim fit);
-      read = own.1;
-      plain = own.2;
-    }
+plain_there k p bytes lim n fit e h within = plain_by k p bytes lim n fit (read_plain k p bytes lim n e h within)
+
+-- ---- a number whose last byte is there
+
+-- form indirect has no shape of a number
+no_indirect : (k : Ctx) (s : Shape) → shape 0x16 k.address_size k.format ≡ Some s → s ≡ shapes.Indirect
+unfolding shape
+no_indirect k s e = cc
+
+read_as : (k : Ctx) (p : Pair) (s : Shape) (bytes : List ℕ) (lim n : ℕ) (v : Value) → shape p.form.value k.address_size k.format ≡ Some s → s ≢ shapes.Indirect → read_shaped_if k p.constant (Some s) bytes lim ≡ Found v n → is_plain v ≡ true
+    → FoundPlainly (read_attribute k p.form.value p.constant bytes lim) n
+unfolding read_attribute
+read_as k p s bytes lim n v is direct e plain = by (p.form.value == 0x16) refl
+  where
+    by : (b : Bool) → (p.form.value == 0x16) ≡ b → FoundPlainly (at_front (read_by_indirection k p.constant p.form.value b bytes lim)) n
+    by true same = absurd (direct (no_indirect k s (subst (λ (m : ℕ). shape m k.address_size k.format ≡ Some s) (eqb-true p.form.value 0x16 same) is)))
+    by false same = (direct_from v, ap (λ (o : Option Shape). at_front (mapped direct_from (read_shaped_if k p.constant o bytes lim))) is ∙ ap (λ (r : Outcome Value). at_front (mapped direct_from r)) e, plain)
+
+pub unsigned_there : (k : Ctx) (p : Pair) (bytes : List ℕ) (lim n : ℕ) (u : Unsigned) → AreBytes bytes → shape p.form.value k.address_size k.format ≡ Some shapes.Uleb → read_uleb bytes lim ≡ Found u n → PlainAt k p bytes lim n
+unsigned_there k p bytes lim n u fit is e = plain_by k p bytes lim n fit (read_as k p shapes.Uleb bytes lim n (Uleb u) is (λ q. absurd cc) (ap (mapped (λ x. Uleb x)) e) refl)
+
+pub signed_there : (k : Ctx) (p : Pair) (bytes : List ℕ) (lim n : ℕ) (s : Signed) → AreBytes bytes → shape p.form.value k.address_size k.format ≡ Some shapes.Sleb → read_sleb bytes lim ≡ Found s n → PlainAt k p bytes lim n
+signed_there k p bytes lim n s fit is e = plain_by k p bytes lim n fit (read_as k p shapes.Sleb bytes lim n (Sleb s) is (λ q. absurd cc) (ap (mapped (λ x. Sleb x)) e) refl)
+
+-- ---- a value whose form tells its size, where there are fewer bytes
+
+fewer : (n : ℕ) (bytes : List ℕ) (lim : ℕ) → length bytes < n → n ≤ lim → bytes_of n bytes lim ≡ Broken 0 Truncated
+fewer n bytes lim h within = rw (le-ltb lim n within) (rw (lt-ltb (length bytes) n h) refl)
+
+short_by : (k : Ctx) (c : Option Signed) (o : Option Shape) (bytes : List ℕ) (lim n : ℕ) → told c o ≡ Some n → length bytes < n → n ≤ lim → read_shaped_if k c o bytes lim ≡ Broken 0 Truncated
+short_by k c (Some (shapes.Fixed m)) bytes lim n e h within =
+    let same : m ≡ n = cc in
+    ap (λ (i : ℕ). mapped (fixed_from m) (mapped (λ b. undigits 256 (ordered k.order b)) (bytes_of i bytes lim))) same ∙ ap (λ (r : Outcome (List ℕ)). mapped (fixed_from m) (mapped (λ b. undigits 256 (ordered k.order b)) r)) (fewer n bytes lim h within)
+short_by k c (Some shapes.Present) bytes lim n e h within = absurd (omega (arith, h, zero_is n e))
+short_by k None (Some shapes.Implicit) bytes lim n e h within = absurd cc
+short_by k (Some x) (Some shapes.Implicit) bytes lim n e h within = absurd (omega (arith, h, zero_is n e))
+short_by k None None bytes lim n e h within = absurd cc
+short_by k (Some x) None bytes lim n e h within = absurd cc
+short_by k None (Some shapes.Uleb) bytes lim n e h within = absurd cc
+short_by k (Some x) (Some shapes.Uleb) bytes lim n e h within = absurd cc
+short_by k None (Some shapes.Sleb) bytes lim n e h within = absurd cc
+short_by k (Some x) (Some shapes.Sleb) bytes lim n e h within = absurd cc
+short_by k None (Some (shapes.Counted m)) bytes lim n e h within = absurd cc
+short_by k (Some x) (Some (shapes.Counted m)) bytes lim n e h within = absurd cc
+short_by k None (Some shapes.CountedUleb) bytes lim n e h within = absurd cc
+short_by k (Some x) (Some shapes.CountedUleb) bytes lim n e h within = absurd cc
+short_by k None (Some shapes.Text) bytes lim n e h within = absurd cc
+short_by k (Some x) (Some shapes.Text) bytes lim n e h within = absurd cc
+short_by k None (Some shapes.Indirect) bytes lim n e h within = absurd cc
+short_by k (Some x) (Some shapes.Indirect) bytes lim n e h within = absurd cc
+
+-- it is cut off
+pub cut_short : (k : Ctx) (p : Pair) (bytes : List ℕ) (lim n : ℕ) → told_size k p ≡ Some n → length bytes < n → n ≤ lim → read_attribute k p.form.value p.constant bytes lim ≡ Broken 0 Truncated
+unfolding read_attribute
+cut_short k p bytes lim n e h within = by (p.form.value == 0x16) refl
+  where
+    by : (b : Bool) → (p.form.value == 0x16) ≡ b → at_front (read_by_indirection k p.constant p.form.value b bytes lim) ≡ Broken 0 Truncated
+    by true is = absurd (indirect_told k p.constant n (subst (λ (m : ℕ). told p.constant (shape m k.address_size k.format) ≡ Some n) (eqb-true p.form.value 0x16 is) e))
+    by false is = ap (λ (r : Outcome Value). at_front (mapped direct_from r)) (short_by k p.constant (shape p.form.value k.address_size k.format) bytes lim n e h within)

@@ -1,5 +1,5 @@
 //! Bytes that are taken from a reader and kept.
-ghost use Rattle.std.specs.Prelude.{◌≡◌, None, vec_items};
+ghost use Rattle.std.specs.Prelude.{◌≡◌, ◌<◌, None, length, vec_items};
 ghost use Rattle.dw_leb.specs.Watch.{inner_of, fault_of, reader_fault, KeptSome};
 ghost use Rattle.dw_feed.specs.Feed.{ReadsField, ReadsUpTo, IsEscape};
 
@@ -7,7 +7,11 @@ use dw_leb::{ReadError, Watched};
 use std::alloc::Global;
 use std::io::Read;
 
+/// The most bytes that are read at once.
 const CHUNK: usize = 4096;
+
+/// The most where no more are asked for, as in a length field: a larger piece of the stack would cost more than these.
+const SMALL: usize = 16;
 
 /// The bytes of an initial length (section 7.4): four, and eight more where those are ff ff ff ff. Fewer where the
 /// reader has no more. `NoMemory` is returned where a growth was refused, and only where at least a byte was
@@ -51,10 +55,33 @@ pub fn read_up_to<R: Read>(
     ensures memory { KeptSome (R.remaining (inner_of reader.old)) (R.remaining (inner_of reader.new)) result }
     ensures fault { fault_of reader.new ≡ reader_fault result }
 {
+    if most <= SMALL as u64 {
+        let mut chunk = [0u8; SMALL];
+        return read_through(reader, most, bytes, &mut chunk);
+    }
     let mut chunk = [0u8; CHUNK];
+    read_through(reader, most, bytes, &mut chunk)
+}
+
+/// The same, read into this chunk again and again.
+fn read_through<R: Read>(
+    reader: &mut Watched<R>,
+    most: u64,
+    bytes: &mut Vec<u8>,
+    chunk: &mut [u8],
+) -> Result<(), ReadError>
+    requires clear { fault_of reader.old ≡ None }
+    requires room { 0 < length chunk.old }
+    ensures bytes { ReadsUpTo bytes.old.items bytes.new.items
+        (R.remaining (inner_of reader.old))
+        (R.remaining (inner_of reader.new))
+        most result }
+    ensures memory { KeptSome (R.remaining (inner_of reader.old)) (R.remaining (inner_of reader.new)) result }
+    ensures fault { fault_of reader.new ≡ reader_fault result }
+{
     let mut left = most;
     while left > 0 {
-        let want = left.min(CHUNK as u64) as usize;
+        let want = left.min(chunk.len() as u64) as usize;
         let got = match reader.read(&mut chunk[..want]) {
             Ok(got) => got,
             Err(e) => return Err(ReadError::Io(e.kind())),

@@ -26,7 +26,7 @@ use crate::code::{code_at, is_cut};
 use crate::counted::Counted;
 use crate::held::Held;
 use crate::step::{Attempt, Step, Taken};
-use crate::value::{form_at, joined, value_at, without_front};
+use crate::value::{form_at, is_short, joined, value_at, without_front};
 use arrayvec::ArrayVec;
 use dw_abbrev::{Pair, Table};
 use dw_form::AttrValue;
@@ -215,7 +215,7 @@ impl Coming {
                     if self.is_whole() {
                         return Taken::Whole(over);
                     }
-                    left = self.values_at_once(table, left);
+                    left = self.fields_at_once(table, left);
                 }
                 Step::Wanting => return Taken::More,
                 Step::Refused(over, reason) => return Taken::Refused(over, fault_at(here, reason)),
@@ -407,6 +407,9 @@ impl Coming {
         ensures { ValueSays self.old (pair_of pair.now) bytes.now result self.new }
     {
         let context = self.draft.header().context();
+        if is_short(context, pair, bytes, lim) {
+            return Attempt::Broken(Reason::Truncated);
+        }
         match value_at(context, pair, bytes, lim) {
             Ok((value, size)) => match self.settle(&value, &bytes[..size]) {
                 Ok(()) => Attempt::Whole(size),

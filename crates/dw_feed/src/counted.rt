@@ -1,5 +1,5 @@
 //! A unit under construction whose entries and values are counted.
-ghost use Rattle.std.specs.Prelude.{◌≡◌, ◌≢◌, ◌<◌, [], length, true, false, None, Some, IsSome, option_map, OnOk, OnErr};
+ghost use Rattle.std.specs.Prelude.{◌≡◌, ◌≢◌, ◌<◌, ◌+◌, ◌≤◌, [], List, length, take, true, false, None, Some, IsSome, option_map, OnOk, OnErr};
 ghost use Rattle.dw_leb.specs.View.{uleb_of};
 ghost use Rattle.dw_form.specs.Form.{Attribute};
 ghost use Rattle.dw_form.specs.Lent.{attribute_of};
@@ -7,12 +7,12 @@ ghost use Rattle.dw_abbrev.specs.Build.{is_width};
 ghost use Rattle.dw_abbrev.specs.Table.{declared};
 ghost use Rattle.dw_tree.specs.Tree.{nesting};
 ghost use Rattle.dw_tree.specs.Emptiness.{is_bare};
-ghost use Rattle.dw_tree.specs.Steps.{partial_in, NextFits, IsPlainNext, SpellsPlain};
+ghost use Rattle.dw_tree.specs.Steps.{partial_in, NextFits, IsPlainNext, SpellsPlain, ArePlain, SpellsFirst};
 ghost use Rattle.dw_header.specs.Header.{context_of};
-ghost use Rattle.dw_unit.specs.Draft.{empty, begun, given, started, extended, ended, closed, padded, finished, passes_limit, IsOnlyRoot, value_bytes, PartialFits, PartialShort};
+ghost use Rattle.dw_unit.specs.Draft.{empty, begun, given, given_each, started, extended, ended, closed, padded, finished, passes_limit, IsOnlyRoot, value_bytes, PartialFits, PartialShort};
 ghost use Rattle.dw_feed.specs.HeldSteps.{IsCounted};
 
-use dw_abbrev::Table;
+use dw_abbrev::{Decl, Table};
 use dw_form::AttrValue;
 use dw_leb::Uleb;
 use dw_unit::{Draft, Header, Unit};
@@ -91,6 +91,34 @@ impl Counted {
         Ok(())
     }
 
+    /// An entry of this code begins, which `decl` declares, and is given its first values, none of them a text or block, by the
+    /// bytes that spell them.
+    #[inline(always)]
+    pub(crate) fn begin_with(
+        &mut self,
+        code: Uleb,
+        decl: &Decl,
+        bytes: &[u8],
+        size: usize,
+        count: usize,
+    ) -> Result<(), AllocError>
+        requires some { 0 < code.value }
+        requires known { declared self.old.table code.value ≡ Some decl.now }
+        requires free { self.old.place.unfinished ≡ None }
+        requires level { length self.old.place.spot.above < nesting }
+        requires only { IsOnlyRoot self.old.place.spot }
+        requires within { size ≤ length bytes.now }
+        requires spelled { SpellsFirst (context_of self.old.header) decl.now.pairs count (take size bytes.now) }
+        requires short { passes_limit self.old (code.width + size) ≡ false }
+        ensures ok { (vs : List Attribute) → length vs ≡ count → ArePlain (context_of self.old.header) decl.now.pairs vs (take size bytes.now) → OnOk result (self.new ≡ given_each vs (begun (uleb_of code) self.old)) }
+        ensures err { OnErr result (self.new ≡ self.old) }
+    {
+        self.draft.begin_with(code, decl, bytes, size, count)?;
+        self.entries += 1;
+        self.values += count as u128;
+        Ok(())
+    }
+
     /// The unfinished entry is given its next value, with the bytes that spell it.
     #[inline(always)]
     pub(crate) fn spelled_value(
@@ -160,6 +188,7 @@ impl Counted {
         requires free { self.old.place.unfinished ≡ None }
         requires short { passes_limit self.old width ≡ false }
         ensures ok { OnOk result (self.new ≡ closed width self.old) }
+        ensures err { OnErr result (self.new ≡ self.old) }
     {
         self.draft.close(width)
     }

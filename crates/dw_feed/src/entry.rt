@@ -1,21 +1,28 @@
-//! The values of an entry that stand whole in a piece (section 7.5.3).
-ghost use Rattle.std.specs.Prelude.{◌≡◌, ◌≤◌, None, Some, length, drop, IfSome};
+//! The fields that stand whole in a piece, below an open entry (sections 7.5.2 and 7.5.3).
+ghost use Rattle.std.specs.Prelude.{◌≡◌, ◌≤◌, ◌<◌, [], None, Some, length, drop, true, false, IfSome};
+ghost use Rattle.dw_leb.specs.Reader.{Found};
+ghost use Rattle.dw_leb.specs.ReadNumber.{read_uleb};
+ghost use Rattle.dw_leb.specs.View.{uleb_of};
 ghost use Rattle.dw_abbrev.specs.PairView.{pair_of};
+ghost use Rattle.dw_abbrev.specs.Table.{declared};
 ghost use Rattle.dw_tree.specs.Steps.{next_pair, partial_in};
-ghost use Rattle.dw_feed.specs.FeedInvariant.{Keeps, context as context_in, left as left_of};
+ghost use Rattle.dw_feed.specs.BodyFeed.{part};
+ghost use Rattle.dw_feed.specs.FeedInvariant.{Keeps, context as context_in, frames_of, left as left_of};
 ghost use Rattle.dw_feed.specs.FieldSteps.{Standing, HasPart};
-ghost use Rattle.dw_feed.specs.EntrySteps.{NoneKept, NextSays, TakesOn};
+ghost use Rattle.dw_feed.specs.EntrySteps.{NoneKept, NextSays, TakesOn, EntrySays};
 ghost use Rattle.dw_feed.specs.PlainValues.{PlainAt};
 
+use crate::code::number;
 use crate::coming::Coming;
-use crate::value::{plain_size, value_at};
-use dw_abbrev::{Pair, Table};
+use crate::value::{first_values, plain_size, value_at};
+use dw_abbrev::{Decl, Pair, Table};
 use dw_form::Ctx;
+use dw_leb::Uleb;
 
 impl Coming {
-    /// The values that stand whole in the piece, where the table is at hand. The result is what is left of
+    /// The fields that stand whole in the piece, where the table is at hand. The result is what is left of
     /// the piece.
-    pub(crate) fn values_at_once<'a>(&mut self, table: Option<&Table>, b: &'a [u8]) -> &'a [u8]
+    pub(crate) fn fields_at_once<'a>(&mut self, table: Option<&Table>, b: &'a [u8]) -> &'a [u8]
         requires over { IfSome table (λ t. t.now ≡ self.old.table) }
         requires stands { Keeps self.old }
         requires has { HasPart self.old }
@@ -24,8 +31,124 @@ impl Coming {
         ensures { TakesOn self.old b.now self.new result.now }
     {
         match table {
-            Some(table) => self.values(table, b),
+            Some(table) => self.fields(table, b),
             None => b,
+        }
+    }
+
+    /// The same: first the values of the unfinished entry, then the entries behind it.
+    fn fields<'a>(&mut self, table: &Table, b: &'a [u8]) -> &'a [u8]
+        requires over { table.now ≡ self.old.table }
+        requires stands { Keeps self.old }
+        requires has { HasPart self.old }
+        requires none_kept { NoneKept self.old }
+        requires between { partial_in self.old.place.unfinished ≡ None }
+        ensures { TakesOn self.old b.now self.new result.now }
+    {
+        let mut rest = self.values(table, b);
+        loop {
+            match self.next_entry(table, rest) {
+                Some(size) => rest = self.values(table, behind(rest, size)),
+                None => return rest,
+            }
+        }
+    }
+
+    /// Below an open entry and where no values are still to come, takes the null at the front of `b`, or the
+    /// code there and the first values of the entry that it begins. The count of its bytes is answered. Where
+    /// they aren't whole there, are refused, or there is no memory for them, nothing is changed; the same for
+    /// a null that closes the root.
+    #[inline(always)]
+    fn next_entry(&mut self, table: &Table, b: &[u8]) -> Option<usize>
+        requires over { table.now ≡ self.old.table }
+        requires stands { Keeps self.old }
+        requires has { HasPart self.old }
+        requires none_there { part self.old ≡ [] }
+        ensures { EntrySays self.old b.now result self.new }
+    {
+        if self.draft.depth() == 0 || self.draft.is_unfinished() {
+            return None;
+        }
+        match number(b, self.left()) {
+            Ok(code) => self.next_coded(table, code, b),
+            Err(_) => None,
+        }
+    }
+
+    /// The same of a code or null that was read.
+    #[inline(always)]
+    fn next_coded(&mut self, table: &Table, code: Uleb, b: &[u8]) -> Option<usize>
+        requires over { table.now ≡ self.old.table }
+        requires stands { Keeps self.old }
+        requires has { HasPart self.old }
+        requires none_there { part self.old ≡ [] }
+        requires free { self.old.place.unfinished ≡ None }
+        requires inside { 0 < length (frames_of self.old) }
+        requires read { read_uleb b.now (left_of self.old) ≡ Found (uleb_of code) code.width }
+        requires room { code.width ≤ length b.now }
+        requires within { code.width ≤ left_of self.old }
+        ensures { EntrySays self.old b.now result self.new }
+    {
+        if code.value == 0 {
+            return self.next_null(code, b);
+        }
+        match table.get(code.value) {
+            Some(decl) => self.next_begun(decl, code, b),
+            None => None,
+        }
+    }
+
+    /// The same of a null.
+    #[inline(always)]
+    fn next_null(&mut self, code: Uleb, _b: &[u8]) -> Option<usize>
+        requires stands { Keeps self.old }
+        requires has { HasPart self.old }
+        requires none_there { part self.old ≡ [] }
+        requires free { self.old.place.unfinished ≡ None }
+        requires inside { 0 < length (frames_of self.old) }
+        requires read { read_uleb _b.now (left_of self.old) ≡ Found (uleb_of code) code.width }
+        requires room { code.width ≤ length _b.now }
+        requires within { code.width ≤ left_of self.old }
+        requires null { code.value ≡ 0 }
+        ensures { EntrySays self.old _b.now result self.new }
+    {
+        if self.draft.depth() == 1 {
+            return None;
+        }
+        match self.draft.close(code.width) {
+            Ok(()) => Some(code.width as usize),
+            Err(_) => None,
+        }
+    }
+
+    /// The same of a code that is declared.
+    #[inline(always)]
+    fn next_begun(&mut self, decl: &Decl, code: Uleb, b: &[u8]) -> Option<usize>
+        requires stands { Keeps self.old }
+        requires has { HasPart self.old }
+        requires none_there { part self.old ≡ [] }
+        requires free { self.old.place.unfinished ≡ None }
+        requires inside { 0 < length (frames_of self.old) }
+        requires read { read_uleb b.now (left_of self.old) ≡ Found (uleb_of code) code.width }
+        requires room { code.width ≤ length b.now }
+        requires within { code.width ≤ left_of self.old }
+        requires some { 0 < code.value }
+        requires known { declared self.old.table code.value ≡ Some decl.now }
+        ensures { EntrySays self.old b.now result self.new }
+    {
+        if !self.draft.has_level() {
+            return None;
+        }
+        let context = self.draft.header().context();
+        let lim = self.left() - code.width as u64;
+        let rest = behind(b, code.width as usize);
+        let first = first_values(context, decl, rest.len(), lim);
+        match self
+            .draft
+            .begin_with(code, decl, rest, first.size, first.count)
+        {
+            Ok(()) => Some(code.width as usize + first.size),
+            Err(_) => None,
         }
     }
 

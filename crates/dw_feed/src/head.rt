@@ -172,7 +172,34 @@ fn lacking_field(versions: Versions, offset_size: usize, count: usize) -> usize
 }
 
 /// Takes bytes of the piece while more are needed, and answers how many.
+// The header is read once for a piece. Only where it is refused the bytes are taken one by one, which finds the first that
+// shows it.
 fn take_head(
+    order: Order,
+    versions: Versions,
+    taken: &mut ArrayVec<u8, MOST>,
+    piece: &[u8],
+) -> (usize, Progress<(Header, u64)>)
+    requires { IsCut versions order taken.old.items }
+    ensures { Answers versions order (Reading taken.old.items) piece.now result.0 result.1 (state_of taken.new.items (ended result.1)) }
+{
+    let before = taken.len();
+    let front = &piece[..piece.len().min(MOST - before)];
+    let _fits = taken.try_extend_from_slice(front);
+    match read_header_as(order, versions, taken.as_slice()) {
+        Ok(head) => (head.0.size() as usize - before, Progress::Done(head)),
+        Err(fault) => match judged(fault) {
+            Progress::More => (piece.len(), Progress::More),
+            _ => {
+                taken.truncate(before);
+                take_bytes(order, versions, taken, piece)
+            }
+        },
+    }
+}
+
+/// The same byte by byte.
+fn take_bytes(
     order: Order,
     versions: Versions,
     taken: &mut ArrayVec<u8, MOST>,

@@ -26,13 +26,16 @@ const PART: usize = 8;
 const CHUNK: usize = 65_536;
 
 /// The most where the unit has no more: a larger piece of the stack would cost more than the unit.
-const SMALL: usize = 1024;
+const SMALL: usize = 256;
+
+/// The same of a larger unit.
+const MIDDLE: usize = 4096;
 
 /// The unit of version 5 at the front of what the reader has left, in whatever pieces its bytes come. At `Ok`
 /// exactly the unit's bytes were taken.
 ///
 /// The bytes go into the feeds as they come (`HeadFeed`, `BodyFeed`): none is kept beside the unit's tree. A
-/// header is taken in parts that it wants for sure, and what follows it in pieces of at most 4,096 bytes. A
+/// header is taken in parts that it wants for sure, and what follows it in pieces of at most 65,536 bytes. A
 /// fault is returned with the piece that shows it, and no later byte is asked for.
 ///
 /// A fault is the first one of all that the reader had left, as `read_unit` of `dw_unit` returns
@@ -187,8 +190,13 @@ fn body_from<R: Read>(
         (R.remaining (inner_of reader.new))) }
     ensures fault { fault_of reader.new ≡ reader_fault result }
 {
-    if behind_header(header, unit_length) <= SMALL as u64 {
+    let size = behind_header(header, unit_length);
+    if size <= SMALL as u64 {
         let mut chunk = [0u8; SMALL];
+        return body_through(alloc, header, unit_length, table, reader, &mut chunk);
+    }
+    if size <= MIDDLE as u64 {
+        let mut chunk = [0u8; MIDDLE];
         return body_through(alloc, header, unit_length, table, reader, &mut chunk);
     }
     let mut chunk = [0u8; CHUNK];

@@ -1,22 +1,24 @@
 //! Values at the place of a unit under construction, and the forms that indirect values name (section 7.5.3).
-ghost use Rattle.std.specs.Prelude.{◌≡◌, ◌≤◌, ◌++◌, length, drop, IfOk, IfSome, None, Some};
+ghost use Rattle.std.specs.Prelude.{◌≡◌, ◌≤◌, ◌++◌, length, drop, IsTrue, IfOk, IfSome, None, Some};
+ghost use Rattle.dw_leb.specs.declared.errors.Reason.TheVariants.{Truncated};
 ghost use Rattle.dw_leb.specs.Part.{Taken, judged};
 ghost use Rattle.dw_leb.specs.Number.{uleb};
-ghost use Rattle.dw_leb.specs.View.{uleb_of};
-ghost use Rattle.dw_leb.specs.Reader.{checked, outcome_of};
-ghost use Rattle.dw_leb.specs.ReadNumber.{read_uleb};
+ghost use Rattle.dw_leb.specs.View.{uleb_of, sleb_of};
+ghost use Rattle.dw_leb.specs.Reader.{Broken, checked, outcome_of};
+ghost use Rattle.dw_leb.specs.ReadNumber.{read_uleb, read_sleb};
 ghost use Rattle.dw_form.specs.Form.{IsContext, attribute, bad_inner};
 ghost use Rattle.dw_form.specs.Lent.{attribute_of, lent_outcome};
 ghost use Rattle.dw_form.specs.ReadForm.{read_attribute};
 ghost use Rattle.dw_abbrev.specs.PairView.{pair_of};
 ghost use Rattle.dw_feed.specs.PlainValues.{PlainAt, told_size};
+ghost use Rattle.dw_feed.specs.FirstValues.{FirstsAreTold};
 
 use crate::code::number;
 use arrayvec::ArrayVec;
-use dw_abbrev::Pair;
+use dw_abbrev::{Decl, Pair};
 use dw_form::{AttrValue, Ctx, Shape, lend_value};
 use dw_leb::constants::form::{DW_FORM_IMPLICIT_CONST, DW_FORM_INDIRECT};
-use dw_leb::{Reason, Uleb};
+use dw_leb::{Reason, Sleb, Uleb};
 
 /// The value of this pair at the front of `b`, of which `lim` bytes are left to the unit's end.
 pub(crate) fn value_at<'a>(
@@ -50,19 +52,89 @@ fn told_size(context: Ctx, pair: &Pair) -> Option<usize>
     }
 }
 
-/// How many bytes the value of this pair has, where its form alone tells, and it is at the front of `b`, of
-/// which `lim` bytes are left to the unit's end.
+/// How many bytes the value of this pair has, where it is no text or block and at the front of `b`, of which `lim`
+/// bytes are left to the unit's end.
 #[inline(always)]
 pub(crate) fn plain_size(context: Ctx, pair: &Pair, b: &[u8], lim: u64) -> Option<usize>
     requires { IsContext context }
     ensures plain { IfSome result (PlainAt context (pair_of pair.now) b.now lim) }
     ensures room { IfSome result (λ n. n ≤ length b.now) }
 {
-    let size = told_size(context, pair)?;
-    if size <= b.len() && size as u64 <= lim {
-        Some(size)
+    match told_size(context, pair) {
+        Some(size) => {
+            if size <= b.len() && size as u64 <= lim {
+                Some(size)
+            } else {
+                None
+            }
+        }
+        None => number_size(context, pair, b, lim),
+    }
+}
+
+/// The same of a number in LEB128.
+fn number_size(context: Ctx, pair: &Pair, b: &[u8], lim: u64) -> Option<usize>
+    requires { IsContext context }
+    ensures plain { IfSome result (PlainAt context (pair_of pair.now) b.now lim) }
+    ensures room { IfSome result (λ n. n ≤ length b.now) }
+{
+    match Shape::of(pair.form.value, context.address_size, context.format)? {
+        Shape::Uleb => match number(b, lim) {
+            Ok(number) => Some(number.width as usize),
+            Err(_) => None,
+        },
+        Shape::Sleb => match signed(b, lim) {
+            Ok(number) => Some(number.width as usize),
+            Err(_) => None,
+        },
+        _ => None,
+    }
+}
+
+/// A signed number, as the plain reader's outcome.
+fn signed(b: &[u8], lim: u64) -> Result<Sleb, Reason>
+    ensures exact { read_sleb b.now lim ≡ outcome_of sleb_of (λ x. x.width) result }
+    ensures room { IfOk result (λ x. (x.width ≤ length b.now) × (x.width ≤ lim)) }
+{
+    Sleb::read(b, lim)
+}
+
+/// Whether the form of this pair tells how many bytes its value has, and there are fewer, where the unit has them.
+#[inline(always)]
+pub(crate) fn is_short(context: Ctx, pair: &Pair, b: &[u8], lim: u64) -> bool
+    requires { IsContext context }
+    ensures { IsTrue result → read_attribute context (pair_of pair.now).form.value (pair_of pair.now).constant b.now lim ≡ Broken 0 Truncated }
+{
+    match told_size(context, pair) {
+        Some(size) => b.len() < size && size as u64 <= lim,
+        None => false,
+    }
+}
+
+/// The first values of an entry: how many they are, and how many bytes they have in all.
+#[derive(Clone, Copy, Debug)]
+pub(crate) struct FirstValues {
+    pub(crate) count: usize,
+    pub(crate) size: usize,
+}
+
+/// The first values of an entry of this declaration, as many as have sizes that their forms tell (section 7.5.6),
+/// where there are as many bytes, of which `lim` are left to the unit's end. Else none.
+#[inline(always)]
+pub(crate) fn first_values(context: Ctx, decl: &Decl, bytes: usize, lim: u64) -> FirstValues
+    ensures told { FirstsAreTold context decl.now.pairs result.count result.size }
+    ensures there { result.size ≤ bytes }
+    ensures within { result.size ≤ lim }
+{
+    let prefix = decl.prefix();
+    let size = prefix.size(context.address_size, context.format.offset_size());
+    if size <= bytes && size as u64 <= lim {
+        FirstValues {
+            count: prefix.count as usize,
+            size,
+        }
     } else {
-        None
+        FirstValues { count: 0, size: 0 }
     }
 }
 

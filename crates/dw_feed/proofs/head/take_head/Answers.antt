@@ -1,50 +1,49 @@
-use Rattle.std.proofs.Common.{◌≡◌, ◌++◌, ◌∷◌, [], List, ℕ, suc, ◌-◌, refl, sym, ap, subst, ◌∙◌, append_assoc, append-nil, arith, length, length-append}
+use Rattle.std.proofs.Common.{◌≡◌, ◌-◌, List, ℕ, length, take, sym, ap, subst, ◌∙◌, arith}
+use Rattle.std.specs.Prelude.{min}
+use Rattle.std.proofs.lemmas.List.{take_at}
+use Rattle.dw_leb.specs.declared.errors.Reason.TheVariants.{Truncated}
+use Rattle.dw_header.specs.HeaderPlace.{HeaderAtUnder, HeaderBreaksUnder}
 use Rattle.dw_feed.specs.HeaderCut.{IsCut}
-use Rattle.dw_feed.specs.HeadFeedView.{ShowsHead}
-use Rattle.dw_feed.proofs.HeadSteps.{all_taken, one_stops}
+use Rattle.dw_feed.specs.HeadFeed.{Reading, Answers}
+use Rattle.dw_feed.specs.HeadFeedView.{state_of, ended}
+use Rattle.dw_feed.proofs.HeadSteps.{header_past, header_taken, piece_taken, all_fit}
 use Rattle.dw_feed.proofs.head.take_head.Goals as goal
-
-none_left : (xs : List ℕ) → length xs ≡ 0 → xs ≡ []
-none_left [] e = refl
-none_left (x ∷ xs) e = absurd (omega (arith, e))
-
-pub loop-byte-init : goal.loop-byte-init
-loop-byte-init c = record { so_far = ([], refl, sym (append-nil c.args.taken.now.items)); cut = c.requires }
-
-pub take_byte-requires : goal.take_byte-requires
-take_byte-requires c = c.loop-byte.invariant.cut
-
-pub loop-byte-preserved : goal.loop-byte-preserved
-loop-byte-preserved c =
-    let done = c.loop-byte.invariant.so_far in
-    let b : ℕ = c.in-Some.byte.now in
-    record {
-      so_far = (
-        done.0 ++ b ∷ [],
-        done.1 ∙ ap (λ (x : List ℕ). done.0 ++ x) c.in-Some.ensures.cases.0 ∙ sym (append_assoc done.0 (b ∷ []) c.in-Some.rest.now),
-        c.take_byte.ensures.taken ∙ ap (λ (x : List ℕ). x ++ b ∷ []) done.2 ∙ append_assoc c.args.taken.now.items done.0 (b ∷ []),
-      );
-      cut = subst (IsCut c.args.versions c.args.order) (sym c.take_byte.ensures.taken) c.in-More.ensures.shows;
-    }
 
 pub overflow_sub-result : goal.overflow_sub-result
 overflow_sub-result c =
-    let done = c.loop-byte.invariant.so_far in
-    omega (arith, ap length done.1, ap length c.in-Some.ensures.cases.0, length-append done.0 c.loop-byte.left.now)
+    let k : ℕ = c.min.result in
+    let now = all_fit c.args.taken.now.items c.args.piece.now c.try_extend_from_slice-fits.new.self.items c.len-before.result k c.try_extend_from_slice-fits.result c.len-before.ensures.value c.min.ensures c.len-before.ensures.fits c.try_extend_from_slice-fits.ensures.variant c.try_extend_from_slice-fits.ensures.ok in
+    let stands = subst (λ (b : List ℕ). HeaderAtUnder c.args.versions c.args.order b c.in-Ok.head.0 c.in-Ok.head.1) (c.as_slice.ensures.value ∙ now) c.in-Ok.ensures.found in
+    omega (arith, c.len-before.ensures.value, c.size.ensures.size, header_past c.args.versions c.args.order c.args.taken.now.items c.args.piece.now k c.in-Ok.head.0 c.in-Ok.head.1 c.requires stands)
 
-pub returns-in_default-take_byte : goal.returns-in_default-take_byte
-returns-in_default-take_byte c =
-    let done = c.loop-byte.invariant.so_far in
-    let b : ℕ = c.in-Some.byte.now in
-    let rest : List ℕ = c.in-Some.rest.now in
-    let split : c.args.piece.now ≡ done.0 ++ b ∷ rest = done.1 ∙ ap (λ (x : List ℕ). done.0 ++ x) c.in-Some.ensures.cases.0 in
-    let count : length c.args.piece.now - length rest ≡ suc (length done.0) = omega (arith, ap length split, length-append done.0 (b ∷ rest)) in
-    let said = one_stops c.args.versions c.args.order c.args.taken.now.items done.0 rest b c.take_byte.new.taken.items c.take_byte.result c.in_default-take_byte.not-More
-    (subst (IsCut c.args.versions c.args.order) done.2 c.loop-byte.invariant.cut) (subst (λ (x : List ℕ). ShowsHead c.args.versions c.args.order (x ++ b ∷ []) c.take_byte.result) done.2 c.take_byte.ensures.shows) in
-    rw (split, subst (λ (x : List ℕ). length x - length rest ≡ suc (length done.0)) split count) said
+pub take_bytes-requires : goal.take_bytes-requires
+take_bytes-requires c =
+    let k : ℕ = c.min.result in
+    let now = all_fit c.args.taken.now.items c.args.piece.now c.try_extend_from_slice-fits.new.self.items c.len-before.result k c.try_extend_from_slice-fits.result c.len-before.ensures.value c.min.ensures c.len-before.ensures.fits c.try_extend_from_slice-fits.ensures.variant c.try_extend_from_slice-fits.ensures.ok in
+    let back = c.truncate.ensures.items ∙ ap (take c.len-before.result) now ∙ take_at c.args.taken.now.items (take k c.args.piece.now) c.len-before.result (sym c.len-before.ensures.value) in
+    subst (IsCut c.args.versions c.args.order) (sym back) c.requires
 
-pub returns : goal.returns
-returns c =
-    let done = c.loop-byte.invariant.so_far in
-    let all : done.0 ≡ c.args.piece.now = sym (done.1 ∙ ap (λ (x : List ℕ). done.0 ++ x) (none_left c.loop-byte.left.now c.in_default.ensures.cases) ∙ append-nil done.0) in
-    all_taken c.args.versions c.args.order c.args.taken.now.items c.args.piece.now c.loop-byte.taken.items (done.2 ∙ ap (λ (x : List ℕ). c.args.taken.now.items ++ x) all) c.loop-byte.invariant.cut
+pub returns-in-Ok : goal.returns-in-Ok
+returns-in-Ok c =
+    let k : ℕ = c.min.result in
+    let now = all_fit c.args.taken.now.items c.args.piece.now c.try_extend_from_slice-fits.new.self.items c.len-before.result k c.try_extend_from_slice-fits.result c.len-before.ensures.value c.min.ensures c.len-before.ensures.fits c.try_extend_from_slice-fits.ensures.variant c.try_extend_from_slice-fits.ensures.ok in
+    let stands = subst (λ (b : List ℕ). HeaderAtUnder c.args.versions c.args.order b c.in-Ok.head.0 c.in-Ok.head.1) (c.as_slice.ensures.value ∙ now) c.in-Ok.ensures.found in
+    rw (c.size.ensures.size, c.len-before.ensures.value) (header_taken c.args.versions c.args.order c.args.taken.now.items c.args.piece.now k c.in-Ok.head.0 c.in-Ok.head.1 c.requires stands c.try_extend_from_slice-fits.new.self.items)
+
+pub returns-in-More : goal.returns-in-More
+returns-in-More c =
+    let k : ℕ = c.min.result in
+    let now = all_fit c.args.taken.now.items c.args.piece.now c.try_extend_from_slice-fits.new.self.items c.len-before.result k c.try_extend_from_slice-fits.result c.len-before.ensures.value c.min.ensures c.len-before.ensures.fits c.try_extend_from_slice-fits.ensures.variant c.try_extend_from_slice-fits.ensures.ok in
+    let cut : IsCut c.args.versions c.args.order c.try_extend_from_slice-fits.new.self.items = (
+      c.in-Err.fault.offset,
+      subst (λ (b : List ℕ). HeaderBreaksUnder c.args.versions c.args.order b c.in-Err.fault.offset Truncated) c.as_slice.ensures.value
+          (subst (λ r. HeaderBreaksUnder c.args.versions c.args.order c.as_slice.result.now c.in-Err.fault.offset r) c.in-More.ensures c.in-Err.ensures.broken.1),
+    ) in
+    piece_taken c.args.versions c.args.order c.args.taken.now.items c.args.piece.now c.try_extend_from_slice-fits.new.self.items k (subst (λ (n : ℕ). k ≡ min (length c.args.piece.now) (40 - n)) c.len-before.ensures.value c.min.ensures) now cut
+
+pub returns-in_default : goal.returns-in_default
+returns-in_default c =
+    let k : ℕ = c.min.result in
+    let now = all_fit c.args.taken.now.items c.args.piece.now c.try_extend_from_slice-fits.new.self.items c.len-before.result k c.try_extend_from_slice-fits.result c.len-before.ensures.value c.min.ensures c.len-before.ensures.fits c.try_extend_from_slice-fits.ensures.variant c.try_extend_from_slice-fits.ensures.ok in
+    let back = c.truncate.ensures.items ∙ ap (take c.len-before.result) now ∙ take_at c.args.taken.now.items (take k c.args.piece.now) c.len-before.result (sym c.len-before.ensures.value) in
+    subst (λ (b : List ℕ). Answers c.args.versions c.args.order (Reading b) c.args.piece.now c.take_bytes.result.0 c.take_bytes.result.1 (state_of c.take_bytes.new.taken.items (ended c.take_bytes.result.1))) back c.take_bytes.ensures

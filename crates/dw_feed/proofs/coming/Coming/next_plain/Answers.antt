@@ -1,12 +1,11 @@
-use Rattle.std.proofs.Common.{◌≡◌, ℕ, List, length, take, Some, false, ap, subst, ◌∙◌, sym}
+use Rattle.std.proofs.Common.{◌≡◌, ℕ, List, length, take, Some, ap, subst, ◌∙◌, sym}
 use Rattle.std.specs.Prelude.{option_map}
 use Rattle.dw_leb.specs.View.{uleb_of}
 use Rattle.dw_leb.specs.Reader.{Found}
-use Rattle.dw_form.specs.Form.{Attribute}
 use Rattle.dw_abbrev.specs.PairView.{pair_of}
 use Rattle.dw_abbrev.specs.Table.{Pair}
 use Rattle.dw_tree.specs.Steps.{IsPlainNext, SpellsPlain}
-use Rattle.dw_unit.specs.Draft.{passes_limit, value_bytes}
+use Rattle.dw_unit.specs.Draft.{passes_limit}
 use Rattle.dw_feed.specs.BodyFeed.{PartialUnit}
 use Rattle.dw_feed.specs.BodyView.{drafted}
 use Rattle.dw_feed.specs.FeedInvariant.{context, left}

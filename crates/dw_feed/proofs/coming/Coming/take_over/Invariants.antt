@@ -3,7 +3,7 @@ use Rattle.std.specs.Prelude.{IfSome}
 use Rattle.dw_feed.specs.BodyFeed.{part}
 use Rattle.dw_feed.specs.FeedSteps.{At}
 use Rattle.dw_feed.specs.FieldSteps.{HasPart, Waits}
-use Rattle.dw_feed.proofs.Turns.{turns}
+use Rattle.dw_feed.specs.FieldTurns.{turns}
 use Rattle.dw_feed.proofs.coming.Coming.take_over.Given as goal
 
 abbrev pub invariant-loop-over : goal.invariant-loop-over

@@ -1,6 +1,6 @@
 use Rattle.std.proofs.Common.{◌≡◌, ◌++◌, ℕ, List, length}
 use Rattle.dw_feed.specs.HeaderCut.{IsCut}
-use Rattle.dw_feed.proofs.head.take_head.Given as goal
+use Rattle.dw_feed.proofs.head.take_bytes.Given as goal
 
 -- these bytes of the piece were taken, and the others are left
 abbrev pub invariant-loop-byte : goal.invariant-loop-byte
