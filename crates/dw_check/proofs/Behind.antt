@@ -1,10 +1,15 @@
 -- The findings of an entry, attribute by attribute; of a unit, entry by entry.
-use Rattle.std.proofs.Common.{◌≡◌, ℕ, suc, ◌+◌, Bool, List, [], ◌∷◌, ◌++◌, length, refl, sym, ap, ◌∙◌, arith, append_assoc, length-append}
+use Rattle.std.proofs.Common.{◌≡◌, ℕ, suc, ◌+◌, Bool, List, [], ◌∷◌, ◌++◌, length, refl, sym, ap, subst, ◌∙◌, arith, append_assoc, length-append}
+use Rattle.std.specs.Prelude.{◌==◌, Option, Some, None, true, false, is_some, if◌then◌else◌}
 use Rattle.std.proofs.lemmas.List.{append-nil}
+use Rattle.dw_form.specs.Form.{Value, at_number}
+use Rattle.dw_form.specs.Lent.{number_in, text_in}
+use Rattle.dw_section.specs.Reference.{ref_forms, named, named_if}
+use Rattle.dw_strings.specs.Text.{stored_forms, named_text, own_text, by_number, text_if_placed}
 use Rattle.dw_tree.specs.Lent.{LentAttribute, EntryAt, attributes_of}
 use Rattle.dw_check.specs.declared.finding.Finding.{Finding}
-use Rattle.dw_check.specs.Findings.{UnitIn, is_named_among, findings_at, findings_behind, entry_findings}
-use Rattle.dw_check.specs.Marks.{AreMarked}
+use Rattle.dw_check.specs.Findings.{UnitIn, is_named_among, is_unresolved, is_unreadable, findings_at, findings_behind, entry_findings}
+use Rattle.dw_check.specs.Marks.{AreMarked, IsPlain}
 
 -- what was found so far, and what is still to be found in the attributes that are left
 pub record FoundSoFar (u : UnitIn) (e : EntryAt) (old found : List Finding) (position : ℕ) (left : List LentAttribute) (marks all : List Bool) : Type 0 where
@@ -35,9 +40,52 @@ one_found u e old found new position a left m marks all h is =
 pub all_found : (u : UnitIn) (e : EntryAt) (old found : List Finding) (position : ℕ) (marks all : List Bool) → FoundSoFar u e old found position [] marks all → found ≡ old ++ entry_findings u e
 all_found u e old found position marks all h = sym (append-nil found) ∙ sym h.so_far
 
--- an attribute that is left has a mark
-pub some_mark : (u : UnitIn) (e : EntryAt) (old found : List Finding) (position : ℕ) (a : LentAttribute) (left : List LentAttribute) (all : List Bool) → FoundSoFar u e old found position (a ∷ left) [] all → ⊥
-some_mark u e old found position a left all h = h.marked
+-- the findings of the attribute that comes next, with the mark that comes next
+pub next_found : {u : UnitIn} {e : EntryAt} {old found new : List Finding} {position : ℕ} {a : LentAttribute} {attributes left : List LentAttribute} {m : Bool} {marks others all : List Bool}
+    → FoundSoFar u e old found position attributes marks all → attributes ≡ a ∷ left → marks ≡ m ∷ others → new ≡ found ++ findings_at u e (position + 1) a m → FoundSoFar u e old new (position + 1) left others all
+next_found {u} {e} {old} {found} {new} {position} {a} {attributes} {left} {m} {marks} {others} {all} h attribute mark is =
+    let there : FoundSoFar u e old found position (a ∷ left) marks all = subst (λ (xs : List LentAttribute). FoundSoFar u e old found position xs marks all) attribute h in
+    one_found u e old found new position a left m others all (subst (λ (ms : List Bool). FoundSoFar u e old found position (a ∷ left) ms all) mark there) is
+
+-- ---- what has no mark
+
+none_is : {X : Type 0} (o : Option X) → is_some o ≡ false → o ≡ None
+none_is None e = refl
+none_is (Some x) e = absurd cc
+
+-- a value of such a form is no reference
+no_reference : (u : UnitIn) (form : ℕ) (v : Value) → is_some (at_number form ref_forms) ≡ false → is_unresolved (named u.items u.number u.unit form v) ≡ false
+no_reference u form v other = by (number_in v)
+  where
+    by : (n : Option ℕ) → is_unresolved (named_if u.items u.number u.unit form n) ≡ false
+    by None = refl
+    by (Some n) = rw (none_is (at_number form ref_forms) other) refl
+
+-- a value of such a form is its own text, or none
+no_stored_text : (u : UnitIn) (form : ℕ) (v : Value) → is_some (at_number form stored_forms) ≡ false → is_unreadable (named_text u.strings u.unit form v) ≡ false
+no_stored_text u form v other = by (form == 0x08) (text_in v) (number_in v)
+  where
+    by : (own : Bool) (t : Option (List ℕ)) (n : Option ℕ) → is_unreadable (text_if_placed u.strings (if own then own_text t else by_number u.strings u.unit form n)) ≡ false
+    by true None n = refl
+    by true (Some t) n = refl
+    by false t None = refl
+    by false t (Some n) = rw (none_is (at_number form stored_forms) other) refl
+
+plain_at : (u : UnitIn) (e : EntryAt) (n : ℕ) (a : LentAttribute) → IsPlain a → findings_at u e n a false ≡ []
+plain_at u e n a h = rw (h.0, no_reference u a.form a.attr.value h.1.0, no_stored_text u a.form a.attr.value h.1.1) refl
+
+plain_behind : (u : UnitIn) (e : EntryAt) (before left : List LentAttribute) → AreMarked before left [] → findings_behind u e before left ≡ []
+plain_behind u e before [] h = refl
+plain_behind u e before (a ∷ left) h =
+    rw (h.1.0, plain_at u e (suc (length before)) a h.0) (plain_behind u e (before ++ a ∷ []) left h.1.1)
+
+-- the attributes that are left without a mark have no findings
+pub marks_end : (u : UnitIn) (e : EntryAt) (old found : List Finding) (position : ℕ) (left : List LentAttribute) (marks all : List Bool)
+    → FoundSoFar u e old found position left marks all → length marks ≡ 0 → found ≡ old ++ entry_findings u e
+marks_end u e old found position left [] all h none =
+    let rest : findings_behind u e h.before left ≡ [] = plain_behind u e h.before left h.marked in
+    sym (append-nil found) ∙ ap (λ (f : List Finding). found ++ f) (sym rest) ∙ sym h.so_far
+marks_end u e old found position left (m ∷ marks) all h none = absurd cc
 
 -- what stands behind findings, and what behind those
 pub regrouped : (old mid new a b : List Finding) → mid ≡ old ++ a → new ≡ mid ++ b → new ≡ old ++ (a ++ b)

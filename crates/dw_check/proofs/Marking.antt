@@ -1,19 +1,22 @@
--- Marks for pairs, and that they are those of the attributes.
+-- Marks for pairs, which of them are dropped, and that they are those of the attributes.
 use Rattle.std.proofs.Common.{◌≡◌, ℕ, ◌+◌, Bool, true, false, cond, not, ◌||◌, ◌<◌, suc, get_or, drop, drop-cons, eqb, List, [], ◌∷◌, ◌++◌, length, map, refl, sym, ap, ◌∙◌, append_assoc, inl, inr, subst, arith}
-use Rattle.std.specs.Prelude.{◌⊎◌}
+use Rattle.std.specs.Prelude.{◌⊎◌, ◌==◌, Option, Some, None, is_some}
 use Rattle.std.specs.List.{list_any}
 use Rattle.std.proofs.lemmas.Bool.{cases_eq, eq-eqb, ne_eqb}
 use Rattle.std.proofs.lemmas.List.{map-append, append-nil}
 use Rattle.dw_form.specs.declared.shape.Ctx.{Ctx}
-use Rattle.dw_form.specs.Form.{Attribute}
-use Rattle.dw_form.specs.Pieces.{spelling}
+use Rattle.dw_leb.specs.Number.{Unsigned, Signed}
+use Rattle.dw_form.specs.Form.{Attribute, attribute, by_indirection, at_number}
+use Rattle.dw_form.specs.Pieces.{form_in, spelling}
 use Rattle.dw_abbrev.specs.declared.pair.Pair.{Pair as ThePair}
 use Rattle.dw_abbrev.specs.PairView.{pair_of}
 use Rattle.dw_abbrev.specs.Table.{Pair, Table, declared}
-use Rattle.dw_tree.specs.Tree.{declared_pairs}
-use Rattle.dw_tree.specs.Lent.{LentAttribute, EntryAt, lent_attribute, lent_attributes, attributes_of, code_of, values_in}
+use Rattle.dw_tree.specs.Tree.{declared_pairs, values}
+use Rattle.dw_tree.specs.Lent.{LentAttribute, EntryAt, lent_attribute, lent_attributes, code_of, values_in}
 use Rattle.dw_check.specs.Findings.{is_named_among}
-use Rattle.dw_check.specs.Marks.{marks_behind, marks_of, AreMarked}
+use Rattle.dw_section.specs.Reference.{ref_forms}
+use Rattle.dw_strings.specs.Text.{stored_forms}
+use Rattle.dw_check.specs.Marks.{marks_behind, is_looked_at, AreMarksFor, IsPlain, AreMarked, MarksItsEntries}
 
 -- the pairs that are left, behind others whose names are kept
 pub record MarkedSoFar (has : ℕ → Bool) (marks : List Bool) (left all : List Pair) : Type 0 where
@@ -66,29 +69,77 @@ pairs_left ps i p lt e =
     let one : i + 1 ≡ suc i = omega arith in
     rw (one, drop-cons ps i p) (ap (λ (q : ThePair). pair_of q ∷ map pair_of (drop (suc i) ps)) (sym e))
 
+-- ---- what is dropped
+
+-- all marks are marks
+pub all_are_marks : (names : List ℕ) (ps : List Pair) → AreMarksFor names ps (marks_behind names ps)
+all_are_marks names [] = tt
+all_are_marks names (p ∷ ps) = (refl, all_are_marks (names ++ p.name.value ∷ []) ps)
+
+-- the last mark is dropped where its pair isn't looked at and has no earlier name
+pub last_dropped : (names : List ℕ) (ps : List ThePair) (marks : List Bool) (m : Bool) (p : ThePair) → AreMarksFor names (map pair_of ps) (marks ++ m ∷ []) → m ≡ false
+    → p ≡ get_or ps (length marks) p → is_looked_at p.name.value p.form.value ≡ false → AreMarksFor names (map pair_of ps) marks
+last_dropped names [] marks m p h unmarked there plain = tt
+last_dropped names (q ∷ ps) [] m p h unmarked there plain = (subst (λ (x : ThePair). is_looked_at x.name.value x.form.value ≡ false) there plain, (sym h.0 ∙ unmarked, h.1))
+last_dropped names (q ∷ ps) (x ∷ marks) m p h unmarked there plain = (h.0, last_dropped (names ++ q.name.value ∷ []) ps marks m p h.1 unmarked there plain)
+
 -- ---- attributes
 
 any_named : (n : ℕ) (before : List LentAttribute) → list_any (eqb n) (map (λ a. a.name) before) ≡ is_named_among n before
 any_named n [] = refl
 any_named n (a ∷ before) = ap (λ (b : Bool). eqb n a.name || b) (any_named n before)
 
-module _ (k : Ctx) where
-  marked_behind : (before : List LentAttribute) (names : List ℕ) (at : ℕ) (ps : List Pair) (vs : List Attribute) → names ≡ map (λ a. a.name) before → AreMarked before (lent_attributes k at ps vs) (marks_behind names ps)
-  marked_behind before names at [] vs same = tt
-  marked_behind before names at (p ∷ ps) [] same = tt
-  marked_behind before names at (p ∷ ps) (v ∷ vs) same = (
-    ap (list_any (eqb p.name.value)) same ∙ any_named p.name.value before,
-    marked_behind (before ++ lent_attribute at p v ∷ []) (names ++ p.name.value ∷ []) (at + length (spelling k p.form.value v)) ps vs
-        (ap (λ (ns : List ℕ). ns ++ p.name.value ∷ []) same ∙ sym (map-append (λ a. a.name) before (lent_attribute at p v ∷ []))),
-  )
+neither : (a b : Bool) → (a || b) ≡ false → (a ≡ false) × (b ≡ false)
+neither true b e = absurd cc
+neither false b e = (refl, e)
 
-  -- the marks of a declaration are those of the attributes that it declares
-  pub marked_all : (at : ℕ) (ps : List Pair) (vs : List Attribute) → AreMarked [] (lent_attributes k at ps vs) (marks_behind [] ps)
-  marked_all at ps vs = marked_behind [] [] at ps vs refl
+-- a value of another form than indirect is of the form that its declaration gives
+direct : (k : Ctx) (form : ℕ) (c : Option Signed) (a : Attribute) → (attribute k form c).Fits a → (form == 0x16) ≡ false → a.via ≡ None
+unfolding attribute
+direct k form c a fits e = by a.via (form == 0x16) e fits
+  where
+    by : (via : Option Unsigned) (b : Bool) → b ≡ false → (by_indirection k c form b).Fits (record { via = via; value = a.value }) → via ≡ None
+    by None b e fits = refl
+    by (Some u) true e fits = absurd cc
+    by (Some u) false e fits = absurd fits
+
+-- an attribute of a pair that isn't looked at is plain
+plain_of : (k : Ctx) (at : ℕ) (p : Pair) (v : Attribute) → (attribute k p.form.value p.constant).Fits v → is_looked_at p.name.value p.form.value ≡ false → IsPlain (lent_attribute at p v)
+plain_of k at p v fits plain =
+    let form = p.form.value in
+    let name = neither (eqb p.name.value 0x01) _ plain in
+    let indirect = neither (form == 0x16) _ name.1 in
+    let forms = neither (is_some (at_number form ref_forms)) _ indirect.1 in
+    let same : form ≡ form_in form v.via = ap (form_in form) (sym (direct k form p.constant v fits indirect.0)) in (
+      name.0,
+      (
+        subst (λ (f : ℕ). is_some (at_number f ref_forms) ≡ false) same forms.0,
+        subst (λ (f : ℕ). is_some (at_number f stored_forms) ≡ false) same forms.1,
+      ),
+    )
+
+module _ (k : Ctx) where
+  marked_behind : (before : List LentAttribute) (names : List ℕ) (at : ℕ) (ps : List Pair) (vs : List Attribute) (marks : List Bool) → names ≡ map (λ a. a.name) before → (values k ps).Fits vs
+      → AreMarksFor names ps marks → AreMarked before (lent_attributes k at ps vs) marks
+  marked_behind before names at [] vs marks same fits h = tt
+  marked_behind before names at (p ∷ ps) [] marks same fits h = tt
+  marked_behind before names at (p ∷ ps) (v ∷ vs) [] same fits h =
+      let a = lent_attribute at p v in
+      let name : list_any (eqb p.name.value) names ≡ is_named_among p.name.value before = ap (list_any (eqb p.name.value)) same ∙ any_named p.name.value before in
+      let more : names ++ p.name.value ∷ [] ≡ map (λ x. x.name) (before ++ a ∷ []) = ap (λ (ns : List ℕ). ns ++ p.name.value ∷ []) same ∙ sym (map-append (λ x. x.name) before (a ∷ [])) in (
+        plain_of k at p v fits.0 h.0,
+        (sym name ∙ h.1.0, marked_behind (before ++ a ∷ []) (names ++ p.name.value ∷ []) (at + length (spelling k p.form.value v)) ps vs [] more fits.1 h.1.1),
+      )
+  marked_behind before names at (p ∷ ps) (v ∷ vs) (m ∷ marks) same fits h =
+      let a = lent_attribute at p v in
+      let name : list_any (eqb p.name.value) names ≡ is_named_among p.name.value before = ap (list_any (eqb p.name.value)) same ∙ any_named p.name.value before in
+      let more : names ++ p.name.value ∷ [] ≡ map (λ x. x.name) (before ++ a ∷ []) = ap (λ (ns : List ℕ). ns ++ p.name.value ∷ []) same ∙ sym (map-append (λ x. x.name) before (a ∷ [])) in
+      (h.0 ∙ name, marked_behind (before ++ a ∷ []) (names ++ p.name.value ∷ []) (at + length (spelling k p.form.value v)) ps vs marks more fits.1 h.1)
 
 -- the marks of an entry's code, in the table that is the entry's
-pub marked_entry : (t : Table) (e : EntryAt) (marks : List Bool) → e.table ≡ t → marks ≡ marks_of t (code_of e.node).value → AreMarked [] (attributes_of e) marks
-marked_entry t e marks table is =
-    let same : marks ≡ marks_of e.table (code_of e.node).value = is ∙ ap (λ (s : Table). marks_of s (code_of e.node).value) (sym table) in
-    subst (λ (ms : List Bool). AreMarked [] (attributes_of e) ms) (sym same)
-    (marked_all e.context (e.offset + (code_of e.node).width) (declared_pairs (declared e.table (code_of e.node).value)) (values_in e.node))
+pub marked_entry : (t : Table) (e : EntryAt) (code : ℕ) → e.table ≡ t → (values e.context (declared_pairs (declared e.table (code_of e.node).value))).Fits (values_in e.node) → code ≡ (code_of e.node).value
+    → MarksItsEntries t code e
+marked_entry t e code table fits is marks are =
+    let coded = subst (λ (n : ℕ). AreMarksFor [] (declared_pairs (declared t n)) marks) is are in
+    let own = subst (λ (s : Table). AreMarksFor [] (declared_pairs (declared s (code_of e.node).value)) marks) (sym table) coded in
+    marked_behind e.context [] [] (e.offset + (code_of e.node).width) (declared_pairs (declared e.table (code_of e.node).value)) (values_in e.node) marks refl fits own

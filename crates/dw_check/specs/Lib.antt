@@ -3,3 +3,4 @@ pub mod Findings
 pub mod Kinds
 pub mod Marks
 pub mod Place
+pub mod Wrong

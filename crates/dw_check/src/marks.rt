@@ -1,15 +1,21 @@
-//! Which attributes of an entry have the name of an earlier one. Its declaration tells that, once for all entries of
-//! its code.
-ghost use Rattle.std.specs.Prelude.{◌≡◌, [], nat_eq, map, IfOk, IsSome, OnOk};
+//! Which attributes of an entry have the name of an earlier one, and which are to be looked at at all. Its declaration tells
+//! that, once for all entries of its code.
+ghost use Rattle.std.specs.Prelude.{◌≡◌, [], nat_eq, map, option_copied, IfOk, IfSome, IsSome, Some, OnOk};
 ghost use Rattle.indexmap.specs.IndexMap.{get};
 ghost use Rattle.dw_abbrev.specs.PairView.{pair_of};
-ghost use Rattle.dw_check.specs.Marks.{AreMarks, marks_behind, marks_of};
+ghost use Rattle.dw_abbrev.specs.Table.{declared};
+ghost use Rattle.dw_tree.specs.Tree.{declared_pairs};
+ghost use Rattle.dw_check.specs.Marks.{AreMarks, AreMarksFor, is_looked_at, marks_behind};
 
+use crate::attribute::{names_entry, names_text};
 use dw_abbrev::{Pair, Table};
+use dw_leb::constants::attribute::DW_AT_SIBLING;
+use dw_leb::constants::form::DW_FORM_INDIRECT;
 use indexmap::{IndexMap, IndexSet};
 use std::alloc::{AllocError, Global};
 
-/// A mark for each attribute of the entries of a code, by the code: whether an earlier one has its name.
+/// A mark for each attribute of the entries of a code, by the code: whether an earlier one has its name. Those at the end that can't
+/// have findings have no mark.
 pub(crate) type Marks = IndexMap<u64, Vec<bool>>;
 
 /// Keeps the marks of a code of this table, unless they are kept already.
@@ -23,7 +29,7 @@ pub(crate) fn mark(
     ensures are { AreMarks table.now kept.new.entries }
     ensures kept { OnOk result (IsSome (get nat_eq kept.new code)) }
 {
-    if kept.contains_key(&code) {
+    if kept_marks(kept, code).is_some() {
         return Ok(());
     }
     let marks = marks_of(alloc, table, code)?;
@@ -31,14 +37,68 @@ pub(crate) fn mark(
     Ok(())
 }
 
+/// The marks that are kept of a code.
+#[inline(always)]
+pub(crate) fn kept_marks(kept: &Marks, code: u64) -> Option<&Vec<bool>>
+    ensures { option_copied result ≡ get nat_eq kept.now code }
+{
+    match numbered(kept, code) {
+        Some(marks) => Some(marks),
+        None => kept.get(&code),
+    }
+}
+
+/// The marks that are kept of a code, where the codes that were kept before it are 1, 2 and so on: some compilers number the codes
+/// of a unit as its entries need them. They are found without a look-up by hash.
+#[inline(always)]
+fn numbered(kept: &Marks, code: u64) -> Option<&Vec<bool>>
+    ensures { IfSome result (λ marks. get nat_eq kept.now code ≡ Some marks.now) }
+{
+    let (key, marks) = kept.get_index(code.checked_sub(1)? as usize)?;
+    if *key == code { Some(marks) } else { None }
+}
+
 /// The marks of a code of this table.
 fn marks_of(alloc: Global, table: &Table, code: u64) -> Result<Vec<bool>, AllocError>
-    ensures { IfOk result (λ marks. marks.items ≡ marks_of table.now code) }
+    ensures { IfOk result (λ marks. AreMarksFor [] (declared_pairs (declared table.now code)) marks.items) }
 {
     match table.get(code) {
-        Some(declaration) => marks_in(alloc, declaration.pairs()),
+        Some(declaration) => {
+            let pairs = declaration.pairs();
+            let mut marks = marks_in(alloc, pairs)?;
+            drop_plain(&mut marks, pairs);
+            Ok(marks)
+        }
         None => Ok(Vec::new(alloc)),
     }
+}
+
+/// Drops the marks of the pairs at the end whose values have no findings: those that aren't looked at and have no earlier name.
+fn drop_plain(marks: &mut Vec<bool>, pairs: &[Pair])
+    requires { AreMarksFor [] (map pair_of pairs.now) marks.old.items }
+    ensures { AreMarksFor [] (map pair_of pairs.now) marks.new.items }
+{
+    while let Some((repeated, others)) = marks.split_last() {
+        let left = others.len();
+        let Some(pair) = pairs.get(left) else {
+            return;
+        };
+        if *repeated || is_looked_at(pair) {
+            return;
+        }
+        marks.truncate(left);
+    }
+}
+
+/// Whether values of a pair can have findings by themselves. What an indirect value is, only the value tells.
+fn is_looked_at(pair: &Pair) -> bool
+    ensures { result ≡ is_looked_at pair.now.name.value pair.now.form.value }
+{
+    let form = pair.form.value;
+    pair.name.value == DW_AT_SIBLING
+        || form == DW_FORM_INDIRECT
+        || names_entry(form)
+        || names_text(form)
 }
 
 /// A mark for each pair: whether an earlier one has its name.

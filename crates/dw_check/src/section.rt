@@ -4,16 +4,16 @@ ghost use Rattle.dw_section.specs.Lookup.{unit_at};
 ghost use Rattle.dw_strings.specs.TextView.{sections_of};
 ghost use Rattle.dw_tree.specs.Lent.{attributes_of};
 ghost use Rattle.dw_check.specs.Findings as definition;
-ghost use Rattle.dw_check.specs.Marks.{AreMarked};
+ghost use Rattle.dw_check.specs.Marks.{AreMarked, AreMarks, MarksItsEntries};
 ghost use Rattle.dw_check.specs.Place.{IsPlace, unit_in};
 
-use crate::attribute::check_attribute;
+use crate::attribute::{check_attribute, check_bare, check_number};
 use crate::ends::TextEnds;
 use crate::finding::Finding;
-use crate::marks::mark;
+use crate::marks::{Marks, kept_marks, mark};
 use crate::place::Place;
 use crate::root::check_root;
-use dw_section::{Item, Section};
+use dw_section::{Begins, Item, Section};
 use dw_strings::Strings;
 use dw_unit::EntryRef;
 use indexmap::IndexMap;
@@ -30,7 +30,8 @@ use std::alloc::{AllocError, Global};
 /// - attributes whose name an earlier one of the entry has (`RepeatedName`).
 ///
 /// What is in a supplementary file isn't looked up, and items that aren't read have no findings. The sections of texts
-/// are searched once, for their last zero bytes, and no text is. `AllocError` is answered where a growth was refused; there is none in a section without units.
+/// are searched once, for their last zero bytes, and no text is. `AllocError` is answered where a growth was
+/// refused, other than one that only makes the check faster; there is none in a section without units.
 pub fn check<'a>(
     alloc: Global,
     section: &'a Section,
@@ -43,19 +44,22 @@ pub fn check<'a>(
     let _size = section.size();
     let text_ends = TextEnds::of(strings);
     let mut found = Vec::new(alloc);
+    let mut begins = Begins::new(alloc);
     let mut number = 0;
     let mut start = 0;
     let mut left = section.items();
     while let Some((item, others)) = left.split_first() {
         match item {
             Item::Known(unit) => {
+                begins.learn(unit);
                 let place = Place {
-                    section,
-                    strings,
+                    section: &*section,
+                    strings: &*strings,
                     text_ends,
                     item: number,
                     start,
                     unit,
+                    begins: &begins,
                 };
                 check_unit(alloc, &mut found, &place)?;
             }
@@ -74,20 +78,44 @@ fn check_unit(alloc: Global, found: &mut Vec<Finding>, place: &Place<'_>) -> Res
     ensures { OnOk result (found.new.items ≡ found.old.items ++ definition.unit_findings (unit_in place.now)) }
 {
     check_root(found, place)?;
-    let table = place.unit.tree().table();
     let mut kept = IndexMap::new(alloc);
     for entry in place.unit.entries() {
         let code = entry.code().value;
-        mark(alloc, &mut kept, table, code)?;
-        match kept.get(&code) {
+        match kept_marks(&kept, code) {
             Some(marks) => check_entry(found, place, &entry, marks)?,
-            None => unreachable!(),
+            None => check_first(alloc, found, place, &mut kept, &entry, code)?,
         }
     }
     Ok(())
 }
 
-/// Adds the findings of an entry. `marks` says of each of its attributes whether an earlier one has its name.
+/// Adds the findings of an entry that is the first of its code in the unit. The marks of the code are kept for those that follow.
+#[inline(never)]
+fn check_first(
+    alloc: Global,
+    found: &mut Vec<Finding>,
+    place: &Place<'_>,
+    kept: &mut Marks,
+    entry: &EntryRef<'_>,
+    code: u64,
+) -> Result<(), AllocError>
+    requires place { IsPlace place.now }
+    requires near { place.now.start + entry.now.offset < 2 ^ 64 }
+    requires marked { MarksItsEntries place.now.unit.now.table code entry.now }
+    requires kept { AreMarks place.now.unit.now.table kept.old.entries }
+    ensures are { AreMarks place.now.unit.now.table kept.new.entries }
+    ensures found { OnOk result (found.new.items ≡ found.old.items ++ definition.entry_findings (unit_in place.now) entry.now) }
+{
+    mark(alloc, kept, place.unit.tree().table(), code)?;
+    match kept_marks(kept, code) {
+        Some(marks) => check_entry(found, place, entry, marks),
+        None => unreachable!(),
+    }
+}
+
+/// Adds the findings of an entry. `marks` says of each of its attributes whether an earlier one has its name; those behind the
+/// last mark have no findings. Nearly every value is a number or has no bytes: these are judged where it is known that they are.
+#[inline(always)]
 fn check_entry(
     found: &mut Vec<Finding>,
     place: &Place<'_>,
@@ -100,14 +128,25 @@ fn check_entry(
     ensures { OnOk result (found.new.items ≡ found.old.items ++ definition.entry_findings (unit_in place.now) entry.now) }
 {
     let mut position = 0;
+    let mut attributes = entry.attrs();
     let mut left = marks;
-    for attribute in entry.attrs() {
-        let Some((repeated, others)) = left.split_first() else {
-            unreachable!()
-        };
+    while let Some((repeated, others)) = left.split_first() {
         position += 1;
-        check_attribute(found, place, entry, position, &attribute, *repeated)?;
         left = others;
+        if let Some(number) = attributes.next_number() {
+            check_number(found, place, entry, position, &number, *repeated)?;
+            continue;
+        }
+        if let Some(bare) = attributes.next_bare() {
+            check_bare(found, place, entry, position, &bare, *repeated)?;
+            continue;
+        }
+        match attributes.next() {
+            Some(attribute) => check_attribute(
+                found, place, entry, position, &attribute, *repeated,
+            )?,
+            None => return Ok(()),
+        }
     }
     Ok(())
 }

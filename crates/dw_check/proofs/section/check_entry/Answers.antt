@@ -1,17 +1,23 @@
-use Rattle.std.proofs.Common.{List, Bool, ◌∷◌, subst}
-use Rattle.dw_tree.specs.Lent.{LentAttribute, attr_of}
+use Rattle.std.proofs.Common.{◌∙◌, refl, sym}
 use Rattle.dw_check.specs.Place.{unit_in}
-use Rattle.dw_check.proofs.Behind.{FoundSoFar, one_found}
+use Rattle.dw_check.proofs.Behind.{next_found, marks_end}
 use Rattle.dw_check.proofs.section.check_entry.Goals as goal
 
-pub loop-attribute-preserved : goal.loop-attribute-preserved
-loop-attribute-preserved c =
-    let u = unit_in c.args.place.now in
-    let e = c.args.entry.now in
-    let old = c.args.found.now.items in
-    let found = c.loop-attribute.found.items in
-    let position = c.loop-attribute.position in
-    let all = c.args.marks.now in
-    let left = subst (λ (xs : List LentAttribute). FoundSoFar u e old found position xs c.loop-attribute.left.now all) c.in-Some.ensures.steps c.loop-attribute.invariant in
-    let marks = subst (λ (ms : List Bool). FoundSoFar u e old found position (attr_of c.in-Some.attribute ∷ c.next.new.self) ms all) c.in-Some-split_first.ensures.cases.0 left in
-    one_found u e old found c.check_attribute.new.found.items position (attr_of c.in-Some.attribute) c.next.new.self c.in-Some-split_first.repeated.now c.in-Some-split_first.others.now all marks c.in_ok-check_attribute.ensures
+pub loop-repeated-preserved-in-Some-next_number : goal.loop-repeated-preserved-in-Some-next_number
+loop-repeated-preserved-in-Some-next_number c =
+    next_found c.loop-repeated.invariant c.in-Some-next_number.ensures.some c.in-Some.ensures.cases.0 c.in_ok-check_number.ensures
+
+pub loop-repeated-preserved-in-Some-next_bare : goal.loop-repeated-preserved-in-Some-next_bare
+loop-repeated-preserved-in-Some-next_bare c =
+    let first = sym (c.in_default-next_number.ensures.none refl) ∙ c.in-Some-next_bare.ensures.some in
+    next_found c.loop-repeated.invariant first c.in-Some.ensures.cases.0 c.in_ok-check_bare.ensures
+
+pub loop-repeated-preserved : goal.loop-repeated-preserved
+loop-repeated-preserved c =
+    let first = sym (c.in_default-next_number.ensures.none refl) ∙ sym (c.in_default-next_bare.ensures.none refl) ∙ c.in-Some-next.ensures.steps in
+    next_found c.loop-repeated.invariant first c.in-Some.ensures.cases.0 c.in_ok-check_attribute-in-Some-next.ensures
+
+pub returns : goal.returns
+returns c =
+    marks_end (unit_in c.args.place.now) c.args.entry.now c.args.found.now.items c.loop-repeated.found.items c.loop-repeated.position c.loop-repeated.attributes c.loop-repeated.left.now c.args.marks.now
+    c.loop-repeated.invariant c.in_default.ensures.cases
