@@ -1,12 +1,16 @@
 -- Taking one number and then another.
-use Rattle.std.proofs.Common.{◌≡◌, ◌≢◌, ◌+◌, ◌-◌, ◌≤◌, ◌<◌, ℕ, zero, suc, Bool, true, false, List, ◌∷◌, Some, None, refl, sym, ap, ◌∙◌, arith}
+use Rattle.std.proofs.Common.{◌≡◌, ◌≢◌, ◌+◌, ◌-◌, ◌≤◌, ◌<◌, ℕ, zero, suc, Bool, true, false, List, ◌∷◌, Option, Some, None, IfSome, refl, sym, ap, ◌∙◌, arith}
 use Rattle.std.specs.Prelude.{nat_le}
 use Rattle.std.proofs.lemmas.Bool.{leb-true, leb-false, le-leb, lt-leb, eq-eqb, ne_eqb}
+use Rattle.std.proofs.lemmas.Option.{IfSome_then}
 use Rattle.dw_tree.specs.Lent.{EntryAt}
 use Rattle.dw_section.specs.Item.{Item}
+use Rattle.dw_section.specs.Lookup.{entry}
+use Rattle.dw_section.specs.declared.id.EntryId.{EntryId}
 use Rattle.dw_ctype.specs.declared.typed.Typed.{Typed}
-use Rattle.dw_ctype.specs.Types.{tag}
-use Rattle.dw_ctype.specs.Visits.{less, visits, type_visits, parameter_visits}
+use Rattle.dw_ctype.specs.declared.typed.Typed.TheVariants.{Entry}
+use Rattle.dw_ctype.specs.Types.{tag, kind_of}
+use Rattle.dw_ctype.specs.Visits.{less, visits, type_visits, entry_visits, kind_visits, parameter_visits}
 
 pub less_in : (n left : ℕ) → n ≤ left → less n left ≡ Some (left - n)
 less_in n left h = rw (le-leb n left h) refl
@@ -71,3 +75,16 @@ module _ (one : EntryAt → ℕ) (e : EntryAt) (es all : List EntryAt) (steps : 
 
   pub parameter_passed : tag e ≢ 5 → parameter_visits one all ≡ parameter_visits one es
   parameter_passed h = ap (parameter_visits one) steps ∙ rw (ne_eqb (tag e) 5 h) refl
+
+-- ---- at most so many steps
+
+-- of an entry that a type is: one, and those of what it names
+pub entry_visits_next : (items : List Item) (depth : ℕ) (t : Typed) (id : EntryId) (e : EntryAt) → 0 < depth → t ≡ Entry id → entry items id ≡ Some e
+    → visits items depth t ≡ 1 + kind_visits (visits items (depth - 1)) items id.item e (kind_of e)
+entry_visits_next items depth t id e deep is there =
+    let one = visits items (depth - 1) in
+    visits_next items depth t deep ∙ ap (λ (k : ℕ). 1 + k) (ap (type_visits one items) is ∙ ap (entry_visits one items id.item) there)
+
+-- one step is taken, and then those of what the entry names
+pub steps_taken : (n more left rest : ℕ) (r : Option ℕ) → n ≡ 1 + more → left ≡ 1 + rest → IfSome r (λ last. more + last ≤ rest) → IfSome r (λ last. n + last ≤ left)
+steps_taken n more left rest r is sum h = IfSome_then r h (λ last le. omega (arith, is, sum, le))

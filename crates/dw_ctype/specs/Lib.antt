@@ -1,5 +1,6 @@
 pub mod Answer
 pub mod Append
+pub mod Chain
 pub mod Ended
 pub mod InOrder
 pub mod Names

@@ -78,20 +78,28 @@ fn left_of_entry<'a>(
         (source_of section.now strings.now) item entry.now (kind_there entry.now) empty) result }
     ensures cut { IfOk result (λ cut. cut ≡ there.kind_cut (there.cut section.now.items depth) section.now.items item entry.now (kind_there entry.now)) }
 {
-    let typed = type_of(section, item, entry);
     match kind_of(entry) {
         Kind::Named => left_of_name(name_of(section, strings, item, entry), empty, out),
         Kind::Tagged(keyword) => {
             left_of_tagged(keyword, name_of(section, strings, item, entry), empty, out)
         }
-        Kind::Marked(mark) => left_of_marked(section, strings, typed, depth, mark, out),
-        Kind::Qualified(qualifier) => match under(section, item, entry, MOST_STEPS) {
-            Some(Kind::Marked(Mark::Pointer)) => {
-                left_and_word(section, strings, typed, depth, qualifier.text(), empty, out)
+        Kind::Marked(mark) => {
+            let typed = type_of(section, item, entry);
+            left_of_marked(section, strings, typed, depth, mark, out)
+        }
+        Kind::Qualified(qualifier) => {
+            let typed = type_of(section, item, entry);
+            match under(section, item, entry, MOST_STEPS) {
+                Some(Kind::Marked(Mark::Pointer)) => {
+                    left_and_word(section, strings, typed, depth, qualifier.text(), empty, out)
+                }
+                _ => word_and_left(section, strings, typed, depth, qualifier.text(), empty, out),
             }
-            _ => word_and_left(section, strings, typed, depth, qualifier.text(), empty, out),
-        },
-        Kind::Array | Kind::Function => left(section, strings, typed, depth, false, out),
+        }
+        Kind::Array | Kind::Function => {
+            let typed = type_of(section, item, entry);
+            left(section, strings, typed, depth, false, out)
+        }
         Kind::Other => left_of_word(b"<tag>", empty, out),
     }
 }
@@ -164,7 +172,7 @@ fn word_and_left<'a>(
 }
 
 /// The same for a type that is written as this word.
-fn left_of_word(word: &[u8], empty: bool, out: &mut Vec<u8>) -> Result<bool, AllocError>
+pub(crate) fn left_of_word(word: &[u8], empty: bool, out: &mut Vec<u8>) -> Result<bool, AllocError>
     ensures text { Puts out.old out.new (there.word_before word.now empty) result }
     ensures cut { IfOk result (λ cut. cut ≡ false) }
 {
@@ -173,7 +181,11 @@ fn left_of_word(word: &[u8], empty: bool, out: &mut Vec<u8>) -> Result<bool, All
 }
 
 /// The same for a type that is written by its name.
-fn left_of_name(name: Option<&[u8]>, empty: bool, out: &mut Vec<u8>) -> Result<bool, AllocError>
+pub(crate) fn left_of_name(
+    name: Option<&[u8]>,
+    empty: bool,
+    out: &mut Vec<u8>,
+) -> Result<bool, AllocError>
     ensures text { Puts out.old out.new (there.word_before (unwrap_or (option_map (λ text. text.now) name.entry) (codes "<noname>")) empty) result }
     ensures cut { IfOk result (λ cut. cut ≡ false) }
 {
@@ -184,7 +196,7 @@ fn left_of_name(name: Option<&[u8]>, empty: bool, out: &mut Vec<u8>) -> Result<b
 }
 
 /// The same for a type that is written by a keyword and its name.
-fn left_of_tagged(
+pub(crate) fn left_of_tagged(
     keyword: Keyword,
     name: Option<&[u8]>,
     empty: bool,

@@ -2,6 +2,7 @@
 #![tactic(auto)]
 
 mod append;
+mod chain;
 mod dimension;
 mod ended;
 mod fault;
@@ -9,6 +10,7 @@ mod kind;
 mod left;
 mod parts;
 mod right;
+mod steps;
 mod text;
 mod typed;
 mod visits;

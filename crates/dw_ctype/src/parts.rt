@@ -49,15 +49,22 @@ impl<'a> Model for Kept<'a> {
 }
 
 impl<'a> Kept<'a> {
+    /// The parts of no entry. No memory is taken.
+    pub(crate) fn nothing(alloc: Global, section: &'a Section) -> Kept<'a>
+        ensures { result ≡ section.now }
+    {
+        Kept {
+            section,
+            parts: IndexMap::new(alloc),
+        }
+    }
+
     /// The parts of the entries that the text of a type goes on to, down to so many levels, each looked up once. Where a
     /// growth is refused it ends, and the others are not kept.
     pub(crate) fn gather(alloc: Global, section: &'a Section, typed: Typed, levels: u8) -> Kept<'a>
         ensures { result ≡ section.now }
     {
-        let mut kept = Kept {
-            section,
-            parts: IndexMap::new(alloc),
-        };
+        let mut kept = Kept::nothing(alloc, section);
         let _ = kept.keep_levels(alloc, typed, levels);
         kept
     }
@@ -66,6 +73,9 @@ impl<'a> Kept<'a> {
     pub(crate) fn parts(&self, id: EntryId) -> Option<&Parts<'a>>
         ensures { IfSome result (λ p. ArePartsOf self.now.items id.item (entry self.now.items id) p.now) }
     {
+        if self.parts.is_empty() {
+            return None;
+        }
         self.parts.get(&id)
     }
 

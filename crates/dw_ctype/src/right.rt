@@ -9,6 +9,7 @@ ghost use Rattle.dw_ctype.specs.Types as definition;
 ghost use Rattle.dw_ctype.specs.View.{source_of};
 
 use crate::append::{push, push_if};
+use crate::chain::say_chain;
 use crate::dimension::push_dimensions;
 use crate::kind::Kind;
 use crate::left::left;
@@ -85,13 +86,16 @@ fn right_of_entry<'a>(
         (there.right (source_of section.now strings.now) depth) (definition.say (source_of section.now strings.now) depth)
         (source_of section.now strings.now) id.item entry.now (definition.kind_of entry.now)) result }
 {
+    let kind = kind_of(entry);
+    if let Kind::Named | Kind::Tagged(_) | Kind::Other = kind {
+        return Ok(());
+    }
     let typed = type_of(section, id.item, entry);
-    match kind_of(entry) {
-        Kind::Named | Kind::Tagged(_) | Kind::Other => return Ok(()),
+    match kind {
         Kind::Marked(_) => push_if(is_bracketed(section, typed), b")", out)?,
-        Kind::Qualified(_) => {}
         Kind::Array => push_dimensions(kept, id, entry, out)?,
         Kind::Function => push_parameters(section, strings, kept, id, entry, depth, out)?,
+        _ => {}
     }
     right(section, strings, kept, typed, depth, out)
 }
@@ -234,15 +238,8 @@ fn push_parameter<'a>(
     match child.tag() {
         DW_TAG_FORMAL_PARAMETER => {
             push_if(some, b", ", out)?;
-            say(
-                section,
-                strings,
-                kept,
-                type_of(section, item, child),
-                depth,
-                b"",
-                out,
-            )?;
+            let typed = type_of(section, item, child);
+            say_alone(section, strings, kept, typed, depth, out)?;
             Ok(true)
         }
         DW_TAG_UNSPECIFIED_PARAMETERS => {
@@ -252,6 +249,28 @@ fn push_parameter<'a>(
         }
         _ => Ok(some),
     }
+}
+
+/// Appends the text of a type and no declarator. That of a parameter most often is a chain too.
+#[cycle(say)]
+fn say_alone<'a>(
+    section: &'a Section,
+    strings: &Strings<'a>,
+    kept: &Kept<'a>,
+    typed: Typed,
+    depth: u8,
+    out: &mut Vec<u8>,
+) -> Result<(), AllocError>
+    requires { kept.now ≡ section.now }
+    ensures { Puts out.old out.new (definition.say (source_of section.now strings.now) depth typed []) result }
+{
+    if depth == 0 {
+        return say(section, strings, kept, typed, depth, b"", out);
+    }
+    if say_chain(section, strings, typed, depth, b"", out)? {
+        return say(section, strings, kept, typed, depth, b"", out);
+    }
+    Ok(())
 }
 
 /// Appends what stands for no parameters of a function that is prototyped or not, unless there are some.

@@ -5,7 +5,7 @@ use Rattle.dw_ctype.specs.InOrder.{cut, is_parameter, parameter_text, right, to_
 use Rattle.dw_ctype.specs.Parts.{ArePartsOf}
 use Rattle.dw_ctype.specs.Types.{Source, first, is_prototyped, joined, parameter_texts, say, type_of}
 use Rattle.dw_ctype.specs.View.{source_of}
-use Rattle.dw_ctype.proofs.Appending.{reaches_last, reaches_more, reaches_stopped, puts_after, puts_as, puts_stopped, puts_text}
+use Rattle.dw_ctype.proofs.Appending.{reaches_last, reaches_more, reaches_stopped, puts_after, puts_as, puts_passed, puts_stopped, puts_text}
 use Rattle.dw_ctype.proofs.Gathered.{come_split, kept_texts, none_left, one_left}
 use Rattle.dw_ctype.proofs.Levels.{right_of, said, said_cut, said_whole}
 use Rattle.dw_ctype.proofs.right.+say.Goals as goal
@@ -76,3 +76,6 @@ pub push_parameters_of-returns : goal.push_parameters_of-returns
 push_parameters_of-returns t c =
     let text : EntryAt → List ℕ = λ p. say (source_of c.args.section.now c.args.strings.now) c.args.depth (type_of c.args.section.now.items c.args.item p) [] in
     reaches_last (ap (λ (l : List EntryAt). to_come c.args.prototyped c.loop-entry.some (parameter_texts text l)) (none_left c.args.shown.now c.loop-entry.entry-index c.loop-entry-test.false)) c.loop-entry.invariant c.push_unless.ensures
+
+pub say_alone-returns-in_err-say_chain : goal.say_alone-returns-in_err-say_chain
+say_alone-returns-in_err-say_chain t c = puts_passed c.from_residual.result c.from_residual.ensures.1 c.in_err-say_chain.ensures.1
