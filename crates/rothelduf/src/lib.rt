@@ -29,7 +29,7 @@
 //! `constants` has the numbers of the standard by name.
 #![tactic(auto)]
 
-pub use dw_abbrev::{Decl, Pair, Table, TableBuilder, TableRefusal, Tables};
+pub use dw_abbrev::{Decl, FixedPrefix, Pair, Table, TableBuilder, TableRefusal, Tables};
 pub use dw_check::{Finding, FindingKind, check};
 pub use dw_ctype::{TypeError, type_text};
 pub use dw_feed::{
