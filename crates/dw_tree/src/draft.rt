@@ -505,17 +505,18 @@ fn append_few(list: &mut Vec<u8>, bytes: &[u8]) -> Result<(), AllocError>
 /// As many bytes as most entries have at most, which are moved at once.
 const AT_ONCE: usize = 32;
 
-/// Appends the first `size` bytes. Where there are few of them and enough behind them, more are moved at once, and cut off.
+/// Appends the first `size` bytes. Where there are few of them, and enough behind them and in the list, more are moved at
+/// once, and cut off.
 #[inline(always)]
 fn append_front(list: &mut Vec<u8>, bytes: &[u8], size: usize) -> Result<(), AllocError>
     requires { size ≤ length bytes.now }
     ensures items { OnOk result (list.new.items ≡ list.old.items ++ take size bytes.now) }
     ensures err { OnErr result (list.new.items ≡ list.old.items) }
 {
-    if size > AT_ONCE || bytes.len() < AT_ONCE {
+    let before = list.len();
+    if size > AT_ONCE || bytes.len() < AT_ONCE || list.capacity() < before + AT_ONCE {
         return list.extend_from_slice(&bytes[..size]);
     }
-    let before = list.len();
     list.extend_from_slice(&bytes[..AT_ONCE])?;
     list.truncate(before + size);
     Ok(())
