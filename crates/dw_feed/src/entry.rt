@@ -154,7 +154,25 @@ impl Coming {
 
     /// Below an open entry, takes the values of the unfinished one that stand whole at the front of `b`, one
     /// behind the other, up to the first that doesn't. The result is what is left of `b`.
+    #[inline(always)]
     fn values<'a>(&mut self, table: &Table, b: &'a [u8]) -> &'a [u8]
+        requires over { table.now ≡ self.old.table }
+        requires stands { Keeps self.old }
+        requires has { HasPart self.old }
+        requires none_kept { NoneKept self.old }
+        requires between { partial_in self.old.place.unfinished ≡ None }
+        ensures { TakesOn self.old b.now self.new result.now }
+    {
+        // Most entries have all their values by now.
+        if self.draft.is_unfinished() {
+            self.each_value(table, b)
+        } else {
+            b
+        }
+    }
+
+    /// The same, where there may be some.
+    fn each_value<'a>(&mut self, table: &Table, b: &'a [u8]) -> &'a [u8]
         requires over { table.now ≡ self.old.table }
         requires stands { Keeps self.old }
         requires has { HasPart self.old }

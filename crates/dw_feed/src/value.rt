@@ -112,7 +112,7 @@ pub(crate) fn is_short(context: Ctx, pair: &Pair, b: &[u8], lim: u64) -> bool
 }
 
 /// The first values of an entry: how many they are, and how many bytes they have in all.
-#[derive(Clone, Copy, Debug)]
+#[derive(Clone, Copy)]
 pub(crate) struct FirstValues {
     pub(crate) count: usize,
     pub(crate) size: usize,
