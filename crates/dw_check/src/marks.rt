@@ -1,6 +1,6 @@
 //! Which attributes of an entry have the name of an earlier one, and which are to be looked at at all. Its declaration tells
 //! that, once for all entries of its code.
-ghost use Rattle.std.specs.Prelude.{◌≡◌, [], nat_eq, map, option_copied, IfOk, IfSome, IsSome, Some, OnOk};
+ghost use Rattle.std.specs.Prelude.{◌≡◌, [], nat_eq, map, option_copied, IfOk, IfSome, IsSome, None, Some, OnOk};
 ghost use Rattle.indexmap.specs.IndexMap.{get};
 ghost use Rattle.dw_abbrev.specs.PairView.{pair_of};
 ghost use Rattle.dw_abbrev.specs.Table.{declared};
@@ -18,20 +18,18 @@ use std::alloc::{AllocError, Global};
 /// have findings have no mark.
 pub(crate) type Marks = IndexMap<u64, Vec<bool>>;
 
-/// Keeps the marks of a code of this table, unless they are kept already.
+/// Keeps the marks of a code of this table, of which none are kept.
 pub(crate) fn mark(
     alloc: Global,
     kept: &mut Marks,
     table: &Table,
     code: u64,
 ) -> Result<(), AllocError>
-    requires { AreMarks table.now kept.old.entries }
+    requires are { AreMarks table.now kept.old.entries }
+    requires absent { get nat_eq kept.old code ≡ None }
     ensures are { AreMarks table.now kept.new.entries }
     ensures kept { OnOk result (IsSome (get nat_eq kept.new code)) }
 {
-    if kept_marks(kept, code).is_some() {
-        return Ok(());
-    }
     let marks = marks_of(alloc, table, code)?;
     kept.insert(code, marks)?;
     Ok(())

@@ -1,5 +1,7 @@
 //! The findings of a section, of its units and of their entries.
-ghost use Rattle.std.specs.Prelude.{◌≡◌, ◌+◌, ◌<◌, ◌^◌, ◌++◌, [], ℕ, IfOk, IsSome, OnErr, OnOk};
+ghost use Rattle.std.specs.Prelude.{◌≡◌, ◌+◌, ◌<◌, ◌^◌, ◌++◌, [], ℕ, nat_eq, None, IfOk, IsSome, OnErr, OnOk};
+ghost use Rattle.indexmap.specs.IndexMap.{get};
+ghost use Rattle.dw_section.specs.Begins.{AreBegins};
 ghost use Rattle.dw_section.specs.Lookup.{unit_at};
 ghost use Rattle.dw_strings.specs.TextView.{sections_of};
 ghost use Rattle.dw_tree.specs.Lent.{attributes_of};
@@ -15,7 +17,7 @@ use crate::place::Place;
 use crate::root::check_root;
 use dw_section::{Begins, Item, Section};
 use dw_strings::Strings;
-use dw_unit::EntryRef;
+use dw_unit::{EntryRef, Unit};
 use indexmap::IndexMap;
 use std::alloc::{AllocError, Global};
 
@@ -51,7 +53,7 @@ pub fn check<'a>(
     while let Some((item, others)) = left.split_first() {
         match item {
             Item::Known(unit) => {
-                begins.learn(unit);
+                learn(alloc, &mut begins, unit);
                 let place = Place {
                     section: &*section,
                     strings: &*strings,
@@ -70,6 +72,18 @@ pub fn check<'a>(
         left = others;
     }
     Ok(found)
+}
+
+/// Learns where the entries of the unit begin, unless they are so few that their places would cost more than they save: a
+/// unit with a large block or text, or with much padding.
+fn learn(alloc: Global, begins: &mut Begins, unit: &Unit)
+    ensures { AreBegins unit.now begins.new }
+{
+    if unit.size() / 64 <= unit.tree().row_count() as u64 {
+        begins.learn(unit);
+    } else {
+        *begins = Begins::new(alloc);
+    }
 }
 
 /// Adds the findings of a unit.
@@ -103,6 +117,7 @@ fn check_first(
     requires near { place.now.start + entry.now.offset < 2 ^ 64 }
     requires marked { MarksItsEntries place.now.unit.now.table code entry.now }
     requires kept { AreMarks place.now.unit.now.table kept.old.entries }
+    requires absent { get nat_eq kept.old code ≡ None }
     ensures are { AreMarks place.now.unit.now.table kept.new.entries }
     ensures found { OnOk result (found.new.items ≡ found.old.items ++ definition.entry_findings (unit_in place.now) entry.now) }
 {

@@ -253,6 +253,7 @@ fn push_parameter<'a>(
 
 /// Appends the text of a type and no declarator. That of a parameter most often is a chain too.
 #[cycle(say)]
+#[inline(always)]
 fn say_alone<'a>(
     section: &'a Section,
     strings: &Strings<'a>,

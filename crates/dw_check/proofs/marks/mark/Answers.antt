@@ -1,6 +1,5 @@
-use Rattle.std.proofs.Common.{◌≡◌, ◌∙◌, [], Bool, None, eqb, nat_eq, Vec, rules}
+use Rattle.std.proofs.Common.{◌≡◌, ◌∙◌, [], Bool, eqb, Vec}
 use Rattle.std.specs.declared.alloc.Global.{Global}
-use Rattle.indexmap.specs.IndexMap.{get}
 use Rattle.indexmap.proofs.CallerLemmas.{insert_entry-new}
 use Rattle.dw_abbrev.specs.Table.{declared}
 use Rattle.dw_tree.specs.Tree.{declared_pairs}
@@ -10,6 +9,5 @@ use Rattle.dw_check.proofs.marks.mark.Goals as goal
 
 pub returns-clause-are : goal.returns-clause-are
 returns-clause-are c =
-    let absent : get nat_eq c.args.kept.now c.args.code ≡ None = search rules in
-    rw (c.in_ok-insert.ensures.entries ∙ insert_entry-new eqb c.args.kept.now c.args.code c.in_ok-marks.marks absent)
-    (kept_more {X = Vec Bool Global} (λ v. v.items) (λ code marks. AreMarksFor [] (declared_pairs (declared c.args.table.now code)) marks) c.args.kept.now.entries c.args.code c.in_ok-marks.marks c.requires c.in_ok-marks.ensures)
+    rw (c.in_ok-insert.ensures.entries ∙ insert_entry-new eqb c.args.kept.now c.args.code c.in_ok-marks.marks c.requires.absent)
+    (kept_more {X = Vec Bool Global} (λ v. v.items) (λ code marks. AreMarksFor [] (declared_pairs (declared c.args.table.now code)) marks) c.args.kept.now.entries c.args.code c.in_ok-marks.marks c.requires.are c.in_ok-marks.ensures)
