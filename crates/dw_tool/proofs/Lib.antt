@@ -2,6 +2,7 @@ pub mod Appending
 mod Digits
 pub mod Placed
 pub mod Pieces
+pub mod LabelTables
 pub mod Finding
 pub mod Named
 mod Buffered
