@@ -2,7 +2,6 @@ pub mod Appending
 mod Digits
 pub mod Placed
 pub mod Pieces
-pub mod LabelTables
 pub mod Finding
 pub mod Named
 mod Buffered

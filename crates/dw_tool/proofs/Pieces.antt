@@ -1,9 +1,10 @@
 -- The pieces in which the text of an entry is appended are its lines.
-use Rattle.std.proofs.Common.{◌≡◌, ◌∙◌, ℕ, ◌+◌, ◌-◌, List, [], ◌∷◌, ◌++◌, Option, Some, None, option_map, unwrap_or, codes, refl, sym, ap, append_assoc}
+use Rattle.std.proofs.Common.{◌≡◌, ◌∙◌, ℕ, ◌+◌, ◌-◌, List, [], ◌∷◌, ◌++◌, Option, Some, None, option_map, unwrap_or, codes, refl, sym, ap, append_assoc, arith, length, take}
+use Rattle.std.proofs.lemmas.List.{length-append, take_at}
 use Rattle.dw_tree.specs.Lent.{LentAttribute, EntryAt}
 use Rattle.dw_section.specs.Item.{Item}
 use Rattle.dw_strings.specs.Text.{StringSections}
-use Rattle.dw_tool.specs.Pieces.{depth_text, entry_head, next_attribute, next_attributes}
+use Rattle.dw_tool.specs.Pieces.{depth_text, entry_head, next_attribute, next_attributes, padding}
 use Rattle.dw_tool.specs.Show.{attribute_lines, entry_line, placed_value, tag_at}
 use Rattle.dw_tool.specs.Text.{attribute_text, labelled, labelled_decimal, tag_text}
 
@@ -14,10 +15,17 @@ pub label_is : (f : List ℕ → List ℕ) (o : Option (List ℕ)) (other label 
 label_is f None other label e = absurd cc
 label_is f (Some name) other label e = let same : label ≡ f name = cc in same
 
+-- it is that name's without the padding
+pub unpadded : (f : List ℕ → List ℕ) (o : Option (List ℕ)) (other label : List ℕ) → Some label ≡ option_map (λ name. f name ++ padding) o → take (length label - 24) label ≡ f (unwrap_or o other)
+unpadded f o other label e =
+    let own : List ℕ = f (unwrap_or o other) in
+    let size : length own ≡ length (own ++ padding) - 24 = omega (arith, length-append own padding) in
+    ap (λ (t : List ℕ). take (length t - 24) t) (label_is (λ name. f name ++ padding) o other label e) ∙ take_at own padding (length (own ++ padding) - 24) size
+
 -- without a label there is no name
-pub no_label : (f : List ℕ → List ℕ) (o : Option (List ℕ)) (other : List ℕ) → None ≡ option_map f o → f other ≡ f (unwrap_or o other)
-no_label f None other e = refl
-no_label f (Some name) other e = absurd cc
+pub no_label : (f g : List ℕ → List ℕ) (o : Option (List ℕ)) (other : List ℕ) → None ≡ option_map f o → g other ≡ g (unwrap_or o other)
+no_label f g None other e = refl
+no_label f g (Some name) other e = absurd cc
 
 -- the name before its value
 pub name_before : (attribute : ℕ) (value : List ℕ) → (codes "\n  " ++ (attribute_text attribute ++ codes " ")) ++ value ≡ codes "\n  " ++ (attribute_text attribute ++ (codes " " ++ value))

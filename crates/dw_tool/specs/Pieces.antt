@@ -7,6 +7,10 @@ use Rattle.dw_strings.specs.Text.{StringSections}
 use Rattle.dw_tool.specs.Show.{placed_value, tag_at}
 use Rattle.dw_tool.specs.Text.{attribute_text, labelled, labelled_decimal, tag_text}
 
+-- what is behind a label, and isn't written
+abbrev pub padding : List ℕ
+padding = codes "                        "
+
 -- a tag of this name in the line of its entry
 abbrev pub tag_label : List ℕ → List ℕ
 tag_label name = codes " DW_TAG_" ++ name

@@ -7,7 +7,6 @@ mod entries;
 pub mod failure;
 mod find;
 mod findings;
-mod labels;
 pub mod names;
 pub mod output;
 pub mod run;

@@ -6,7 +6,7 @@ ghost use Rattle.dw_tool.specs.Output.{Puts, IsClear};
 ghost use Rattle.dw_tool.specs.Pieces.{attribute_label, depth_text};
 ghost use Rattle.dw_tool.specs.Text.{attribute_text, block, each, eight_digits, escaped, four_digits, hexadecimal, labelled, labelled_decimal, quoted, spaced_digits, tag_text, two_digits};
 
-use crate::labels::{Label, attribute_label, tag_label};
+use crate::names::{PADDING, attribute_label, tag_label};
 use crate::output::Output;
 use dw_leb::WriteError;
 use itoa::Buffer;
@@ -188,14 +188,16 @@ fn push_great_depth<W: Write>(out: &mut Output<'_, W>, depth: u64) -> Result<(),
     out.append(b"> ")
 }
 
-// Appends a label.
+// Appends a label without the padding behind it.
 #[inline(always)]
-fn push_label<W: Write>(out: &mut Output<'_, W>, label: &Label) -> Result<(), WriteError>
+fn push_label<W: Write>(out: &mut Output<'_, W>, label: &str) -> Result<(), WriteError>
     requires clear { IsClear out.old }
-    requires short { label.now.size ≤ 31 }
-    ensures { Puts W.contents out.old out.new (take label.now.size label.now.text) result }
+    requires long { 32 ≤ length label.now }
+    requires short { length label.now ≤ 56 }
+    ensures { Puts W.contents out.old out.new (take (length label.now - 24) label.now) result }
 {
-    out.append_front(&label.text, label.size as usize)
+    let bytes = label.as_bytes();
+    out.append_front(&bytes[..32], bytes.len() - PADDING)
 }
 
 /// Appends a space, and the tag as `DW_TAG_` and its name, or its number where it has no name.
