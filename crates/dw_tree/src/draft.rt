@@ -192,7 +192,8 @@ impl TreeDraft {
             pool: self.pool.len(),
         };
         self.here += code.width as u64 + size as u64;
-        self.unfinished = settle(&mut self.rows, &mut self.nested, unfinished);
+        let left = settle(&mut self.rows, &mut self.nested, unfinished);
+        leave(&mut self.unfinished, left);
         Ok(())
     }
 
@@ -542,6 +543,18 @@ fn count_value(rows: &mut Vec<Row>, nested: &mut Vec<usize>, unfinished: &mut Op
         if entry.given == count {
             *unfinished = settle(rows, nested, *entry);
         }
+    }
+}
+
+/// What is left of an entry stands as the unfinished one, where there was none. Of most entries nothing is, and then nothing
+/// is stored.
+#[inline(always)]
+fn leave(unfinished: &mut Option<Unfinished>, left: Option<Unfinished>)
+    requires { unfinished.old ≡ None }
+    ensures { unfinished.new ≡ left }
+{
+    if left.is_some() {
+        *unfinished = left;
     }
 }
 

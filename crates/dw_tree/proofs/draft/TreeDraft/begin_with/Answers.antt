@@ -1,4 +1,4 @@
-use Rattle.std.proofs.Common.{◌≡◌, ℕ, ◌+◌, ◌<◌, ◌^◌, None, Some, Option, [], length, take, refl, sym, ap, subst, ◌∙◌, arith, vec_len}
+use Rattle.std.proofs.Common.{◌≡◌, ℕ, ◌+◌, ◌<◌, ◌^◌, None, Some, IsSome, Option, [], length, take, refl, sym, ap, subst, ◌∙◌, arith, vec_len}
 use Rattle.std.proofs.lemmas.List.{length-map, length-take-le}
 use Rattle.std.proofs.lemmas.Bool.{ne_eqb}
 use Rattle.dw_leb.specs.DecideNumber.{uleb_fits}
@@ -17,8 +17,8 @@ use Rattle.dw_tree.proofs.Limits.{few_open}
 use Rattle.dw_tree.proofs.Begins.{idle_is, partial_none, given_is, view_free, place_given, ends_here, draft_of, settled_room}
 use Rattle.dw_tree.proofs.draft.TreeDraft.begin_with.Goals as goal
 
-pub settle-self-inside-requires-clause-level : goal.settle-self-inside-requires-clause-level
-settle-self-inside-requires-clause-level c = omega (arith, few_open c.self.inside.nested.items c.self.invariant.given.lists.deep, c.self.inside.nested.ok.0, c.reserve-2.ensures.len)
+pub settle-left-requires-clause-level : goal.settle-left-requires-clause-level
+settle-left-requires-clause-level c = omega (arith, few_open c.self.inside.nested.items c.self.invariant.given.lists.deep, c.self.inside.nested.ok.0, c.reserve-2.ensures.len)
 
 pub invariant_of-self-2 : goal.invariant_of-self-2
 invariant_of-self-2 c =
@@ -30,7 +30,7 @@ invariant_of-self-2 c =
     let k = a.context in
     let t = a.table.value in
     let l : AreLists k t a.start a.rows.items a.heads.items a.pool.items a.nested.items None a.here g.tokens g.values = subst (λ (o : Option Unfinished). AreLists k t a.start a.rows.items a.heads.items a.pool.items a.nested.items o a.here g.tokens g.values) idle g.lists in
-    let q = c.settle-self-inside in
+    let q = c.settle-left in
     let d = c.args.decl.now in
     let r : Unfinished = record { code = c.args.code; offset = a.here; first = c.len-first.result; given = c.args.count; count = length c.pairs.result.now; children = c.has_children.result; pool = c.len.result } in
     let known : declared t c.args.code.value ≡ Some d = ap (λ (v : Growing). declared v.table c.args.code.value) c.self.view_is ∙ c.requires.known in
@@ -43,14 +43,14 @@ invariant_of-self-2 c =
     let m = vec_len c.reserve.new.self in
     let s = begun_with k t a.start a.rows.items a.heads.items a.pool.items a.nested.items a.here g.tokens g.values l r d known (sym c.has_children.ensures) count refl (c.len-first.ensures ∙ a.heads.ok.0) (c.len.ensures ∙ a.pool.ok.0)
     (uleb_fits (uleb_of c.args.code) c.args.code.fits) (ne_eqb c.args.code.value 0 (omega (arith, c.requires.some))) level c.requires.spelled.0 bytes plain (sym c.requires.spelled.1)
-    q.new.rows.items q.new.nested.items q.result c.append_front.new.list.items n m (a.here + (c.args.code.width + c.args.size)) c.in_ok-append_front.ensures.items (omega (arith, size)) (c.reserve.ensures.len ∙ a.rows.ok.0) (ap (λ (i : ℕ). i + 1) (c.reserve-2.ensures.len ∙ a.nested.ok.0))
-    (q.ensures.rows ∙ ap (settled_rows r n) c.reserve.ensures.items) (q.ensures.nested ∙ ap (settled_open r m) c.reserve-2.ensures.items) q.ensures.unfinished in
+    q.new.rows.items q.new.nested.items c.leave.new.unfinished c.append_front.new.list.items n m (a.here + (c.args.code.width + c.args.size)) c.in_ok-append_front.ensures.items (omega (arith, size)) (c.reserve.ensures.len ∙ a.rows.ok.0) (ap (λ (i : ℕ). i + 1) (c.reserve-2.ensures.len ∙ a.nested.ok.0))
+    (q.ensures.rows ∙ ap (settled_rows r n) c.reserve.ensures.items) (q.ensures.nested ∙ ap (settled_open r m) c.reserve-2.ensures.items) (c.leave.ensures ∙ q.ensures.unfinished) in
     draft_of _ free (record {
       context_fits = g.context_fits;
       tokens = s.tokens;
       values = s.values;
       lists = s.lists;
-      room = settled_room q.result _ _ _ _ q.ensures.room q.ensures.open_room;
+      room = settled_room c.leave.new.unfinished _ _ _ _ (λ some. q.ensures.room (subst IsSome c.leave.ensures some)) (λ some. q.ensures.open_room (subst IsSome c.leave.ensures some));
       near = omega (arith, subst (λ (w : Growing). end_of w + (c.args.code.width + c.args.size) < 2 ^ 63) (sym c.self.view_is) c.requires.near, ends_here a c.self.invariant);
     })
 
@@ -64,7 +64,7 @@ returns-clause-ok c vs many plain0 =
     let k = a.context in
     let t = a.table.value in
     let l : AreLists k t a.start a.rows.items a.heads.items a.pool.items a.nested.items None a.here g.tokens g.values = subst (λ (o : Option Unfinished). AreLists k t a.start a.rows.items a.heads.items a.pool.items a.nested.items o a.here g.tokens g.values) idle g.lists in
-    let q = c.settle-self-inside in
+    let q = c.settle-left in
     let d = c.args.decl.now in
     let r : Unfinished = record { code = c.args.code; offset = a.here; first = c.len-first.result; given = c.args.count; count = length c.pairs.result.now; children = c.has_children.result; pool = c.len.result } in
     let known : declared t c.args.code.value ≡ Some d = ap (λ (v : Growing). declared v.table c.args.code.value) c.self.view_is ∙ c.requires.known in
@@ -77,10 +77,10 @@ returns-clause-ok c vs many plain0 =
     let m = vec_len c.reserve.new.self in
     let s = begun_with k t a.start a.rows.items a.heads.items a.pool.items a.nested.items a.here g.tokens g.values l r d known (sym c.has_children.ensures) count refl (c.len-first.ensures ∙ a.heads.ok.0) (c.len.ensures ∙ a.pool.ok.0)
     (uleb_fits (uleb_of c.args.code) c.args.code.fits) (ne_eqb c.args.code.value 0 (omega (arith, c.requires.some))) level vs bytes plain (sym many)
-    q.new.rows.items q.new.nested.items q.result c.append_front.new.list.items n m (a.here + (c.args.code.width + c.args.size)) c.in_ok-append_front.ensures.items (omega (arith, size)) (c.reserve.ensures.len ∙ a.rows.ok.0) (ap (λ (i : ℕ). i + 1) (c.reserve-2.ensures.len ∙ a.nested.ok.0))
-    (q.ensures.rows ∙ ap (settled_rows r n) c.reserve.ensures.items) (q.ensures.nested ∙ ap (settled_open r m) c.reserve-2.ensures.items) q.ensures.unfinished in
+    q.new.rows.items q.new.nested.items c.leave.new.unfinished c.append_front.new.list.items n m (a.here + (c.args.code.width + c.args.size)) c.in_ok-append_front.ensures.items (omega (arith, size)) (c.reserve.ensures.len ∙ a.rows.ok.0) (ap (λ (i : ℕ). i + 1) (c.reserve-2.ensures.len ∙ a.nested.ok.0))
+    (q.ensures.rows ∙ ap (settled_rows r n) c.reserve.ensures.items) (q.ensures.nested ∙ ap (settled_open r m) c.reserve-2.ensures.items) (c.leave.ensures ∙ q.ensures.unfinished) in
     let build : Place → Growing = λ p. record { context = k; table = t; start = a.start; place = p } in
-    ap build (sym (place_given a.partial k t q.new.rows.items c.append_front.new.list.items a.pool.items q.result free))
-    ∙ (ap build (place_stood k t a.start q.new.rows.items c.append_front.new.list.items a.pool.items q.new.nested.items q.result (a.here + (c.args.code.width + c.args.size)) _ s)
+    ap build (sym (place_given a.partial k t q.new.rows.items c.append_front.new.list.items a.pool.items c.leave.new.unfinished free))
+    ∙ (ap build (place_stood k t a.start q.new.rows.items c.append_front.new.list.items a.pool.items q.new.nested.items c.leave.new.unfinished (a.here + (c.args.code.width + c.args.size)) _ s)
     ∙ (sym (values_settle k t a.start (spot_after g.tokens) (uleb_of c.args.code) d known vs [] (omega (arith, plain_few k d.pairs vs bytes plain)))
     ∙ ap (λ (w : Growing). with_values vs (begun_at (uleb_of c.args.code) w)) view))
