@@ -7,6 +7,7 @@ mod draft;
 mod entry;
 mod find;
 mod gather;
+mod hints;
 mod preorder;
 mod put;
 mod row;

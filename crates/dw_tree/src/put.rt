@@ -31,7 +31,8 @@ impl EntryTree {
         ensures size { length ((part self.new.context self.new.table (nesting - 1)).spell self.new.root) ≡ length ((part self.old.context self.old.table (nesting - 1)).spell self.old.root) }
         ensures offsets { map (λ (e : EntryAt). e.offset) (entries_of self.new) ≡ map (λ (e : EntryAt). e.offset) (entries_of self.old) }
     {
-        let row = match row_at(&self.rows, offset) {
+        let first = self.hints.first(offset.wrapping_sub(self.start));
+        let row = match row_at(&self.rows, first, offset) {
             Some(at) => self.rows[at],
             None => unreachable!(),
         };

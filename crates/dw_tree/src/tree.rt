@@ -5,6 +5,7 @@ ghost use Rattle.dw_tree.specs.Row.{rows_of};
 ghost use Rattle.dw_tree.specs.PoolBytes.{held};
 ghost use Rattle.dw_tree.specs.RowHeads.{rows_heads};
 
+use crate::hints::Hints;
 use crate::row::Row;
 use dw_abbrev::Table;
 use dw_form::Ctx;
@@ -21,6 +22,7 @@ pub struct EntryTree {
     pub(crate) start: u64,
     pub(crate) end: u64,
     pub(crate) rows: Vec<Row>,
+    pub(crate) hints: Hints,
     /// The heads of all values, in their order: what of each one's spelling is no content, and what
     /// finds the content.
     pub(crate) heads: Vec<u8>,
