@@ -17,7 +17,7 @@ ghost use Rattle.dw_tree.specs.declared.row.RowKind.TheVariants.{Null};
 ghost use Rattle.dw_tree.specs.Completed.{one_given, row_with, settled_rows, settled_open, settled_unfinished};
 ghost use Rattle.dw_tree.specs.Steps.{begun_at, with_value, partial_in, partial_attribute, started, extended, ended, closed_at, undone, end_of, NextFits, IsPlainNext, SpellsPlain, ArePlain, SpellsFirst, with_values, next_bytes, next_front, next_pair, next_pairs, finished};
 
-use crate::hints::Hints;
+use crate::hints::Noted;
 use crate::row::{PartialValue, Row, RowKind, Unfinished};
 use crate::tree::EntryTree;
 use dw_abbrev::{Decl, Pair, Table};
@@ -40,7 +40,7 @@ pub struct TreeDraft {
     /// Where the next byte stands.
     here: u64,
     rows: Vec<Row>,
-    hints: Hints,
+    hints: Noted,
     /// The heads of the values that were given, and the bytes of their texts and blocks.
     heads: Vec<u8>,
     pool: Vec<u8>,
@@ -81,7 +81,7 @@ impl TreeDraft {
             heads: Vec::new(alloc),
             pool: Vec::new(alloc),
             nested: Vec::new(alloc),
-            hints: Hints::new(alloc),
+            hints: Noted::new(alloc),
             unfinished: None,
             partial: None,
         }
@@ -423,7 +423,7 @@ impl TreeDraft {
             start,
             end: here,
             rows,
-            hints,
+            hints: hints.finish(),
             heads,
             pool,
         }

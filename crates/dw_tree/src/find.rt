@@ -26,7 +26,7 @@ impl EntryTree {
 }
 
 /// The row that begins exactly at an offset. With `first` the search may begin.
-pub(crate) fn row_at(rows: &[Row], first: usize, offset: u64) -> Option<usize>
+pub(crate) fn row_at(rows: &[Row], first: Option<usize>, offset: u64) -> Option<usize>
     requires { OffsetsGrow rows.now }
     ensures inside { IfSome result (λ i. i < length rows.now) }
     ensures found { IfSome result (λ i. (d : Row) → (slice_index_or rows.now i d).offset ≡ offset) }
@@ -42,7 +42,7 @@ pub(crate) fn row_at(rows: &[Row], first: usize, offset: u64) -> Option<usize>
 
 /// How many rows begin before an offset. With `first` the search may begin.
 #[inline(always)]
-fn rows_before(rows: &[Row], first: usize, offset: u64) -> usize
+fn rows_before(rows: &[Row], first: Option<usize>, offset: u64) -> usize
     requires { OffsetsGrow rows.now }
     ensures bound { result ≤ length rows.now }
     ensures point { IsPartitionPoint (λ r. nat_lt r.offset offset ≡ true) (λ r. nat_lt r.offset offset ≡ false) rows.now result }
@@ -58,11 +58,12 @@ const NEAR: usize = 64;
 
 /// How many rows begin before an offset, where these are at least `first`, and few more.
 #[inline(always)]
-fn rows_from(rows: &[Row], first: usize, offset: u64) -> Option<usize>
+fn rows_from(rows: &[Row], first: Option<usize>, offset: u64) -> Option<usize>
     requires { OffsetsGrow rows.now }
     ensures bound { IfSome result (λ at. at ≤ length rows.now) }
     ensures point { IfSome result (IsPartitionPoint (λ r. nat_lt r.offset offset ≡ true) (λ r. nat_lt r.offset offset ≡ false) rows.now) }
 {
+    let first = first?;
     if first >= rows.len() || !begin_before(rows, first, offset) {
         return None;
     }
@@ -83,7 +84,7 @@ fn begin_before(rows: &[Row], first: usize, offset: u64) -> bool
     ensures { IsTrue result → Before rows.now offset first }
 {
     if first == 0 {
-        return true;
+        return false;
     }
     rows[first - 1].offset < offset
 }
