@@ -2,7 +2,7 @@
 use crate::bytes::{between, put, put_word, word_at};
 use crate::corpus::Corpus;
 use crate::parts::{Change, Part};
-use crate::random::Random;
+use crate::random::{Random, shuffle};
 use std::alloc::{AllocError, Global};
 
 /// Where a header has the offset of its table.
@@ -147,7 +147,7 @@ fn starts_of(
     Ok(starts)
 }
 
-/// The numbers below a count, in an order that is drawn (Fisher and Yates, 1938).
+/// The numbers below a count, in an order that is drawn.
 fn shuffled(alloc: Global, count: usize, random: &mut Random) -> Result<Vec<usize>, AllocError> {
     let mut order = Vec::new(alloc);
     for number in 0..count {
@@ -155,11 +155,4 @@ fn shuffled(alloc: Global, count: usize, random: &mut Random) -> Result<Vec<usiz
     }
     shuffle(order.as_mut_slice(), random);
     Ok(order)
-}
-
-fn shuffle(order: &mut [usize], random: &mut Random) {
-    for at in 0..order.len() {
-        let other = random.below(at + 1);
-        order.swap(at, other);
-    }
 }

@@ -28,6 +28,8 @@ pub(crate) fn units(
 ) -> Result<(), JobError> {
     let mut abbrev = Vec::new(alloc);
     let info = info_of(alloc, count, &mut abbrev, random, digest)?;
+    digest.add_bytes(info.as_slice());
+    digest.add_bytes(abbrev.as_slice());
     let none = Strings {
         str: &[],
         line_str: &[],

@@ -77,12 +77,7 @@ fn act_on(
     digest: &mut Digest,
 ) -> Result<(), JobError> {
     match job {
-        "copy" => {
-            run_over(rt, "gcc", Command::Copy, size, random, digest)?;
-            run_over(rt, "clang", Command::Copy, size, random, digest)?;
-            run_over(rt, "dwz", Command::Copy, size, random, digest)?;
-            run_over(rt, "gcc", Command::Copy, size, random, digest)
-        }
+        "copy" => copy(rt, size, random, digest),
         "check" => {
             run_over(rt, "gcc", Command::Check, size, random, digest)?;
             run_over(rt, "clang", Command::Check, size, random, digest)
@@ -92,14 +87,41 @@ fn act_on(
             run_over(rt, "clang", Command::Show, size, random, digest)
         }
         "questions" => {
-            run_over(rt, "gcc", Command::Find(b"push_back"), size, random, digest)?;
-            ask(rt, "gcc", size, random, digest)?;
-            ask(rt, "clang", size, random, digest)
+            find_and_ask(rt, size, random, digest)?;
+            let corpus = Corpus::read(rt, "clang")?;
+            questions::of_corpus(rt.alloc(), &corpus, size, random, digest)
         }
         "pieces" => push(rt, size, random, digest),
         "made" => make(rt, size, random, digest),
         _ => Err(JobError::Usage),
     }
+}
+
+/// Sections of the units in each folder are copied.
+fn copy(
+    rt: &(impl AllocGlobal + Files),
+    size: usize,
+    random: &mut Random,
+    digest: &mut Digest,
+) -> Result<(), JobError> {
+    let corpus = Corpus::read(rt, "gcc")?;
+    whole::of_corpus(rt.alloc(), &corpus, Command::Copy, size, random, digest)?;
+    run_over(rt, "clang", Command::Copy, size, random, digest)?;
+    run_over(rt, "dwz", Command::Copy, size, random, digest)?;
+    whole::of_corpus(rt.alloc(), &corpus, Command::Copy, size, random, digest)
+}
+
+/// The entries of a name, and questions about the entries of another section of the same units.
+fn find_and_ask(
+    rt: &(impl AllocGlobal + Files),
+    size: usize,
+    random: &mut Random,
+    digest: &mut Digest,
+) -> Result<(), JobError> {
+    let corpus = Corpus::read(rt, "gcc")?;
+    let name = Command::Find(b"push_back");
+    whole::of_corpus(rt.alloc(), &corpus, name, size, random, digest)?;
+    questions::of_corpus(rt.alloc(), &corpus, size, random, digest)
 }
 
 /// A command over a section of the units in a folder.
@@ -113,18 +135,6 @@ fn run_over(
 ) -> Result<(), JobError> {
     let corpus = Corpus::read(rt, folder)?;
     whole::of_corpus(rt.alloc(), &corpus, command, size, random, digest)
-}
-
-/// Questions about the entries of a section of the units in a folder.
-fn ask(
-    rt: &(impl AllocGlobal + Files),
-    folder: &str,
-    size: usize,
-    random: &mut Random,
-    digest: &mut Digest,
-) -> Result<(), JobError> {
-    let corpus = Corpus::read(rt, folder)?;
-    questions::of_corpus(rt.alloc(), &corpus, size, random, digest)
 }
 
 /// Units that come in pieces.

@@ -50,11 +50,18 @@ fn each_unit(
             .saturating_add(4)
             .min(left.len());
         let unit = pushed(alloc, &mut tables, &left[..size], SIZES[number % 32])?;
-        digest.add_number(unit.size());
-        digest.add_number(unit.tree().row_count() as u64);
+        add_unit(&unit, digest);
         left = between(left, size, left.len());
     }
     Ok(())
+}
+
+/// What was read: how many bytes and rows it has, and its values with their texts.
+fn add_unit(unit: &Unit, digest: &mut Digest) {
+    digest.add_number(unit.size());
+    digest.add_number(unit.tree().row_count() as u64);
+    digest.add_bytes(unit.tree().heads());
+    digest.add_bytes(unit.tree().content());
 }
 
 /// The unit that these bytes are, in pieces of so many.

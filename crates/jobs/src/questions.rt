@@ -7,7 +7,7 @@ use crate::corpus::Corpus;
 use crate::digest::Digest;
 use crate::error::JobError;
 use crate::joined::Joined;
-use crate::random::Random;
+use crate::random::{Random, shuffle};
 use rothelduf::constants::attribute::{
     DW_AT_ABSTRACT_ORIGIN, DW_AT_LINKAGE_NAME, DW_AT_NAME, DW_AT_SPECIFICATION, DW_AT_TYPE,
 };
@@ -15,7 +15,7 @@ use rothelduf::constants::tag::{
     DW_TAG_FORMAL_PARAMETER, DW_TAG_MEMBER, DW_TAG_SUBPROGRAM, DW_TAG_TYPEDEF, DW_TAG_VARIABLE,
 };
 use rothelduf::{
-    EntryId, EntryRef, Order, Section, Strings, Tables, Watched, read_section, type_text,
+    EntryId, EntryRef, Order, Section, Strings, Tables, TypeError, Watched, read_section, type_text,
 };
 use std::alloc::{AllocError, Global};
 
@@ -39,7 +39,8 @@ pub(crate) fn of_corpus(
     };
     let mut offsets = Vec::new(alloc);
     asked.each_unit(&mut offsets, digest)?;
-    find_each(&section, offsets.as_slice(), random, digest);
+    shuffle(offsets.as_mut_slice(), random);
+    find_each(&section, offsets.as_slice(), digest);
     Ok(())
 }
 
@@ -99,8 +100,8 @@ impl<'a> Asked<'a> {
         for name in [DW_AT_TYPE, DW_AT_ABSTRACT_ORIGIN, DW_AT_SPECIFICATION] {
             if let Some(attribute) = entry.attr(name) {
                 match self.section.resolve(id, &attribute) {
-                    Ok(target) => digest.add_number(target.offset ^ target.item as u64),
-                    Err(_) => digest.add_number(name),
+                    Ok(target) => add_id(target, digest),
+                    Err(fault) => digest.add_number(name + fault as u64 * 0x1_0000),
                 }
             }
         }
@@ -113,7 +114,7 @@ impl<'a> Asked<'a> {
             if let Some(attribute) = entry.attr(name) {
                 match self.strings.text(self.section, id, &attribute) {
                     Ok(text) => digest.add_bytes(text),
-                    Err(_) => digest.add_number(name),
+                    Err(fault) => digest.add_number(name + fault as u64 * 0x1_0000),
                 }
             }
         }
@@ -125,7 +126,7 @@ impl<'a> Asked<'a> {
             return;
         }
         let answer = type_text(self.alloc, self.section, self.strings, id, b"x", text);
-        digest.add_number(u64::from(answer.is_ok()));
+        digest.add_number(number_of(answer));
         digest.add_bytes(text.as_slice());
         text.clear();
     }
@@ -143,14 +144,27 @@ fn is_typed(tag: u64) -> bool {
     )
 }
 
-/// Looks up as many offsets as there are here, each drawn out of these.
-fn find_each(section: &Section, offsets: &[u64], random: &mut Random, digest: &mut Digest) {
-    for _ in 0..offsets.len() {
-        let at = random.below(offsets.len());
-        if let Some(id) = section.find(offsets[at]) {
+/// 0 where there is a text, else the number of the error.
+fn number_of(answer: Result<(), TypeError>) -> u64 {
+    match answer {
+        Ok(()) => 0,
+        Err(error) => error as u64,
+    }
+}
+
+/// Looks up what is at each of these offsets.
+fn find_each(section: &Section, offsets: &[u64], digest: &mut Digest) {
+    for offset in offsets {
+        if let Some(id) = section.find(*offset) {
+            add_id(id, digest);
             digest.add_number(tag_of(section, id));
         }
     }
+}
+
+fn add_id(id: EntryId, digest: &mut Digest) {
+    digest.add_number(id.item as u64);
+    digest.add_number(id.offset);
 }
 
 fn tag_of(section: &Section, id: EntryId) -> u64 {

@@ -32,3 +32,11 @@ impl Random {
         (self.number() % 256) as u8
     }
 }
+
+/// Puts these into an order that is drawn (Fisher and Yates, 1938).
+pub(crate) fn shuffle<T: Copy>(order: &mut [T], random: &mut Random) {
+    for at in 0..order.len() {
+        let other = random.below(at + 1);
+        order.swap(at, other);
+    }
+}
