@@ -41,7 +41,7 @@ impl Debug for Hints {
 }
 
 /// The hints of a tree under construction.
-#[derive(Debug, Drop)]
+#[derive(Drop)]
 pub(crate) struct Noted {
     hints: Hints,
     /// How many bytes behind the first one the entry begins that makes more hints.
@@ -86,5 +86,12 @@ impl Noted {
     /// Those of the whole tree.
     pub(crate) fn finish(self) -> Hints {
         self.hints
+    }
+}
+
+/// What is due depends on memory too, so they are printed as those of a whole tree.
+impl Debug for Noted {
+    fn fmt<W: fmt::Write>(&self, f: &mut Formatter<W>) -> fmt::Result {
+        self.hints.fmt(f)
     }
 }
