@@ -39,9 +39,8 @@ const FEW_STEPS: u8 = 32;
 /// the text is made, so that each visit needn't look for it; where it has no memory the answer is the same.
 ///
 /// Errors: `NoEntry` exactly where no entry begins at the id; `TypeTooBig` exactly where there is one, and its
-/// text needs more than 1,024 visits of types (they are counted before anything is appended); `NoMemory` only
-/// where there is a text, and the vector has no room for it and isn't given more. After an error the vector
-/// has the bytes that it had.
+/// text needs more than 1,024 visits of types; `NoMemory` only where there is a text, and the vector has no room
+/// for it and isn't given more. After an error the vector has the bytes that it had.
 pub fn type_text<'a>(
     alloc: Global,
     section: &'a Section,
