@@ -53,8 +53,8 @@ fn rows_before(rows: &[Row], first: Option<usize>, offset: u64) -> usize
     }
 }
 
-/// How many rows are looked at one by one.
-const NEAR: usize = 64;
+/// How many rows are looked at one by one: as many as may begin in the 64 bytes of a hint, and the one that it names.
+const NEAR: usize = 65;
 
 /// How many rows begin before an offset, where these are at least `first`, and few more.
 #[inline(always)]
@@ -76,7 +76,7 @@ fn rows_from(rows: &[Row], first: Option<usize>, offset: u64) -> Option<usize>
     None
 }
 
-/// Whether the rows before this one begin before an offset.
+/// Whether the rows before this one begin before an offset; false for the first row.
 #[inline(always)]
 fn begin_before(rows: &[Row], first: usize, offset: u64) -> bool
     requires grow { OffsetsGrow rows.now }

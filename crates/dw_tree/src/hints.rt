@@ -15,8 +15,8 @@ const FIRST: u64 = 1024;
 const SOME: usize = 64;
 
 /// For each 64 bytes of a tree, but for the first, the row of the last entry that begins in the 64 before them: from there on a
-/// search for an entry in them may begin. 0, the root's row, stands where there is none. What a hint says is tested before it is
-/// used: a wrong one only costs time.
+/// search for an entry in them may begin. 0, the root's row, stands where there is none or none was noted. What a hint says is
+/// tested before it is used: a wrong one only costs time.
 #[derive(Drop)]
 pub(crate) struct Hints {
     rows: Vec<u32>,
