@@ -187,7 +187,11 @@ fn take_head(
     let front = &piece[..piece.len().min(MOST - before)];
     let _fits = taken.try_extend_from_slice(front);
     match read_header_as(order, versions, taken.as_slice()) {
-        Ok(head) => (head.0.size() as usize - before, Progress::Done(head)),
+        Ok(head) => {
+            let size = head.0.size() as usize;
+            taken.truncate(size);
+            (size - before, Progress::Done(head))
+        }
         Err(fault) => match judged(fault) {
             Progress::More => (piece.len(), Progress::More),
             _ => {

@@ -14,13 +14,13 @@ overflow_sub-result c =
     let k : ℕ = c.min.result in
     let now = all_fit c.args.taken.now.items c.args.piece.now c.try_extend_from_slice-fits.new.self.items c.len-before.result k c.try_extend_from_slice-fits.result c.len-before.ensures.value c.min.ensures c.len-before.ensures.fits c.try_extend_from_slice-fits.ensures.variant c.try_extend_from_slice-fits.ensures.ok in
     let stands = subst (λ (b : List ℕ). HeaderAtUnder c.args.versions c.args.order b c.in-Ok.head.0 c.in-Ok.head.1) (c.as_slice.ensures.value ∙ now) c.in-Ok.ensures.found in
-    omega (arith, c.len-before.ensures.value, c.size.ensures.size, header_past c.args.versions c.args.order c.args.taken.now.items c.args.piece.now k c.in-Ok.head.0 c.in-Ok.head.1 c.requires stands)
+    omega (arith, c.len-before.ensures.value, c.size-size.ensures.size, header_past c.args.versions c.args.order c.args.taken.now.items c.args.piece.now k c.in-Ok.head.0 c.in-Ok.head.1 c.requires stands)
 
 pub take_bytes-requires : goal.take_bytes-requires
 take_bytes-requires c =
     let k : ℕ = c.min.result in
     let now = all_fit c.args.taken.now.items c.args.piece.now c.try_extend_from_slice-fits.new.self.items c.len-before.result k c.try_extend_from_slice-fits.result c.len-before.ensures.value c.min.ensures c.len-before.ensures.fits c.try_extend_from_slice-fits.ensures.variant c.try_extend_from_slice-fits.ensures.ok in
-    let back = c.truncate.ensures.items ∙ ap (take c.len-before.result) now ∙ take_at c.args.taken.now.items (take k c.args.piece.now) c.len-before.result (sym c.len-before.ensures.value) in
+    let back = c.truncate-in_default.ensures.items ∙ ap (take c.len-before.result) now ∙ take_at c.args.taken.now.items (take k c.args.piece.now) c.len-before.result (sym c.len-before.ensures.value) in
     subst (IsCut c.args.versions c.args.order) (sym back) c.requires
 
 pub returns-in-Ok : goal.returns-in-Ok
@@ -28,7 +28,7 @@ returns-in-Ok c =
     let k : ℕ = c.min.result in
     let now = all_fit c.args.taken.now.items c.args.piece.now c.try_extend_from_slice-fits.new.self.items c.len-before.result k c.try_extend_from_slice-fits.result c.len-before.ensures.value c.min.ensures c.len-before.ensures.fits c.try_extend_from_slice-fits.ensures.variant c.try_extend_from_slice-fits.ensures.ok in
     let stands = subst (λ (b : List ℕ). HeaderAtUnder c.args.versions c.args.order b c.in-Ok.head.0 c.in-Ok.head.1) (c.as_slice.ensures.value ∙ now) c.in-Ok.ensures.found in
-    rw (c.size.ensures.size, c.len-before.ensures.value) (header_taken c.args.versions c.args.order c.args.taken.now.items c.args.piece.now k c.in-Ok.head.0 c.in-Ok.head.1 c.requires stands c.try_extend_from_slice-fits.new.self.items)
+    rw (c.size-size.ensures.size, c.len-before.ensures.value) (header_taken c.args.versions c.args.order c.args.taken.now.items c.args.piece.now k c.in-Ok.head.0 c.in-Ok.head.1 c.requires stands c.truncate.new.self.items)
 
 pub returns-in-More : goal.returns-in-More
 returns-in-More c =
@@ -45,5 +45,5 @@ pub returns-in_default : goal.returns-in_default
 returns-in_default c =
     let k : ℕ = c.min.result in
     let now = all_fit c.args.taken.now.items c.args.piece.now c.try_extend_from_slice-fits.new.self.items c.len-before.result k c.try_extend_from_slice-fits.result c.len-before.ensures.value c.min.ensures c.len-before.ensures.fits c.try_extend_from_slice-fits.ensures.variant c.try_extend_from_slice-fits.ensures.ok in
-    let back = c.truncate.ensures.items ∙ ap (take c.len-before.result) now ∙ take_at c.args.taken.now.items (take k c.args.piece.now) c.len-before.result (sym c.len-before.ensures.value) in
+    let back = c.truncate-in_default.ensures.items ∙ ap (take c.len-before.result) now ∙ take_at c.args.taken.now.items (take k c.args.piece.now) c.len-before.result (sym c.len-before.ensures.value) in
     subst (λ (b : List ℕ). Answers c.args.versions c.args.order (Reading b) c.args.piece.now c.take_bytes.result.0 c.take_bytes.result.1 (state_of c.take_bytes.new.taken.items (ended c.take_bytes.result.1))) back c.take_bytes.ensures
