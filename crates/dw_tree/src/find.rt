@@ -7,6 +7,7 @@ ghost use Rattle.dw_tree.specs.Lent.{entries_of, find_at};
 ghost use Rattle.dw_tree.specs.Marks.{Before, Marked};
 
 use crate::entry::EntryRef;
+use crate::hints::NEAR;
 use crate::row::{Row, RowKind};
 use crate::tree::EntryTree;
 
@@ -52,9 +53,6 @@ fn rows_before(rows: &[Row], first: Option<usize>, offset: u64) -> usize
         None => searched(rows, offset),
     }
 }
-
-/// How many rows are looked at one by one: as many as may begin in the 64 bytes of a hint, and the one that it names.
-const NEAR: usize = 65;
 
 /// How many rows begin before an offset, where these are at least `first`, and few more.
 #[inline(always)]

@@ -11,18 +11,71 @@ const BYTES: u64 = 64;
 /// Entries that begin in the first bytes of a tree are searched without hints.
 const FIRST: u64 = 1024;
 
-/// How many hints there are at least, where there are any.
-const SOME: usize = 64;
+/// One of so many rows may stand in a hint.
+const STEP: usize = 8;
 
-/// For each 64 bytes of a tree, but for the first, the row of the last entry that begins in the 64 before them: from there on a
-/// search for an entry in them may begin. 0, the root's row, stands where there is none or none was noted. What a hint says is
-/// tested before it is used: a wrong one only costs time.
+/// How many rows from that of a hint on are enough to find what begins in its bytes: those up to the next that may stand in
+/// one, and as many as may begin in its bytes.
+pub(crate) const NEAR: usize = STEP + BYTES as usize + 1;
+
+/// For each 64 bytes of a tree, but for the first, a row that begins there or before: from there on a search for an entry in
+/// them may begin. What a hint says is tested before it is used: a wrong one only costs time.
 #[derive(Drop)]
 pub(crate) struct Hints {
     rows: Vec<u32>,
 }
 
 impl Hints {
+    /// None. It takes no memory.
+    pub(crate) fn new(alloc: Global) -> Hints {
+        Hints {
+            rows: Vec::new(alloc),
+        }
+    }
+
+    /// One of so many open entries is closed by a null at this offset. With the root, which begins at `start`, the hints of the
+    /// whole tree are made.
+    #[inline(always)]
+    pub(crate) fn close(&mut self, open: usize, rows: &[Row], start: u64, null: u64) {
+        if open == 1 {
+            self.make(rows, start, null);
+        }
+    }
+
+    /// Makes those of a tree with these rows, if there are none yet. None are made where the tree is small, where there are
+    /// fewer rows than hints, or where memory is refused.
+    #[inline(never)]
+    fn make(&mut self, rows: &[Row], start: u64, end: u64) {
+        let count = places(end.wrapping_sub(start));
+        let wanted = self.rows.len() == 0 && 0 < count && count <= rows.len();
+        if wanted && self.rows.reserve(count).is_ok() {
+            self.fill(rows, start, count);
+        }
+    }
+
+    /// Makes so many.
+    // Only one of eight rows is looked at, so that this costs little beside what made the rows.
+    fn fill(&mut self, rows: &[Row], start: u64, count: usize) {
+        let mut row = 0usize;
+        let mut before = 0;
+        for few in rows.chunks(STEP) {
+            if let Some(first) = few.first() {
+                let begun = places(first.offset.wrapping_sub(start));
+                self.repeat(before, begun.min(count));
+            }
+            before = row;
+            row = row.saturating_add(STEP);
+        }
+        self.repeat(before, count);
+    }
+
+    /// The hints up to this one are the same row.
+    fn repeat(&mut self, row: usize, count: usize) {
+        if self.rows.len() < count {
+            let _kept = self.rows.resize(count, (row % (1 << 32)) as u32);
+        }
+    }
+
     /// With which row to begin where one is asked for that begins so many bytes behind the first one.
     #[inline(always)]
     pub(crate) fn first(&self, behind: u64) -> Option<usize> {
@@ -33,65 +86,15 @@ impl Hints {
     }
 }
 
-/// How many hints there are depends on what was undone and on memory, so they aren't printed.
+/// How many hints are of bytes that begin before so many bytes of a tree.
+#[inline(always)]
+fn places(bytes: u64) -> usize {
+    (bytes.saturating_sub(FIRST).div_ceil(BYTES)) as usize
+}
+
+/// How many hints there are depends on memory, so they aren't printed.
 impl Debug for Hints {
     fn fmt<W: fmt::Write>(&self, f: &mut Formatter<W>) -> fmt::Result {
         f.write_str("Hints")
-    }
-}
-
-/// The hints of a tree under construction.
-#[derive(Drop)]
-pub(crate) struct Noted {
-    hints: Hints,
-    /// How many bytes behind the first one the entry begins that makes more hints.
-    due: u64,
-}
-
-impl Noted {
-    /// None. It takes no memory.
-    pub(crate) fn new(alloc: Global) -> Noted {
-        Noted {
-            hints: Hints {
-                rows: Vec::new(alloc),
-            },
-            due: FIRST - BYTES,
-        }
-    }
-
-    /// An entry begins so many bytes behind the first one. Its row comes behind these.
-    #[inline(always)]
-    pub(crate) fn note(&mut self, behind: u64, rows: &[Row]) {
-        let place = behind.wrapping_sub(FIRST - BYTES) / BYTES;
-        if place < self.hints.rows.len() as u64 {
-            self.hints.rows[place as usize] = (rows.len() % (1 << 32)) as u32;
-        } else if behind >= self.due {
-            self.grow(behind, place, rows.len());
-        }
-    }
-
-    /// Makes room for the hint of this place and for others, and notes the row. Where there are few rows for so many bytes, or no
-    /// memory, that is done when there are twice as many bytes.
-    #[inline(never)]
-    fn grow(&mut self, behind: u64, place: u64, row: usize) {
-        let place = place as usize;
-        let count = place.saturating_add(place / 2).saturating_add(SOME);
-        if place > row || self.hints.rows.resize(count, 0).is_err() {
-            self.due = behind.saturating_mul(2);
-        } else {
-            self.hints.rows[place] = (row % (1 << 32)) as u32;
-        }
-    }
-
-    /// Those of the whole tree.
-    pub(crate) fn finish(self) -> Hints {
-        self.hints
-    }
-}
-
-/// What is due depends on memory too, so they are printed as those of a whole tree.
-impl Debug for Noted {
-    fn fmt<W: fmt::Write>(&self, f: &mut Formatter<W>) -> fmt::Result {
-        self.hints.fmt(f)
     }
 }

@@ -35,7 +35,7 @@ invariant_of-self-in-Some c =
     let q = c.settle-self-inside in
     let d = c.in-Some.decl.now in
     let r : Unfinished = record { code = c.args.code; offset = a.here; first = c.len.result; given = 0; count = length c.pairs.result.now; children = c.has_children.result; pool = c.len-in-Some.result } in
-    let known : declared t c.args.code.value ≡ Some d = ap (λ t. declared t c.args.code.value) (sym c.deref-2.ensures) ∙ sym c.in-Some.ensures.value in
+    let known : declared t c.args.code.value ≡ Some d = ap (λ t. declared t c.args.code.value) (sym c.deref.ensures) ∙ sym c.in-Some.ensures.value in
     let count : length d.pairs ≡ length c.pairs.result.now = ap length (sym c.pairs.ensures) ∙ length-map c.pairs.result.now pair_of in
     let level : length (spot_after g.tokens).above < nesting = subst (λ (w : Growing). length w.place.spot.above < nesting) (sym view) c.requires.level in
     let n = vec_len c.reserve-2.new.self + 1 in
@@ -69,7 +69,7 @@ returns-in-Some-clause-ok c =
     let q = c.settle-self-inside in
     let d = c.in-Some.decl.now in
     let r : Unfinished = record { code = c.args.code; offset = a.here; first = c.len.result; given = 0; count = length c.pairs.result.now; children = c.has_children.result; pool = c.len-in-Some.result } in
-    let known : declared t c.args.code.value ≡ Some d = ap (λ t. declared t c.args.code.value) (sym c.deref-2.ensures) ∙ sym c.in-Some.ensures.value in
+    let known : declared t c.args.code.value ≡ Some d = ap (λ t. declared t c.args.code.value) (sym c.deref.ensures) ∙ sym c.in-Some.ensures.value in
     let count : length d.pairs ≡ length c.pairs.result.now = ap length (sym c.pairs.ensures) ∙ length-map c.pairs.result.now pair_of in
     let level : length (spot_after g.tokens).above < nesting = subst (λ (w : Growing). length w.place.spot.above < nesting) (sym view) c.requires.level in
     let n = vec_len c.reserve-2.new.self + 1 in
