@@ -6,19 +6,19 @@ use std::fmt;
 use std::fmt::{Debug, Formatter};
 
 /// How many bytes of a tree have a hint of their own.
-const BYTES: u64 = 64;
+const BYTES: u64 = 128;
 
 /// Entries that begin in the first bytes of a tree are searched without hints.
 const FIRST: u64 = 1024;
 
 /// One of so many rows may stand in a hint.
-const STEP: usize = 8;
+const STEP: usize = 16;
 
 /// How many rows from that of a hint on are enough to find what begins in its bytes: those up to the next that may stand in
 /// one, and as many as may begin in its bytes.
 pub(crate) const NEAR: usize = STEP + BYTES as usize + 1;
 
-/// For each 64 bytes of a tree, but for the first, a row that begins there or before: from there on a search for an entry in
+/// For each 128 bytes of a tree, but for the first, a row that begins there or before: from there on a search for an entry in
 /// them may begin. What a hint says is tested before it is used: a wrong one only costs time.
 #[derive(Drop)]
 pub(crate) struct Hints {
@@ -47,14 +47,14 @@ impl Hints {
     #[inline(never)]
     fn make(&mut self, rows: &[Row], start: u64, end: u64) {
         let count = places(end.wrapping_sub(start));
-        let wanted = self.rows.len() == 0 && 0 < count && count <= rows.len();
-        if wanted && self.rows.reserve(count).is_ok() {
+        let fits = 0 < count && count <= rows.len() && STEP < rows.len();
+        if fits && self.rows.len() == 0 && self.rows.reserve_exact(count).is_ok() {
             self.fill(rows, start, count);
         }
     }
 
     /// Makes so many.
-    // Only one of eight rows is looked at, so that this costs little beside what made the rows.
+    // Only one of sixteen rows is looked at, so that this costs little beside what made the rows.
     fn fill(&mut self, rows: &[Row], start: u64, count: usize) {
         let mut row = 0usize;
         let mut before = 0;
