@@ -74,29 +74,3 @@ module _ (rows : List Row) (offset low len n : ℕ) (own : List Row) (is : own �
             subst (λ (r : Row). nat_lt r.offset offset ≡ false) same (point.1 (i - low) d (omega (arith, le)) (omega (arith, less, le, long)))
         | inr from ↦ le-ltb (get_or rows i d).offset offset (behind i d from inside)
       ]
-
--- ---- one row after the other
-
--- the row before a place begins before the offset, and then so do all before it
-pub before_place : (rows : List Row) → OffsetsGrow rows → (offset at : ℕ) (e : Row) → 0 < at → at ≤ length rows → (get_or rows (at - 1) e).offset < offset → Before rows offset at
-before_place rows grow offset at e some inside less i d lt there =
-    let same = ap (λ (r : Row). r.offset) (same_default rows (at - 1) d e (omega (arith, some, inside))) in
-    elim (eq-or-lt_of_le {n = i} {m = at - 1} (omega (arith, lt))) [
-      | inl q ↦ omega (arith, ap (λ (k : ℕ). (get_or rows k d).offset) q, same, less)
-      | inr before ↦ (let grown : (get_or rows i d).offset < (get_or rows (at - 1) d).offset = grow i (at - 1) d before (omega (arith, some, inside)) in omega (arith, grown, same, less))
-    ]
-
--- the first that doesn't
-pub point_at : (rows : List Row) → OffsetsGrow rows → (offset at : ℕ) (e : Row) → at < length rows → Before rows offset at → offset ≤ (get_or rows at e).offset → IsPartitionPoint (λ r. nat_lt r.offset offset ≡ true) (λ r. nat_lt r.offset offset ≡ false) rows at
-point_at rows grow offset at e inside before low = (first, last)
-  where
-    first : (i : ℕ) (d : Row) → 0 ≤ i → i < at → nat_lt (get_or rows i d).offset offset ≡ true
-    first i d zero lt = lt-ltb (get_or rows i d).offset offset (before i d lt (omega (arith, lt, inside)))
-
-    last : (i : ℕ) (d : Row) → at ≤ i → i < length rows → nat_lt (get_or rows i d).offset offset ≡ false
-    last i d le there =
-        let same = ap (λ (r : Row). r.offset) (same_default rows at d e inside) in
-        le-ltb (get_or rows i d).offset offset (elim (eq-or-lt_of_le {n = at} {m = i} le) [
-          | inl q ↦ omega (arith, ap (λ (k : ℕ). (get_or rows k d).offset) q, same, low)
-          | inr behind ↦ (let grown : (get_or rows at d).offset < (get_or rows i d).offset = grow at i d behind there in omega (arith, grown, same, low))
-        ])

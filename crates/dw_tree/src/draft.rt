@@ -17,7 +17,6 @@ ghost use Rattle.dw_tree.specs.declared.row.RowKind.TheVariants.{Null};
 ghost use Rattle.dw_tree.specs.Completed.{one_given, row_with, settled_rows, settled_open, settled_unfinished};
 ghost use Rattle.dw_tree.specs.Steps.{begun_at, with_value, partial_in, partial_attribute, started, extended, ended, closed_at, undone, end_of, NextFits, IsPlainNext, SpellsPlain, ArePlain, SpellsFirst, with_values, next_bytes, next_front, next_pair, next_pairs, finished};
 
-use crate::hints::Hints;
 use crate::row::{PartialValue, Row, RowKind, Unfinished};
 use crate::tree::EntryTree;
 use dw_abbrev::{Decl, Pair, Table};
@@ -40,7 +39,6 @@ pub struct TreeDraft {
     /// Where the next byte stands.
     here: u64,
     rows: Vec<Row>,
-    hints: Hints,
     /// The heads of the values that were given, and the bytes of their texts and blocks.
     heads: Vec<u8>,
     pool: Vec<u8>,
@@ -81,7 +79,6 @@ impl TreeDraft {
             heads: Vec::new(alloc),
             pool: Vec::new(alloc),
             nested: Vec::new(alloc),
-            hints: Hints::new(alloc),
             unfinished: None,
             partial: None,
         }
@@ -273,8 +270,6 @@ impl TreeDraft {
     {
         self.rows.reserve(1)?;
         let depth = self.nested.len() as u16 + 1;
-        self.hints
-            .close(self.nested.len(), &self.rows, self.start, self.here);
         if let Some(at) = self.nested.pop() {
             let end = self.rows.len() + 1;
             let row = self.rows[at];
@@ -408,7 +403,6 @@ impl TreeDraft {
             start,
             here,
             rows,
-            hints,
             heads,
             pool,
             nested: _,
@@ -421,7 +415,6 @@ impl TreeDraft {
             start,
             end: here,
             rows,
-            hints,
             heads,
             pool,
         }

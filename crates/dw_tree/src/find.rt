@@ -1,5 +1,5 @@
 //! The entry at an offset.
-ghost use Rattle.std.specs.Prelude.{◌≡◌, ◌<◌, ◌≤◌, ◌+◌, ◌*◌, true, false, nat_lt, length, slice_index_or, IfSome, IfNone, IsTrue};
+ghost use Rattle.std.specs.Prelude.{◌≡◌, ◌<◌, ◌≤◌, ◌+◌, ◌*◌, true, false, nat_lt, length, slice_index_or, IfSome, IfNone};
 ghost use Rattle.std.specs.List.Sorted.{IsPartitionPoint};
 ghost use Rattle.dw_tree.specs.declared.row.Row.{Row};
 ghost use Rattle.dw_tree.specs.Flat.{OffsetsGrow, NoneBegins};
@@ -7,7 +7,6 @@ ghost use Rattle.dw_tree.specs.Lent.{entries_of, find_at};
 ghost use Rattle.dw_tree.specs.Marks.{Before, Marked};
 
 use crate::entry::EntryRef;
-use crate::hints::NEAR;
 use crate::row::{Row, RowKind};
 use crate::tree::EntryTree;
 
@@ -17,8 +16,7 @@ impl EntryTree {
     pub fn entry_at(&self, offset: u64) -> Option<EntryRef<'_>>
         ensures { result ≡ find_at offset (entries_of self.now) }
     {
-        let first = self.hints.first(offset.wrapping_sub(self.start));
-        let at = row_at(&self.rows, first, offset)?;
+        let at = row_at(&self.rows, offset)?;
         if let RowKind::Null = self.rows[at].kind {
             return None;
         }
@@ -26,14 +24,14 @@ impl EntryTree {
     }
 }
 
-/// The row that begins exactly at an offset. With `first` the search may begin.
-pub(crate) fn row_at(rows: &[Row], first: Option<usize>, offset: u64) -> Option<usize>
+/// The row that begins exactly at an offset.
+pub(crate) fn row_at(rows: &[Row], offset: u64) -> Option<usize>
     requires { OffsetsGrow rows.now }
     ensures inside { IfSome result (λ i. i < length rows.now) }
     ensures found { IfSome result (λ i. (d : Row) → (slice_index_or rows.now i d).offset ≡ offset) }
     ensures none { IfNone result (NoneBegins offset rows.now) }
 {
-    let at = rows_before(rows, first, offset);
+    let at = rows_before(rows, offset);
     if at < rows.len() && rows[at].offset == offset {
         Some(at)
     } else {
@@ -41,58 +39,12 @@ pub(crate) fn row_at(rows: &[Row], first: Option<usize>, offset: u64) -> Option<
     }
 }
 
-/// How many rows begin before an offset. With `first` the search may begin.
-#[inline(always)]
-fn rows_before(rows: &[Row], first: Option<usize>, offset: u64) -> usize
-    requires { OffsetsGrow rows.now }
-    ensures bound { result ≤ length rows.now }
-    ensures point { IsPartitionPoint (λ r. nat_lt r.offset offset ≡ true) (λ r. nat_lt r.offset offset ≡ false) rows.now result }
-{
-    match rows_from(rows, first, offset) {
-        Some(at) => at,
-        None => searched(rows, offset),
-    }
-}
-
-/// How many rows begin before an offset, where these are at least `first`, and few more.
-#[inline(always)]
-fn rows_from(rows: &[Row], first: Option<usize>, offset: u64) -> Option<usize>
-    requires { OffsetsGrow rows.now }
-    ensures bound { IfSome result (λ at. at ≤ length rows.now) }
-    ensures point { IfSome result (IsPartitionPoint (λ r. nat_lt r.offset offset ≡ true) (λ r. nat_lt r.offset offset ≡ false) rows.now) }
-{
-    let first = first?;
-    if first >= rows.len() || !begin_before(rows, first, offset) {
-        return None;
-    }
-    let end = rows.len().min(first + NEAR);
-    for at in first..end {
-        if rows[at].offset >= offset {
-            return Some(at);
-        }
-    }
-    None
-}
-
-/// Whether the rows before this one begin before an offset; false for the first row.
-#[inline(always)]
-fn begin_before(rows: &[Row], first: usize, offset: u64) -> bool
-    requires grow { OffsetsGrow rows.now }
-    requires inside { first ≤ length rows.now }
-    ensures { IsTrue result → Before rows.now offset first }
-{
-    if first == 0 {
-        return false;
-    }
-    rows[first - 1].offset < offset
-}
-
 /// So few rows are found by halving alone.
 const FEW: usize = 16;
 
-/// The same of any rows. Of many seven are looked at together, which part them into eighths: the
+/// How many rows begin before an offset. Of many rows seven are looked at together, which part them into eighths: the
 /// processor waits for them once, where halving would wait three times.
-fn searched(rows: &[Row], offset: u64) -> usize
+fn rows_before(rows: &[Row], offset: u64) -> usize
     requires { OffsetsGrow rows.now }
     ensures bound { result ≤ length rows.now }
     ensures point { IsPartitionPoint (λ r. nat_lt r.offset offset ≡ true) (λ r. nat_lt r.offset offset ≡ false) rows.now result }

@@ -7,7 +7,6 @@ mod draft;
 mod entry;
 mod find;
 mod gather;
-mod hints;
 mod preorder;
 mod put;
 mod row;

@@ -31,8 +31,7 @@ impl EntryTree {
         ensures size { length ((part self.new.context self.new.table (nesting - 1)).spell self.new.root) ≡ length ((part self.old.context self.old.table (nesting - 1)).spell self.old.root) }
         ensures offsets { map (λ (e : EntryAt). e.offset) (entries_of self.new) ≡ map (λ (e : EntryAt). e.offset) (entries_of self.old) }
     {
-        let first = self.hints.first(offset.wrapping_sub(self.start));
-        let row = match row_at(&self.rows, first, offset) {
+        let row = match row_at(&self.rows, offset) {
             Some(at) => self.rows[at],
             None => unreachable!(),
         };

@@ -5,7 +5,6 @@ ghost use Rattle.dw_tree.specs.Row.{rows_of};
 ghost use Rattle.dw_tree.specs.PoolBytes.{held};
 ghost use Rattle.dw_tree.specs.RowHeads.{rows_heads};
 
-use crate::hints::Hints;
 use crate::row::Row;
 use dw_abbrev::Table;
 use dw_form::Ctx;
@@ -22,7 +21,6 @@ pub struct EntryTree {
     pub(crate) start: u64,
     pub(crate) end: u64,
     pub(crate) rows: Vec<Row>,
-    pub(crate) hints: Hints,
     /// The heads of all values, in their order: what of each one's spelling is no content, and what
     /// finds the content.
     pub(crate) heads: Vec<u8>,

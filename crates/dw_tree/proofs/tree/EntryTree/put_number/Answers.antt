@@ -200,7 +200,7 @@ returns-clause-put c =
     let new = c.overwrite.new.bytes.items in
     let is : new ≡ pasted a.heads.items (r.first + q.0, q.1) = c.overwrite.ensures ∙ ap (λ (b : List ℕ). pasted a.heads.items (r.first + q.0, b)) c.as_slice.ensures.value in
     let h = all_edited a c.self.invariant v c.self.view_is e c.requires at r l c.index.ensures here ps decl known c.pairs-pairs.ensures q new found is in
-    let b : Inside = record { context = a.context; table = a.table; start = a.start; end = a.end; rows = a.rows; hints = a.hints; heads = c.overwrite.new.bytes; pool = a.pool } in
+    let b : Inside = record { context = a.context; table = a.table; start = a.start; end = a.end; rows = a.rows; heads = c.overwrite.new.bytes; pool = a.pool } in
     let still : IsTree b = record {
       context_fits = c.self.invariant.context_fits;
       rows_are = h.rows_are;
@@ -239,7 +239,7 @@ returns-clause-fits c =
     let new = c.overwrite.new.bytes.items in
     let is : new ≡ pasted a.heads.items (r.first + q.0, q.1) = c.overwrite.ensures ∙ ap (λ (b : List ℕ). pasted a.heads.items (r.first + q.0, b)) c.as_slice.ensures.value in
     let h = all_edited a c.self.invariant v c.self.view_is e c.requires at r l c.index.ensures here ps decl known c.pairs-pairs.ensures q new found is in
-    let b : Inside = record { context = a.context; table = a.table; start = a.start; end = a.end; rows = a.rows; hints = a.hints; heads = c.overwrite.new.bytes; pool = a.pool } in
+    let b : Inside = record { context = a.context; table = a.table; start = a.start; end = a.end; rows = a.rows; heads = c.overwrite.new.bytes; pool = a.pool } in
     let still : IsTree b = record {
       context_fits = c.self.invariant.context_fits;
       rows_are = h.rows_are;
@@ -278,7 +278,7 @@ returns-clause-size c =
     let new = c.overwrite.new.bytes.items in
     let is : new ≡ pasted a.heads.items (r.first + q.0, q.1) = c.overwrite.ensures ∙ ap (λ (b : List ℕ). pasted a.heads.items (r.first + q.0, b)) c.as_slice.ensures.value in
     let h = all_edited a c.self.invariant v c.self.view_is e c.requires at r l c.index.ensures here ps decl known c.pairs-pairs.ensures q new found is in
-    let b : Inside = record { context = a.context; table = a.table; start = a.start; end = a.end; rows = a.rows; hints = a.hints; heads = c.overwrite.new.bytes; pool = a.pool } in
+    let b : Inside = record { context = a.context; table = a.table; start = a.start; end = a.end; rows = a.rows; heads = c.overwrite.new.bytes; pool = a.pool } in
     let still : IsTree b = record {
       context_fits = c.self.invariant.context_fits;
       rows_are = h.rows_are;
@@ -319,7 +319,7 @@ returns-clause-offsets c =
     let new = c.overwrite.new.bytes.items in
     let is : new ≡ pasted a.heads.items (r.first + q.0, q.1) = c.overwrite.ensures ∙ ap (λ (b : List ℕ). pasted a.heads.items (r.first + q.0, b)) c.as_slice.ensures.value in
     let h = all_edited a c.self.invariant v c.self.view_is e c.requires at r l c.index.ensures here ps decl known c.pairs-pairs.ensures q new found is in
-    let b : Inside = record { context = a.context; table = a.table; start = a.start; end = a.end; rows = a.rows; hints = a.hints; heads = c.overwrite.new.bytes; pool = a.pool } in
+    let b : Inside = record { context = a.context; table = a.table; start = a.start; end = a.end; rows = a.rows; heads = c.overwrite.new.bytes; pool = a.pool } in
     let still : IsTree b = record {
       context_fits = c.self.invariant.context_fits;
       rows_are = h.rows_are;

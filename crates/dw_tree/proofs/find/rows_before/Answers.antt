@@ -2,7 +2,7 @@ use Rattle.std.proofs.Common.{◌≡◌, ◌≤◌, ◌+◌, ◌-◌, ℕ, List,
 use Rattle.std.proofs.lemmas.List.{length-drop}
 use Rattle.dw_tree.specs.declared.row.Row.{Row}
 use Rattle.dw_tree.proofs.Marking.{whole_point}
-use Rattle.dw_tree.proofs.find.searched.Goals as goal
+use Rattle.dw_tree.proofs.find.rows_before.Goals as goal
 
 pub returns-clause-point : goal.returns-clause-point
 returns-clause-point c =

@@ -1,6 +1,6 @@
 use Rattle.std.proofs.Common.{◌≤◌, ◌+◌, length}
 use Rattle.dw_tree.specs.Marks.{Before, Behind}
-use Rattle.dw_tree.proofs.find.searched.Given as goal
+use Rattle.dw_tree.proofs.find.rows_before.Given as goal
 
 -- the rows before those in question begin before the offset, and those behind them don't
 abbrev pub invariant-loop-len : goal.invariant-loop-len
