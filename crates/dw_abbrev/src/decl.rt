@@ -17,11 +17,12 @@ use crate::prefix::FixedPrefix;
 use crate::refusal::TableRefusal;
 use dw_leb::{ReadError, Sleb, Uleb, Watched, WriteError};
 use std::alloc::Global;
+use std::fmt;
 use std::io::Write;
 use std::marker::Model;
 
 /// An abbreviation declaration: what the entries of a code have in common.
-#[derive(Debug, Drop)]
+#[derive(Drop)]
 pub struct Decl {
     code: Uleb,
     tag: Uleb,
@@ -48,6 +49,20 @@ impl Model for Decl {
     ghost view = { λ d. record { code = uleb_of d.code; tag = uleb_of d.tag; children = d.children; pairs = map pair_of d.pairs.items; name_zero = d.name_zero.width; form_zero = d.form_zero.width } };
 
     ghost invariant = { λ d. record { name_zero : IsZero (uleb_of d.name_zero); form_zero : IsZero (uleb_of d.form_zero); some : is_null (uleb_of d.code) ≡ false; pairs : ArePairs (map pair_of d.pairs.items); prefix : IsPrefix (map pair_of d.pairs.items) d.prefix } };
+}
+
+/// What is written, without what is kept of it.
+impl fmt::Debug for Decl {
+    fn fmt<W: fmt::Write>(&self, f: &mut fmt::Formatter<W>) -> fmt::Result {
+        f.debug_struct("Decl")
+            .field("code", &self.code)
+            .field("tag", &self.tag)
+            .field("children", &self.children)
+            .field("pairs", &self.pairs)
+            .field("name_zero", &self.name_zero)
+            .field("form_zero", &self.form_zero)
+            .finish()
+    }
 }
 
 impl Decl {

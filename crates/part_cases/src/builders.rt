@@ -12,6 +12,7 @@ use std::alloc::Global;
 pub fn answer(alloc: Global, input: &str, text: &mut String) -> Result<(), CaseError> {
     match verb(input) {
         "decl" => declare(alloc, input, text),
+        "debug" => print(alloc, input, text),
         _ => {
             let table = built(alloc, input, text)?;
             append_built(alloc, input, &table, text)
@@ -25,6 +26,14 @@ fn declare(alloc: Global, input: &str, text: &mut String) -> Result<(), CaseErro
     let mut decl = decl_of(alloc, words(input, "decl")?)?;
     put_pairs(&mut decl, input, text)?;
     append_decl(&decl, text)
+}
+
+/// A declaration and its pairs, as `Debug` prints them.
+fn print(alloc: Global, input: &str, text: &mut String) -> Result<(), CaseError> {
+    allow(input, &["debug", "pair"])?;
+    let mut decl = decl_of(alloc, words(input, "debug")?)?;
+    put_pairs(&mut decl, input, text)?;
+    Ok(write!(text, "{decl:?}")?)
 }
 
 /// `1 0x11 no 1 1`: a code, a tag, whether there are children, and the widths of the zeros.

@@ -30,7 +30,7 @@ use std::rt::Files;
 use std::{fs, io};
 
 /// One file a topic.
-const FILES: [&str; 13] = [
+const FILES: [&str; 14] = [
     "numbers",
     "lengths",
     "names",
@@ -44,6 +44,7 @@ const FILES: [&str; 13] = [
     "fitting_numbers",
     "other_numbers",
     "heads",
+    "printed",
 ];
 
 fn main(rt: HostRuntime) -> io::Result<()> {
@@ -143,7 +144,7 @@ fn answer(
         "lengths" => lengths::answer(alloc, input, text),
         "names" => names::answer(input, text),
         "tables" => tables::answer(alloc, input, text),
-        "builders" => builders::answer(alloc, input, text),
+        "builders" | "printed" => builders::answer(alloc, input, text),
         "headers" => headers::answer(alloc, input, text),
         _ => answer_in(alloc, file, ctx, input, text),
     }
