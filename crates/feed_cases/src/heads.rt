@@ -4,6 +4,7 @@
 //!   said, and with the fault at the end of the input;
 //! - `head by bytes: BYTES`, each as a piece of its own with an empty piece before it, answered with the byte at which
 //!   something else was said than `more`, what was said to one more byte, and the fault at the end;
+//! - `head printed: PIECE | PIECE | ..`, answered for each piece as `head` is, and with the feed as `Debug` prints it;
 //! - `wants behind: BYTES`, answered with the count of bytes that a feed wants then.
 use crate::input::Setting;
 use crate::show::{append_end, append_fault, separate};
@@ -24,6 +25,18 @@ pub fn append_head(
     let mut feed = HeadFeed::new_as(setting.order, setting.versions);
     append_pieces(alloc, file, &mut feed, pieces, answer)?;
     append_end(feed.end(), answer)
+}
+
+pub fn append_printed(
+    alloc: Global,
+    file: &str,
+    setting: Setting,
+    pieces: &str,
+    answer: &mut String,
+) -> Result<(), AllocError> {
+    let mut feed = HeadFeed::new_as(setting.order, setting.versions);
+    append_pieces(alloc, file, &mut feed, pieces, answer)?;
+    write!(answer, "; {feed:?}")
 }
 
 fn append_pieces(

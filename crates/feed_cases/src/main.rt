@@ -3,7 +3,7 @@
 //!
 //! A case is a line `INPUT -> ANSWER` of a file in `data/`, of which an input is
 //!
-//! - `head: PIECE | PIECE | ..`, `head by bytes: BYTES` and `wants behind: BYTES`, as `heads` says;
+//! - `head: PIECE | PIECE | ..`, `head printed: ..`, `head by bytes: BYTES` and `wants behind: BYTES`, as `heads` says;
 //! - `body of LENGTH over TABLE: PIECE | PIECE | ..` and `held body of ..`, as `bodies` says;
 //! - `read by COUNT over TABLE: BYTES`, as `readers` says;
 //! - `cuts over TABLE: BYTES`, as `cuts` says;
@@ -31,7 +31,7 @@ use std::rt::Files;
 use std::{fs, io};
 
 /// The files of cases, one for each topic.
-const FILES: [&str; 7] = [
+const FILES: [&str; 8] = [
     "heads",
     "wants",
     "bodies",
@@ -39,6 +39,7 @@ const FILES: [&str; 7] = [
     "readers",
     "cuts",
     "agreement",
+    "printed",
 ];
 
 fn main(rt: HostRuntime) -> io::Result<()> {
@@ -82,6 +83,7 @@ fn append_answer(
     let (setting, question) = setting_of(head);
     match question {
         "head" => heads::append_head(alloc, file, setting, bytes, answer),
+        "head printed" => heads::append_printed(alloc, file, setting, bytes, answer),
         "head by bytes" => heads::append_by_bytes(alloc, file, setting, bytes, answer),
         "wants behind" => heads::append_wants(alloc, file, setting, bytes, answer),
         question => over::append_over(alloc, file, (setting, question), bytes, answer),
