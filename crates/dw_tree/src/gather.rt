@@ -19,6 +19,9 @@ use dw_form::{Ctx, Value, front_len, lend_head};
 /// The bytes of rows, one behind the other, that are still to be written.
 pub(crate) type Gathered = ArrayVec<u8, 512>;
 
+/// The most bytes of a row that is gathered, where not each form of its values tells their size.
+const MOST_SPELLED: usize = 128;
+
 /// Puts the bytes of a row behind those that were gathered, where there is room for them. Else nothing is changed, and
 /// the answer is false.
 #[inline(always)]
@@ -41,7 +44,7 @@ pub(crate) fn gather(
     }
 }
 
-/// The same of an entry, whatever its code and its values. What was put of one that has no room is taken back.
+/// The same of an entry of few bytes, whatever its code and its values. What was put of one that has no room is taken back.
 fn put_row(
     ctx: Ctx,
     table: &Table,
@@ -56,7 +59,15 @@ fn put_row(
     ensures same { IsFalse result → gathered.new.items ≡ gathered.old.items }
 {
     let before = gathered.len();
-    match put_entry(ctx, table, heads, pool, row, gathered) {
+    match put_entry(
+        ctx,
+        table,
+        heads,
+        pool,
+        row,
+        before + MOST_SPELLED,
+        gathered,
+    ) {
         Some(()) => true,
         None => {
             gathered.truncate(before);
@@ -65,7 +76,7 @@ fn put_row(
     }
 }
 
-/// Puts an entry's code and values. None for a null, and where there is no room for all.
+/// Puts an entry's code and values. None for a null, and where there is no room for all among the first `most` bytes.
 #[inline(always)]
 fn put_entry(
     ctx: Ctx,
@@ -73,6 +84,7 @@ fn put_entry(
     heads: &[u8],
     pool: &[u8],
     row: Row,
+    most: usize,
     gathered: &mut Gathered,
 ) -> Option<()>
     requires context { IsContext ctx }
@@ -84,8 +96,8 @@ fn put_entry(
         return None;
     }
     let decl = table.get(row.code)?;
-    put_bytes(row.code().bytes().as_slice(), gathered)?;
-    put_values(ctx, decl, behind(heads, row.first), pool, gathered)
+    put_bytes(row.code().bytes().as_slice(), most, gathered)?;
+    put_values(ctx, decl, behind(heads, row.first), pool, most, gathered)
 }
 
 /// Puts the bytes of an entry's values behind those that were gathered. Values without content are put together, as they
@@ -96,6 +108,7 @@ fn put_values(
     decl: &Decl,
     heads: &[u8],
     pool: &[u8],
+    most: usize,
     gathered: &mut Gathered,
 ) -> Option<()>
     requires context { IsContext ctx }
@@ -111,14 +124,14 @@ fn put_values(
         match whole_end(ctx, pair.form.value, run, size) {
             Some(end) => size = end,
             None => {
-                put_bytes(front(run, size), gathered)?;
-                run = put_one(ctx, pair, behind(run, size), pool, gathered)?;
+                put_bytes(front(run, size), most, gathered)?;
+                run = put_one(ctx, pair, behind(run, size), pool, most, gathered)?;
                 size = 0;
             }
         }
         left = others;
     }
-    put_bytes(front(run, size), gathered)
+    put_bytes(front(run, size), most, gathered)
 }
 
 /// Puts the bytes of a pair's value behind those that were gathered, and gives what stands behind its head. None where there is
@@ -129,6 +142,7 @@ fn put_one<'a>(
     pair: &Pair,
     heads: &'a [u8],
     pool: &'a [u8],
+    most: usize,
     gathered: &mut Gathered,
 ) -> Option<&'a [u8]>
     requires context { IsContext ctx }
@@ -138,34 +152,42 @@ fn put_one<'a>(
     ensures kept { Grown gathered.old.items gathered.new.items }
 {
     let (attr, size) = lend_head(ctx, pair.form.value, pair.constant, heads, pool)?;
-    put_content(front(heads, front_len(&attr, size)), &attr.value, gathered)?;
+    put_content(
+        front(heads, front_len(&attr, size)),
+        &attr.value,
+        most,
+        gathered,
+    )?;
     Some(behind(heads, size))
 }
 
 /// Puts these bytes and those of a text or a block, with the end of a text, behind those of their row. None where there
 /// is no room for them.
 #[inline(always)]
-fn put_content(front: &[u8], value: &Value<'_>, gathered: &mut Gathered) -> Option<()>
+fn put_content(front: &[u8], value: &Value<'_>, most: usize, gathered: &mut Gathered) -> Option<()>
     ensures put { IfSome result (λ x. gathered.new.items ≡ gathered.old.items ++ (front.now ++ (content_of (value_of value.now) ++ tail_of (value_of value.now)))) }
     ensures kept { Grown gathered.old.items gathered.new.items }
 {
-    put_bytes(front, gathered)?;
+    put_bytes(front, most, gathered)?;
     match *value {
-        Value::Block { bytes, .. } => put_bytes(bytes, gathered),
+        Value::Block { bytes, .. } => put_bytes(bytes, most, gathered),
         Value::Text(bytes) => {
-            put_bytes(bytes, gathered)?;
-            put_bytes(&[0], gathered)
+            put_bytes(bytes, most, gathered)?;
+            put_bytes(&[0], most, gathered)
         }
         _ => Some(()),
     }
 }
 
-/// Puts bytes behind those that were gathered. None where there is no room for them.
+/// Puts bytes behind those that were gathered. None where there is no room for them among the first `most`.
 #[inline(always)]
-fn put_bytes(bytes: &[u8], gathered: &mut Gathered) -> Option<()>
+fn put_bytes(bytes: &[u8], most: usize, gathered: &mut Gathered) -> Option<()>
     ensures put { IfSome result (λ x. gathered.new.items ≡ gathered.old.items ++ bytes.now) }
     ensures kept { Grown gathered.old.items gathered.new.items }
 {
+    if most.saturating_sub(gathered.len()) < bytes.len() {
+        return None;
+    }
     gathered.try_extend_from_slice(bytes).ok()
 }
 
@@ -182,8 +204,8 @@ fn put_both(code: u8, run: &[u8], gathered: &mut Gathered) -> bool
     gathered.try_extend_from_slice(run).is_ok()
 }
 
-/// The code of a row and the bytes of its values, where the code has one byte, and its values have no content. Of a null
-/// they are none.
+/// The code of a row and the bytes of its values, where the code has one byte, and its values have no content and few bytes.
+/// Of a null they are none.
 #[inline(always)]
 fn plain_row<'a>(
     ctx: Ctx,
@@ -207,7 +229,8 @@ fn plain_row<'a>(
     Some(((row.code % 128) as u8, run))
 }
 
-/// The bytes of an entry's values, where they have no content: they are their heads.
+/// The bytes of an entry's values, where they have no content: they are their heads. None where they are many, and not each form
+/// tells its values' size.
 #[inline(always)]
 fn plain_run<'a>(ctx: Ctx, decl: &Decl, heads: &'a [u8], _pool: &[u8]) -> Option<&'a [u8]>
     requires context { IsContext ctx }
@@ -220,6 +243,9 @@ fn plain_run<'a>(ctx: Ctx, decl: &Decl, heads: &'a [u8], _pool: &[u8]) -> Option
     while let Some((pair, behind_it)) = left.split_first() {
         size = whole_end(ctx, pair.form.value, heads, size)?;
         left = behind_it;
+    }
+    if size >= MOST_SPELLED && !others.is_empty() {
+        return None;
     }
     Some(front(heads, size))
 }

@@ -118,6 +118,19 @@ pub(crate) fn whole_end(ctx: Ctx, form: u64, run: &[u8], size: usize) -> Option<
     }
 }
 
+/// Where the value at `size` ends, if its form tells its size.
+#[inline(always)]
+fn sized_end(ctx: Ctx, form: u64, run: &[u8], size: usize) -> Option<usize>
+    requires context { IsContext ctx }
+    requires within { size ≤ length run.now }
+    ensures whole { IfSome result (λ end. IsWhole ctx form (drop size run.now) (end - size)) }
+    ensures behind { IfSome result (λ end. size ≤ end) }
+    ensures room { IfSome result (λ end. end ≤ length run.now) }
+{
+    let shape = Shape::of(form, ctx.address_size, ctx.format)?;
+    told_end(shape, run, size)
+}
+
 /// Where the value at `size` ends, if its shape tells its size.
 #[inline(always)]
 fn told_end(shape: Shape, run: &[u8], size: usize) -> Option<usize>
@@ -178,7 +191,8 @@ pub(crate) fn behind(b: &[u8], n: usize) -> &[u8]
     &b[n..]
 }
 
-/// Writes values under the pairs of their declaration. Values without content are written together, as they stand.
+/// Writes values under the pairs of their declaration. Values whose size their form tells are written
+/// together, as they stand.
 fn write_values<W: Write>(
     ctx: Ctx,
     pairs: &[Pair],
@@ -196,7 +210,7 @@ fn write_values<W: Write>(
     let mut run = heads;
     let mut size = 0;
     while let Some((pair, others)) = left.split_first() {
-        match whole_end(ctx, pair.form.value, run, size) {
+        match sized_end(ctx, pair.form.value, run, size) {
             Some(end) => size = end,
             None => {
                 write_all(writer, front(run, size))?;

@@ -7,6 +7,7 @@
 mod agree;
 mod ask;
 mod build;
+mod calls;
 mod entries;
 mod put;
 mod reading;
@@ -21,7 +22,7 @@ use std::rt::Files;
 use std::{fs, io};
 
 /// The files of cases, one for each topic.
-const FILES: [&str; 9] = [
+const FILES: [&str; 10] = [
     "units",
     "kinds",
     "attributes",
@@ -31,6 +32,7 @@ const FILES: [&str; 9] = [
     "compilers",
     "puts",
     "built",
+    "calls",
 ];
 
 fn main(rt: HostRuntime) -> io::Result<()> {

@@ -3,7 +3,9 @@
 //! - `unit`: its header, its size, where its root begins and ends, and its padding;
 //! - `entries`, `last entry`, `entry at OFFSET`, `children of OFFSET`, `attributes of OFFSET`,
 //!   `attribute NAME of OFFSET`, `numbers of OFFSET`, `bare values of OFFSET`: as `entries` says;
+//! - `calls`: by how many calls it goes out, as `calls` says;
 //! - `put NUMBER as NAME of OFFSET`: as `put` says.
+use crate::calls::append_calls;
 use crate::entries::append_entries;
 use crate::put::append_put;
 use crate::show::{append_header, append_padding};
@@ -29,6 +31,7 @@ fn append_to_words(
 ) -> Result<(), AllocError> {
     match words {
         ["unit"] => append_unit(unit, answer),
+        ["calls"] => append_calls(alloc, unit, answer),
         ["put", number, "as", name, "of", offset] => {
             append_put(alloc, unit, (offset, name, number), answer)
         }

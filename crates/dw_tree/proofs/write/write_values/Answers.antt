@@ -49,17 +49,17 @@ returns-in_err-run-in-None-clause-written g c =
     let failed = subst (λ (hs : List ℕ). AppendsFront d e (first_bytes k pair hs pool)) c.behind.ensures c.in_err-run-in-None.ensures.written in
     rw p.1 (partly_fails a d e (first_bytes k pair (drop size run) pool) (run_bytes k rest (behind_first k pair (drop size run) pool) pool) all u failed)
 
-pub loop-pair-preserved-in-Some-whole_end : goal.loop-pair-preserved-in-Some-whole_end
-loop-pair-preserved-in-Some-whole_end g c =
+pub loop-pair-preserved-in-Some-sized_end : goal.loop-pair-preserved-in-Some-sized_end
+loop-pair-preserved-in-Some-sized_end g c =
     let a : Option (List ℕ) = g.W.Write.contents (inner_of c.args.writer.now) in
     let b : Option (List ℕ) = g.W.Write.contents (inner_of c.loop-pair.writer) in
     let k = c.args.ctx in
     let is = ap (λ (ps : List RustPair). map pair_of ps) c.in-Some.ensures.cases.0 in
-    let j = joins_run k (map pair_of c.loop-pair.left.now) (pair_of c.in-Some.pair.now) (map pair_of c.in-Some.others.now) c.loop-pair.run.now c.args.pool.now c.loop-pair.size is c.loop-pair.invariant.within c.loop-pair.invariant.here c.in-Some-whole_end.end c.in-Some-whole_end.ensures.behind c.in-Some-whole_end.ensures.whole in
+    let j = joins_run k (map pair_of c.loop-pair.left.now) (pair_of c.in-Some.pair.now) (map pair_of c.in-Some.others.now) c.loop-pair.run.now c.args.pool.now c.loop-pair.size is c.loop-pair.invariant.within c.loop-pair.invariant.here c.in-Some-sized_end.end c.in-Some-sized_end.ensures.behind c.in-Some-sized_end.ensures.whole in
     record {
       written = subst (λ (s : List ℕ). PartlyWritten a b s (run_bytes k (map pair_of c.args.pairs.now) c.args.heads.now c.args.pool.now)) j.0 c.loop-pair.invariant.written;
       here = j.1;
-      within = c.in-Some-whole_end.ensures.room;
+      within = c.in-Some-sized_end.ensures.room;
       clear = c.loop-pair.invariant.clear;
     }
 
