@@ -25,3 +25,4 @@ pub mod Patches
 pub mod Putting
 pub mod PutNumber
 pub mod Skipped
+pub mod Marking

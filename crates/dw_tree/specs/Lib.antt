@@ -22,6 +22,7 @@ pub mod DraftInvariant
 pub mod DraftView
 pub mod TreeView
 pub mod Lent
+pub mod Marks
 pub mod Names
 pub mod Structure
 pub mod Paths
