@@ -1,5 +1,5 @@
 //! The entry at an offset.
-ghost use Rattle.std.specs.Prelude.{◌≡◌, ◌<◌, ◌≤◌, ◌+◌, ◌*◌, true, false, nat_lt, length, slice_index_or, IfSome, IfNone};
+ghost use Rattle.std.specs.Prelude.{◌≡◌, ◌<◌, ◌≤◌, ◌+◌, ◌*◌, true, false, IsTrue, nat_lt, length, slice_index_or, IfSome, IfNone};
 ghost use Rattle.std.specs.List.Sorted.{IsPartitionPoint};
 ghost use Rattle.dw_tree.specs.declared.row.Row.{Row};
 ghost use Rattle.dw_tree.specs.Flat.{OffsetsGrow, NoneBegins};
@@ -39,10 +39,13 @@ pub(crate) fn row_at(rows: &[Row], offset: u64) -> Option<usize>
     }
 }
 
-/// So few rows are found by halving alone.
+/// So few rows are searched by halving alone.
 const FEW: usize = 16;
 
-/// How many rows begin before an offset. Of many rows seven are looked at together, which part them into eighths: the
+/// More rows than these too: they lie so far apart that each look is dear, and halving takes fewer.
+const MANY: usize = 65_536;
+
+/// How many rows begin before an offset. Seven of them are looked at together, which part them into eighths: the
 /// processor waits for them once, where halving would wait three times.
 fn rows_before(rows: &[Row], offset: u64) -> usize
     requires { OffsetsGrow rows.now }
@@ -51,12 +54,20 @@ fn rows_before(rows: &[Row], offset: u64) -> usize
 {
     let mut low = 0;
     let mut len = rows.len();
-    while len > FEW {
+    while are_parted(len) {
         let part = len / 8;
         low = eighths_before(rows, low, part, offset);
         len -= 7 * part;
     }
     low + halved(&rows[low..low + len], offset)
+}
+
+/// Whether so many rows are parted into eighths.
+#[inline(always)]
+fn are_parted(len: usize) -> bool
+    ensures { IsTrue result → 16 < len }
+{
+    len > FEW && len <= MANY
 }
 
 /// Where those of eight parts end that begin before an offset, the last one aside. The rows before `low` do.

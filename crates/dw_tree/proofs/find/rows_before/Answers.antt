@@ -7,9 +7,9 @@ use Rattle.dw_tree.proofs.find.rows_before.Goals as goal
 pub returns-clause-point : goal.returns-clause-point
 returns-clause-point c =
     let rows = c.args.rows.now in
-    let low = c.loop-len.low in
-    let len = c.loop-len.len in
-    let i = c.loop-len.invariant in
+    let low = c.loop-part.low in
+    let len = c.loop-part.len in
+    let i = c.loop-part.invariant in
     let size : low + len - low ≡ len = omega arith in
     let own : List Row = take (low + len - low) (drop low rows) in
     let is : own ≡ take len (drop low rows) = ap (λ (k : ℕ). take k (drop low rows)) size in
