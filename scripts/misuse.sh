@@ -3,54 +3,65 @@
 # misuse/an_entry_outlives_its_section.txt and misuse/a_text_outlives_its_strings.txt have to be refused as a
 # borrow that still stands, and their sound counterparts have to pass.
 #
-# Usage: scripts/misuse.sh
+# Usage: scripts/misuse.sh [CLONE]
 #
-# It stands on the libraries that the last `rt ci` or `rt check` built under crates/*/out, and builds those
-# that are not there. It takes half a minute over libraries that are there, and writes nothing else. Its last line
-# counts the callers that were judged rightly.
+# Each is a small crate in a clone of this tree, over its libraries, of which `rt check` judges it. CLONE is one in which the libraries
+# stand and nothing runs, as scripts/wrong_bodies.py --clones leaves it; where there is none, one is made by scripts/clones.py, over what
+# the tree at hand kept, and is gone at the end. What passed isn't tried again while all that it stands on is the same. The last line counts
+# the callers that were judged rightly.
 set -euo pipefail
+clone=${1:+$(realpath -m "$1")}
 cd "$(dirname "$0")/.."
 
-kit=$(dirname "$(rt doc)")
+stop() {
+    echo "misuse.sh: $1" >&2
+    exit 1
+}
+
+libraries="dw_leb dw_unit dw_section dw_strings"
 scratch=$(mktemp -d)
 trap 'rm -rf "$scratch"' EXIT
-mkdir "$scratch/src"
+trap 'exit 1' INT TERM HUP
 
-libraries=(dw_leb dw_form dw_abbrev dw_header dw_tree dw_unit dw_feed dw_section dw_strings)
-words=(--extern "std=$kit/rlibs/std.rlib" -L "dependency=$kit/rlibs")
-for library in dw_leb dw_unit dw_section dw_strings; do
-    words+=(--extern "$library=$PWD/crates/$library/out/rlib/$library.rlib")
-done
-for library in "${libraries[@]}"; do
-    if [ ! -d "crates/$library/out/rlib/$library.rlib" ]; then
-        echo "misuse: proving $library, which no run has built"
-        (cd "crates/$library" && rt lib) > "$scratch/answer" 2>&1 || { tail -n 20 "$scratch/answer"; exit 1; }
-    fi
-    words+=(-L "dependency=$PWD/crates/$library/out/rlib")
-done
-words+=(--antt-project "$kit/rattle/logic/antt-project.json" --logic-built "$kit/logic_built" --links misuse= --jobs 1)
+sum=$( (scripts/clones.py sum $libraries && cat "$0" misuse/*.txt) | sha256sum | cut -d ' ' -f 1) || exit 1
+kept=${XDG_CACHE_HOME:-$HOME/.cache}/misuse/$sum
+if [ -f "$kept" ]; then
+    cat "$kept"
+    exit 0
+fi
+if [ -z "$clone" ] || [ ! -d "$clone" ]; then
+    clone=$scratch/clone
+    scripts/clones.py make --kept "$clone" $libraries
+fi
+crate=$clone/crates/misuse
+mkdir -p "$crate/src"
+grep -q '^misuse:' "$clone/crates.txt" || echo "misuse: $libraries" >> "$clone/crates.txt"
 
-check() {
-    cp "misuse/$1.txt" "$scratch/src/lib.rt"
-    (cd "$scratch" && "$kit/bin/rattle" check --crate-name misuse src/lib.rt "${words[@]}") > "$scratch/answer" 2>&1
+# Whether `rt check` takes this caller.
+passes() {
+    cp "misuse/$1.txt" "$crate/src/lib.rt"
+    (cd "$crate" && rt check) > "$scratch/answer" 2>&1
 }
 
 passed=0
 for pair in "an_entry unit" "an_entry section" "a_text strings"; do
     read -r lent owner <<< "$pair"
     echo "misuse: checking a caller that uses ${lent/_/ } before it drops its $owner"
-    if ! check "${lent}_within_its_$owner"; then
+    if ! passes "${lent}_within_its_$owner"; then
         cat "$scratch/answer"
-        echo "misuse: the sound counterpart was refused" >&2
-        exit 1
+        stop "the sound counterpart was refused"
     fi
     echo "misuse: checking a caller that uses ${lent/_/ } after it drops its $owner"
-    if check "${lent}_outlives_its_$owner" || ! grep -q "borrow-e0505.*\`$owner\`" "$scratch/answer"; then
+    if passes "${lent}_outlives_its_$owner" || ! grep -q "borrow-e0505.*\`$owner\`" "$scratch/answer"; then
         cat "$scratch/answer"
-        echo "misuse: ${lent/_/ } that outlives its $owner was not refused as such" >&2
-        exit 1
+        stop "${lent/_/ } that outlives its $owner was not refused as such"
     fi
     passed=$((passed + 2))
 done
-echo "misuse: an entry or a text that outlives what it was lent from is refused, the sound counterparts pass"
-echo "$passed passed, 0 failed"
+{
+    echo "misuse: an entry or a text that outlives what it was lent from is refused, the sound counterparts pass"
+    echo "$passed passed, 0 failed"
+} > "$scratch/verdict"
+mkdir -p "$(dirname "$kept")"
+cp "$scratch/verdict" "$kept"
+cat "$kept"

@@ -1,39 +1,41 @@
 #!/usr/bin/env python3
 """Tries wrong bodies in rounds, many of them in one check: the prover has to refuse each.
 
-Usage: scripts/wrong_bodies.py [NAME..] [--must-fail] [--edit EDIT] [--built] [--jobs N] [--anew] [--cache FOLDER] [--logs FOLDER]
+Usage: scripts/wrong_bodies.py [NAME..] [--must-fail] [--edit EDIT] [--from-nothing] [--clones FOLDER] [--side-by-side N] [--anew]
+                               [--cache FOLDER] [--logs FOLDER]
 
 A wrong body is a file crates/NAME/wrong/*.edit (with --must-fail crates/NAME/must-fail/*.edit too): lines `file: src/a.rt`, and then
 pairs `old: TEXT` and `new: TEXT`, where TEXT stands in that file exactly once. Where no body holds the text, a line `fn: a::T::f ..` names
 what is checked. A line `clause: GOAL` names a goal that has to be among the refused ones.
 
 The goals of a function stand on the contracts of what it calls, and not on the bodies. So a round changes the bodies of many functions, at
-most one each, and one check tells what is refused of each function. What changes no body is tried alone. An edit passes where a goal of
+most one each, and one `rt check` tells what is refused of each function. What changes no body is tried alone. An edit passes where a goal of
 its own function is refused. It fails where the function is proved (NOT REFUSED); where only a callee is refused, or nothing is told (NOT
 TRIED); where its proof file just names what the edit took away, or another goal than `clause:` is refused (WEAK); and where it
 can't be applied or compiled (BAD EDIT). A line is printed for each, with the function and the goals.
 
-What passed is kept by a sum of all that it stands on, and not tried again without --anew. The libraries below a crate have to be built, by
-`rt lib`; with --built those that `rt ci` left are taken as they are, of which nothing says from what files they were made. The last line
-is `N passed, M failed`, and the status is 0 where none failed and some passed.
+The rounds work in clones of the tree at hand (scripts/clones.py), and never in the tree itself. The libraries are built in one of them, over
+what `rt lib` and `rt check` kept in the tree at hand, where nothing may run then; with --from-nothing all is proved anew. It is copied for as
+many crates as are tried side by side. The clones are gone at the end, unless --clones names the folder that they are made in.
+
+What passed is kept by a sum of all that it stands on, and not tried again without --anew. The last line is `N passed, M failed`, and the
+status is 0 where none failed and some passed, else 1.
 """
 
 import argparse
 import functools
 import hashlib
 import os
+import queue
 import re
-import shutil
 import signal
-import subprocess
 import sys
 import tempfile
 from concurrent.futures import ThreadPoolExecutor
 from dataclasses import dataclass, field
 
-sys.dont_write_bytecode = True
-sys.path.insert(0, os.path.dirname(os.path.realpath(shutil.which("rt") or sys.exit("wrong_bodies.py: rt is not on PATH"))))
-import rtlib  # noqa: E402
+import clones
+from clones import Stop
 
 PUB = r"(?:pub(?:\([\w: ]+\))? )?"
 FUNCTION = re.compile(rf"(?m)^( *){PUB}(?:(?:const|unsafe) )*fn (\w+)")
@@ -50,13 +52,21 @@ ONLY_NAMES = re.compile(r"has no field|is not in scope|has no `|was not admitted
 # The front end refuses a text, or the prover can't read it.
 UNREAD = re.compile(r"(?m)^(?:.*\berror\[|(?:\./)?(?:src|specs)/\S+:\d+:\d+: error: (?:(?!`[^`]*`: )|.*(?:is not in scope|has no field|is no name))).*$")
 
+# So few edits are tried without a library of their crate.
+FEW = 5
+
 REFUSED, WEAK, ACCEPTED, BAD, UNCLEAR = "refused", "WEAK", "NOT REFUSED", "BAD EDIT", "NOT TRIED"
 
 
-class Crate(rtlib.Crate):
-    """A crate, and what the checks of it took."""
+@dataclass(eq=False)
+class Judged:
+    """A crate in a clone, and what the checks of it took."""
 
-    checks, seconds, logs = 0, 0.0, ""
+    name: str
+    folder: str
+    logs: str = ""
+    checks: int = 0
+    seconds: float = 0.0
 
 
 @dataclass
@@ -73,7 +83,7 @@ class Function:
 class Edit:
     """A wrong body, and what has come of it."""
 
-    crate: Crate
+    crate: Judged
     name: str
     text: str
     pairs: list = field(default_factory=list)
@@ -96,12 +106,11 @@ class Edit:
 
 @functools.lru_cache(maxsize=None)
 def text_of(crate, path):
-    with open(f"{crate.folder}/{path}", encoding="utf-8") as file:
-        return file.read()
+    return clones.text_of(f"{crate.folder}/{path}")
 
 
 def sources(crate):
-    return [os.path.relpath(it, crate.folder) for it in rtlib.files_of(crate.folder) if it.endswith(".rt")]
+    return [os.path.relpath(it, crate.folder) for it in clones.files_of(crate.folder) if it.endswith(".rt")]
 
 
 def module_of(path):
@@ -225,27 +234,31 @@ def plan(crate, edits):
     return rounds
 
 
-def check(crate, edits, kept):
-    """What a check of the crate with these edits says, and its status."""
-    with tempfile.TemporaryDirectory(prefix="wrong-bodies-") as room:
-        for part in rtlib.PARTS:
-            if os.path.isdir(f"{crate.folder}/{part}"):
-                shutil.copytree(f"{crate.folder}/{part}", f"{room}/{part}")
-        for path, text in applied(crate, edits)[0].items():
-            with open(f"{room}/{path}", "w", encoding="utf-8") as file:
-                file.write(text)
-        only = [word for name in sorted({name for it in edits for name in it.functions}) for word in ("--only", name)]
-        words = [rtlib.RATTLE, "check", *crate.words(["--jobs", "1", *only], keeps=False), "--incremental", kept]
-        how = {"stdin": subprocess.DEVNULL, "stdout": subprocess.PIPE, "stderr": subprocess.STDOUT, "text": True, "errors": "replace"}
-        with subprocess.Popen([*rtlib.guarded(), *words], cwd=room, **how) as ran:
-            said = ran.stdout.read()
-            _, status, used = os.wait4(ran.pid, 0)
-            ran.returncode = os.waitstatus_to_exitcode(status)
-    crate.checks, crate.seconds = crate.checks + 1, crate.seconds + used.ru_utime + used.ru_stime
+def check(crate, edits):
+    """What `rt check` says of the crate with these edits, and its status. The crate's files are then as they were."""
+    texts = applied(crate, edits)[0]
+    before = {path: text_of(crate, path) for path in texts}
+    only = [word for name in sorted({name for it in edits for name in it.functions}) for word in ("--only", name)]
+    try:
+        put(crate, texts)
+        ran = clones.run(["rt", "check", "--jobs", "1", *only], crate.folder)
+    finally:
+        put(crate, before)
+    crate.checks, crate.seconds = crate.checks + 1, crate.seconds + ran.seconds
     if crate.logs:
-        with open(f"{crate.logs}/{crate.name}-{crate.checks}.out", "w", encoding="utf-8") as file:
-            file.write(said)
-    return said, ran.returncode
+        put_text(f"{crate.logs}/{crate.name}-{crate.checks}.out", ran.said)
+    # (rt adds hints behind the verdict)
+    return "\n".join(line for line in ran.said.split("\n") if not line.startswith("rt: ")), ran.status
+
+
+def put(crate, texts):
+    for path, text in texts.items():
+        put_text(f"{crate.folder}/{path}", text)
+
+
+def put_text(path, text):
+    with open(path, "w", encoding="utf-8") as file:
+        file.write(text)
 
 
 def refusals(crate, said):
@@ -287,12 +300,12 @@ def judge(edit, said, refused):
         edit.set(UNCLEAR, f": {', '.join(told.get(it, 'nothing is told') for it in edit.functions)}")
 
 
-def try_round(crate, edits, kept):
+def try_round(crate, edits):
     """Tries a round, and again in smaller ones what it tells nothing clear of."""
-    said, status = check(crate, edits, kept)
+    said, status = check(crate, edits)
     if status == -signal.SIGKILL and len(edits) == 1:
         # (most likely for memory)
-        said, status = check(crate, edits, kept)
+        said, status = check(crate, edits)
     last, unread, unknown = said.rstrip().rpartition("\n")[2], UNREAD.search(said), NO_FUNCTION.search(said)
     if unknown and any(unknown[1] in it.functions for it in edits):
         again = without_unknown(edits, unknown[1])
@@ -305,7 +318,7 @@ def try_round(crate, edits, kept):
         again = judge_all(crate, edits, said)
     for fewer in again:
         if fewer and len(edits) > 1:
-            try_round(crate, fewer, kept)
+            try_round(crate, fewer)
 
 
 def without_unknown(edits, name):
@@ -335,58 +348,67 @@ def judge_all(crate, edits, said):
 # ---- a crate
 
 
-def linked(one, other):
-    """Copies a file of what a check kept, what was proved by a link: a check replaces such a file, and changes none."""
-    try:
-        return os.link(one, other) if one.endswith(".oantt") else shutil.copy2(one, other)
-    except OSError:
-        return shutil.copy2(one, other)
+@dataclass
+class Work:
+    """The wrong bodies of a crate, and where their verdicts are kept."""
+
+    crate: clones.Crate
+    files: list
+    edits: list
+    cache: str
+    # A sum of all that a verdict stands on, but for the edit: the crate and those below it, the kit, and the scripts.
+    base: str
+
+    def place(self, edit):
+        return f"{self.cache}/{hashlib.sha256((self.base + edit.text).encode()).hexdigest()}"
+
+    def to_try(self):
+        return [it for it in self.edits if not it.kind]
+
+    def take_kept(self):
+        for edit in self.edits:
+            if not edit.kind and os.path.isfile(self.place(edit)):
+                edit.set(REFUSED, clones.text_of(self.place(edit)))
+
+    def keep(self, edits):
+        for edit in edits:
+            if edit.kind == REFUSED:
+                put_text(self.place(edit), edit.what)
 
 
-def try_crate(crate, edits, cache, is_anew):
-    """Tries the edits of a crate that the cache doesn't hold, over what `rt check` kept in out/, if anything."""
-    # A verdict stands on the crate and all below it, the kit, this script, and the edit.
-    base = repr((crate.stamp(), rtlib.text_of(f"{rtlib.KIT}/KIT-ID"), rtlib.text_of(os.path.realpath(__file__))))
-
-    def place(edit):
-        return f"{cache}/{hashlib.sha256((base + edit.text).encode()).hexdigest()}"
-
-    for edit in edits:
-        if not is_anew and not edit.kind and os.path.isfile(place(edit)):
-            edit.set(REFUSED, rtlib.text_of(place(edit)))
-    rounds = plan(crate, [it for it in edits if not it.kind])
-    with tempfile.TemporaryDirectory(prefix="wrong-bodies-kept-") as kept:
-        if rounds and crate.has_kept():
-            shutil.copytree(f"{crate.folder}/{rtlib.KEPT[1]}", kept, copy_function=linked, dirs_exist_ok=True)
-        for some in rounds:
-            try_round(crate, some, kept)
-            for edit in some:
-                if edit.kind == REFUSED:
-                    with open(place(edit), "w", encoding="utf-8") as file:
-                        file.write(edit.what)
-    spent = f"{crate.name}: {len(rounds)} rounds, {crate.checks} checks, {crate.seconds:.0f} s of processor"
-    print("\n".join([*map(str, edits), spent]), flush=True)
+def try_crate(work, clone, logs):
+    """Tries the edits of a crate that aren't judged yet, in a clone in which the libraries below it stand."""
+    judged = Judged(work.crate.name, work.crate.path(clone), logs)
+    for edit in work.edits:
+        edit.crate = judged
+    rounds = plan(judged, work.to_try())
+    for some in rounds:
+        try_round(judged, some)
+        work.keep(some)
+    spent = f"{judged.name}: {len(rounds)} rounds, {judged.checks} checks, {judged.seconds:.0f} s of processor"
+    print("\n".join([*map(str, work.edits), spent]), flush=True)
 
 
-def fails_itself():
+def fails_itself(folder):
     """Tries a crate of this script's own: a wrong body, one that means the same, and one that means the same and calls the wrong one. Only
     the first may be refused, and not what stands above it unchanged. Returns what went otherwise."""
-    with tempfile.TemporaryDirectory(prefix="wrong-bodies-self-") as top:
-        os.makedirs(f"{top}/crates/own/src")
-        text = "//! Tried.\n#![tactic(auto)]\n\nghost use Rattle.std.specs.Prelude.{◌≡◌};\n"
-        for name, body in {"low": "n", "high": "low(n)", "highest": "high(n)", "apart": "let m = n; m"}.items():
-            text += f"\npub fn {name}(n: u8) -> u8\n    ensures {{ result ≡ n }}\n{{\n    {body}\n}}\n"
-        files = {"crates.txt": "own:\n", "crates/own/src/lib.rt": text}
-        for name, old, new in (("low", "    n", "    1"), ("high", "    low(n)", "    let n = low(n); n"), ("apart", "let m = n; m", "n")):
-            files[f"{name}.edit"] = f"file: src/lib.rt\nold: {old}\nnew: {new}\n"
-        for path, content in files.items():
-            with open(f"{top}/{path}", "w", encoding="utf-8") as file:
-                file.write(content)
-        crate = Crate(f"{top}/crates/own", top, {})
-        edits = [read(crate, f"{top}/{it}.edit") for it in ("low", "high", "apart")]
-        for some in plan(crate, edits):
-            try_round(crate, some, f"{top}/kept")
-        return "" if [it.kind for it in edits] == [REFUSED, ACCEPTED, ACCEPTED] else "\n".join(map(str, edits))
+    text = "//! Tried.\n#![tactic(auto)]\n\nghost use Rattle.std.specs.Prelude.{◌≡◌};\n"
+    for name, body in {"low": "n", "high": "low(n)", "highest": "high(n)", "apart": "let m = n; m"}.items():
+        text += f"\npub fn {name}(n: u8) -> u8\n    ensures {{ result ≡ n }}\n{{\n    {body}\n}}\n"
+    os.makedirs(f"{folder}/crates/own/src")
+    files = {"crates.txt": "own:\n", "crates/own/src/lib.rt": text}
+    for name, old, new in (("low", "    n", "    1"), ("high", "    low(n)", "    let n = low(n); n"), ("apart", "let m = n; m", "n")):
+        files[f"{name}.edit"] = f"file: src/lib.rt\nold: {old}\nnew: {new}\n"
+    for path, content in files.items():
+        put_text(f"{folder}/{path}", content)
+    crate = Judged("own", f"{folder}/crates/own")
+    edits = [read(crate, f"{folder}/{it}.edit") for it in ("low", "high", "apart")]
+    for some in plan(crate, edits):
+        try_round(crate, some)
+    return "" if [it.kind for it in edits] == [REFUSED, ACCEPTED, ACCEPTED] else "\n".join(map(str, edits))
+
+
+# ---- all of them
 
 
 def asked():
@@ -394,8 +416,9 @@ def asked():
     ask.add_argument("names", nargs="*", metavar="NAME", help="the crates, or else all")
     ask.add_argument("--must-fail", action="store_true", help="try the edits of must-fail/ too")
     ask.add_argument("--edit", action="append", default=[], help="try this edit, by its name (repeatable)")
-    ask.add_argument("--built", action="store_true", help="take the libraries as they are: rt ci has just passed")
-    ask.add_argument("--jobs", type=int, default=len(os.sched_getaffinity(0)), help="how many checks at one time")
+    ask.add_argument("--from-nothing", action="store_true", help="take nothing over from the tree at hand")
+    ask.add_argument("--clones", default="", metavar="FOLDER", help="make the clones in this folder, and leave them there: 1, 2 and so on")
+    ask.add_argument("--side-by-side", type=int, default=len(os.sched_getaffinity(0)), metavar="N", help="how many crates at one time")
     ask.add_argument("--anew", action="store_true", help="try what passed before, too")
     ask.add_argument("--cache", default=f"{os.environ.get('XDG_CACHE_HOME') or os.path.expanduser('~/.cache')}/wrong_bodies")
     ask.add_argument("--logs", default="", help="a folder for what each check says")
@@ -404,33 +427,82 @@ def asked():
 
 def work_in(top, given):
     """The crates that have wrong bodies, each with these."""
-    known, work = {}, []
-    for name in given.names or sorted(os.listdir(f"{top}/crates")):
-        folders = [f"{top}/crates/{name}/{it}" for it in ("wrong", "must-fail")[: 1 + given.must_fail]]
+    crates, work, found = clones.crates_in(top), [], set()
+    scripts = "".join(clones.text_of(os.path.realpath(it)) for it in (__file__, clones.__file__))
+    for name in given.names or list(crates):
+        crate = clones.known(crates, name)
+        folders = [f"{crate.path(top)}/{it}" for it in ("wrong", "must-fail")[: 1 + given.must_fail]]
         files = [f"{at}/{it}" for at in folders if os.path.isdir(at) for it in sorted(os.listdir(at)) if it.endswith(".edit")]
         files = [it for it in files if not given.edit or os.path.basename(it).removesuffix(".edit") in given.edit]
-        if not files:
-            continue
-        crate = Crate(f"{top}/crates/{name}", top, known)
-        crate.logs = given.logs
-        lacking = [it.name for it in crate.below() if not (os.path.isdir(it.rlib) if given.built else it.is_built())]
-        if lacking:
-            sys.exit(f"wrong_bodies.py: {', '.join(lacking)} must be built before {name}: rt lib {lacking[-1]}")
-        work.append((crate, [read(crate, it) for it in files]))
+        found |= {os.path.basename(it).removesuffix(".edit") for it in files}
+        if files:
+            edits = [read(Judged(name, crate.path(top)), it) for it in files]
+            work.append(Work(crate, files, edits, given.cache, clones.sum_of(top, [crate]) + scripts))
+    for name in given.edit:
+        if name not in found:
+            raise Stop(f"there is no edit {name}")
     return work
+
+
+def try_all(work, folder, given):
+    """Tries the edits of all these crates in clones in this folder, and returns what went wrong with the script itself. The highest crates
+    are tried first, so that all below a crate is in each clone as it was built."""
+    first = f"{folder}/1"
+    clones.clone(clones.TOP, first)
+    below = clones.with_all_below([it.crate for it in work])
+    taken = [] if given.from_nothing else clones.take_kept(clones.TOP, first, below)
+    if taken:
+        print(f"taken over from the tree at hand: what was kept of {', '.join(taken)}", flush=True)
+    for crate in libraries_for(work):
+        print(f"{crate.name}: library, {clones.build(first, crate):.0f} s of processor", flush=True)
+    count = max(1, min(given.side_by_side, len(work)))
+    for number in range(2, count + 1):
+        clones.copy_of(first, f"{folder}/{number}")
+    free = queue.Queue()
+    for number in range(1, count + 1):
+        free.put(f"{folder}/{number}")
+
+    def try_one(one):
+        clone = free.get()
+        try:
+            try_crate(one, clone, given.logs)
+        finally:
+            free.put(clone)
+
+    with tempfile.TemporaryDirectory(prefix="wrong-bodies-self-") as own, ThreadPoolExecutor(count) as pool:
+        runs = [pool.submit(try_one, it) for it in sorted(work, key=lambda it: -len(it.crate.below))]
+        runs.append(pool.submit(fails_itself, own))
+        try:
+            return [it.result() for it in runs][-1]
+        except BaseException:
+            clones.end_all()
+            pool.shutdown(cancel_futures=True)
+            raise
+
+
+def libraries_for(work):
+    """The crates whose libraries are built first: those below, and those of many edits, whose rounds then begin over what that kept."""
+    below = [it for one in work for it in one.crate.below]
+    return [it for it in clones.with_all_below([it.crate for it in work]) if it in below or any(one.crate is it and len(one.to_try()) > FEW for one in work)]
 
 
 def main():
     given = asked()
-    os.makedirs(given.cache, exist_ok=True)
-    work = work_in(rtlib.root_above(os.path.dirname(os.path.realpath(__file__))), given)
-    rtlib.guarded()  # (the first call sets a signal, which only the main thread may)
-    with ThreadPoolExecutor(max(given.jobs, 1)) as pool:
-        runs = [pool.submit(try_crate, *it, given.cache, given.anew) for it in sorted(work, key=lambda it: -len(it[1]))]
-        wrong = pool.submit(fails_itself).result()
-        for run in runs:
-            run.result()
-    kinds = [edit.kind for _, edits in work for edit in edits]
+    for folder in filter(None, (given.cache, given.logs)):
+        os.makedirs(folder, exist_ok=True)
+    work = work_in(clones.TOP, given)
+    for one in work:
+        if not given.anew:
+            one.take_kept()
+    pending = [it for it in work if it.to_try()]
+    for one in work:
+        if one not in pending:
+            print("\n".join(map(str, one.edits)))
+    wrong = ""
+    if pending:
+        with clones.folder_for_clones(given.clones) as folder:
+            wrong = try_all(pending, folder, given)
+    kinds = [edit.kind for one in work for edit in one.edits]
     failed = len(kinds) - kinds.count(REFUSED) + bool(wrong)
     if wrong:
         print(f"the self-test failed, so nothing of this counts:\n{wrong}")
@@ -439,4 +511,4 @@ def main():
 
 
 if __name__ == "__main__":
-    sys.exit(main())
+    clones.ended_well("wrong_bodies.py", main)

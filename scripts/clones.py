@@ -1,0 +1,276 @@
+#!/usr/bin/env python3
+"""Clones of the tree at hand, with the libraries of its crates, for scripts that change sources and check them.
+
+Usage: scripts/clones.py make FOLDER NAME..   makes the clone FOLDER, with the libraries NAME and all below them
+       scripts/clones.py sum NAME..           prints a sum of all that a check above these crates reads
+
+A clone has the files that git knows in the tree at hand, and those that it doesn't ignore, as they are now. The libraries are built in
+it by `rt lib`, from the lowest on. With --kept it begins with what `rt lib` and `rt check` kept in the tree at hand, so that no more is proved
+than what has changed; nothing may run in the tree meanwhile. The tree at hand is never changed.
+"""
+
+import argparse
+import contextlib
+import functools
+import hashlib
+import os
+import shutil
+import signal
+import subprocess
+import sys
+import tempfile
+import threading
+from dataclasses import dataclass, field
+
+TOP = os.path.dirname(os.path.dirname(os.path.realpath(__file__)))
+
+# What a check of a crate reads, of all that is in its folder.
+READ = (".rt", ".antt")
+
+
+class Stop(Exception):
+    """Why a script ends, in one line."""
+
+
+@dataclass
+class Crate:
+    """A crate of the repository, and the crates below it, lowest first."""
+
+    name: str
+    below: list = field(default_factory=list)
+
+    def path(self, top):
+        return os.path.join(top, "crates", self.name)
+
+
+@dataclass
+class Ran:
+    """What a command said, its status, and the seconds of processor that it and all that it started took."""
+
+    said: str
+    status: int
+    seconds: float
+
+
+# ---- the crates
+
+
+def crates_in(top):
+    """The crates that crates.txt lists, by their names, those below a crate before it."""
+    listed = {}
+    for line in text_of(os.path.join(top, "crates.txt")).split("\n"):
+        name, colon, rest = line.partition(":")
+        if colon and not line.startswith("#"):
+            listed[name.split()[0]] = rest.split()
+    made = {}
+
+    def make(name):
+        if name not in made:
+            below = []
+            for crate in [make(it) for it in listed[name] if it in listed]:
+                below += [it for it in [*crate.below, crate] if it not in below]
+            made[name] = Crate(name, below)
+        return made[name]
+
+    for name in listed:
+        make(name)
+    return made
+
+
+def text_of(path):
+    with open(path, encoding="utf-8") as file:
+        return file.read()
+
+
+def known(crates, name):
+    if name not in crates:
+        raise Stop(f"there is no crate {name} in crates.txt")
+    return crates[name]
+
+
+def files_of(folder):
+    """The files of a crate, without what was made of them."""
+    found = []
+    for at, folders, names in os.walk(folder):
+        folders[:] = sorted(it for it in folders if it != "out")
+        found += [os.path.join(at, it) for it in sorted(names)]
+    return found
+
+
+def sum_of(top, crates):
+    """A sum of all that a check of these crates reads: their files and those of all below, and which kit it is."""
+    found = hashlib.sha256(version().encode())
+    for crate in with_all_below(crates):
+        for file in files_of(crate.path(top)):
+            if file.endswith(READ):
+                with open(file, "rb") as opened:
+                    found.update(repr((os.path.relpath(file, top), opened.read())).encode())
+    return found.hexdigest()
+
+
+def with_all_below(crates):
+    found = []
+    for crate in crates:
+        found += [it for it in [*crate.below, crate] if it not in found]
+    return found
+
+
+@functools.lru_cache(maxsize=None)
+def version():
+    """The line by which the kit tells what it is."""
+    if not shutil.which("rt"):
+        raise Stop("rt is not on PATH")
+    return run(["rt", "version"], TOP).said
+
+
+# ---- commands
+
+_running = set()
+# (the main thread may be interrupted while it holds this)
+_lock = threading.RLock()
+_ends = threading.Event()
+
+
+def run(words, folder):
+    """Runs a command to its end, unless the script is about to end."""
+    how = {"stdin": subprocess.DEVNULL, "stdout": subprocess.PIPE, "stderr": subprocess.STDOUT, "text": True, "errors": "replace"}
+    with _lock:
+        if _ends.is_set():
+            raise Stop("it was ended")
+        ran = subprocess.Popen(words, cwd=folder, start_new_session=True, **how)
+        _running.add(ran.pid)
+    with ran:
+        said = ran.stdout.read()
+        _, status, used = os.wait4(ran.pid, 0)
+        ran.returncode = os.waitstatus_to_exitcode(status)
+    with _lock:
+        _running.discard(ran.pid)
+    return Ran(said, ran.returncode, used.ru_utime + used.ru_stime)
+
+
+def end_all():
+    """Ends the commands that this script began and that still run. It begins no more."""
+    _ends.set()
+    with _lock:
+        for pid in _running:
+            with contextlib.suppress(ProcessLookupError):
+                os.killpg(pid, signal.SIGTERM)
+
+
+def ended_well(name, main):
+    """Ends the script with the status of `main`. What stops it is told in one line, by the script's name."""
+    sys.stdout.reconfigure(line_buffering=True)
+    for number in (signal.SIGINT, signal.SIGTERM, signal.SIGHUP):
+        signal.signal(number, interrupted)
+    try:
+        sys.exit(main())
+    except Stop as why:
+        print(f"{name}: {why}", file=sys.stderr)
+    except OSError as why:
+        print(f"{name}: {why.filename or 'a file'}: {why.strerror or why}", file=sys.stderr)
+    sys.exit(1)
+
+
+def interrupted(number, _frame):
+    for other in (signal.SIGINT, signal.SIGTERM, signal.SIGHUP):
+        signal.signal(other, signal.SIG_IGN)
+    end_all()
+    raise Stop(f"interrupted by {signal.Signals(number).name}")
+
+
+# ---- clones
+
+
+@contextlib.contextmanager
+def folder_for_clones(given=""):
+    """The folder that the caller names, or else one that is gone at the end."""
+    if given:
+        os.makedirs(given, exist_ok=True)
+        yield os.path.realpath(given)
+        return
+    folder = os.path.realpath(tempfile.mkdtemp(prefix="clones-"))
+    try:
+        yield folder
+    finally:
+        end_all()
+        shutil.rmtree(folder, ignore_errors=True)
+
+
+def clone(top, folder):
+    """Makes a clone of the tree at hand, with what has changed in it since its last commit."""
+    git(["clone", "--quiet", top, folder], top)
+    changed = git(["status", "--porcelain=v1", "-z", "--no-renames", "--untracked-files=all"], top)
+    for line in changed.split("\0"):
+        path = line[3:]
+        if not path:
+            continue
+        there = os.path.join(folder, path)
+        if os.path.isfile(os.path.join(top, path)):
+            os.makedirs(os.path.dirname(there), exist_ok=True)
+            shutil.copy2(os.path.join(top, path), there)
+        elif os.path.isfile(there):
+            os.remove(there)
+
+
+def git(words, folder):
+    ran = subprocess.run(["git", *words], cwd=folder, stdin=subprocess.DEVNULL, capture_output=True, text=True)
+    if ran.returncode:
+        raise Stop(f"git {words[0]}: {(ran.stderr.strip() or 'failed').splitlines()[-1]}")
+    return ran.stdout
+
+
+def take_kept(top, folder, crates):
+    """Copies what was kept of these crates in the tree at hand, and returns the names of those that have some."""
+    taken = []
+    for crate in crates:
+        kept = os.path.join(crate.path(top), "out")
+        if not os.path.isdir(kept):
+            continue
+        there = os.path.join(crate.path(folder), "out")
+        try:
+            shutil.copytree(kept, there, symlinks=True)
+            taken.append(crate.name)
+        except shutil.Error:
+            # (something ran there)
+            shutil.rmtree(there, ignore_errors=True)
+    return taken
+
+
+def build(folder, crate):
+    """Builds the library of a crate in a clone, over those below it."""
+    ran = run(["rt", "lib"], crate.path(folder))
+    if ran.status:
+        lines = [it for it in ran.said.split("\n") if "error" in it or it.startswith("fn ") and ": proved" not in it] or ran.said.strip().split("\n")[-1:]
+        raise Stop(f"the library of {crate.name} could not be built: {lines[0]}")
+    return ran.seconds
+
+
+def copy_of(one, other):
+    """Copies a clone whole, in which nothing runs."""
+    ran = run(["cp", "-a", one, other], os.path.dirname(one))
+    if ran.status:
+        raise Stop(f"a clone could not be copied: {ran.said.strip().splitlines()[-1]}")
+
+
+def main():
+    ask = argparse.ArgumentParser(description=__doc__, formatter_class=argparse.RawDescriptionHelpFormatter)
+    ask.add_argument("what", choices=("make", "sum"))
+    ask.add_argument("words", nargs="+")
+    ask.add_argument("--kept", action="store_true", help="begin with what the tree at hand kept")
+    given = ask.parse_args()
+    crates = crates_in(TOP)
+    if given.what == "sum":
+        print(sum_of(TOP, [known(crates, it) for it in given.words]))
+        return 0
+    folder, *names = given.words
+    wanted = with_all_below([known(crates, it) for it in names])
+    clone(TOP, folder)
+    if given.kept:
+        take_kept(TOP, folder, wanted)
+    for crate in wanted:
+        print(f"{crate.name}: library, {build(folder, crate):.0f} s of processor")
+    return 0
+
+
+if __name__ == "__main__":
+    ended_well("clones.py", main)
