@@ -12,7 +12,7 @@ use std::alloc::Global;
 pub fn answer(alloc: Global, input: &str, text: &mut String) -> Result<(), CaseError> {
     match verb(input) {
         "decl" => declare(alloc, input, text),
-        "debug" => print(alloc, input, text),
+        "debug" | "debug-lines" | "debug-table" | "debug-builder" => print(alloc, input, text),
         _ => {
             let table = built(alloc, input, text)?;
             append_built(alloc, input, &table, text)
@@ -28,12 +28,44 @@ fn declare(alloc: Global, input: &str, text: &mut String) -> Result<(), CaseErro
     append_decl(&decl, text)
 }
 
-/// A declaration and its pairs, as `Debug` prints them.
+/// A declaration and its pairs, in one line or in several, or a table or its builder, as `Debug` prints them.
 fn print(alloc: Global, input: &str, text: &mut String) -> Result<(), CaseError> {
+    match verb(input) {
+        "debug" => print_decl(alloc, input, text),
+        "debug-lines" => print_lines(alloc, input, text),
+        "debug-table" => print_table(alloc, input, text),
+        _ => print_builder(alloc, input, text),
+    }
+}
+
+fn print_decl(alloc: Global, input: &str, text: &mut String) -> Result<(), CaseError> {
     allow(input, &["debug", "pair"])?;
     let mut decl = decl_of(alloc, words(input, "debug")?)?;
     put_pairs(&mut decl, input, text)?;
     Ok(write!(text, "{decl:?}")?)
+}
+
+/// The same by `{:#?}`, whose lines are put behind one another with a `|` behind each.
+fn print_lines(alloc: Global, input: &str, text: &mut String) -> Result<(), CaseError> {
+    allow(input, &["debug-lines", "pair"])?;
+    let mut decl = decl_of(alloc, words(input, "debug-lines")?)?;
+    put_pairs(&mut decl, input, text)?;
+    let printed = format!(in alloc; "{decl:#?}")?;
+    for line in printed.as_str().lines() {
+        write!(text, "{line}|")?;
+    }
+    Ok(())
+}
+
+fn print_table(alloc: Global, input: &str, text: &mut String) -> Result<(), CaseError> {
+    let table = built(alloc, input, text)?;
+    Ok(write!(text, "{table:?}")?)
+}
+
+fn print_builder(alloc: Global, input: &str, text: &mut String) -> Result<(), CaseError> {
+    let mut builder = TableBuilder::new(alloc);
+    add_all(alloc, input, &mut builder, text)?;
+    Ok(write!(text, "{builder:?}")?)
 }
 
 /// `1 0x11 no 1 1`: a code, a tag, whether there are children, and the widths of the zeros.
@@ -93,7 +125,16 @@ fn add_all(
     builder: &mut TableBuilder,
     text: &mut String,
 ) -> Result<(), CaseError> {
-    allow(input, &["add", "add-each", "end", "code", "codes"])?;
+    let words = [
+        "add",
+        "add-each",
+        "end",
+        "code",
+        "codes",
+        "debug-table",
+        "debug-builder",
+    ];
+    allow(input, &words)?;
     for clause in input.split(", ") {
         if let Some(words) = clause.strip_prefix("add ") {
             add(decl_with_pairs(alloc, words)?, builder, text)?;

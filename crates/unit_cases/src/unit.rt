@@ -4,6 +4,7 @@
 //! - `entries`, `last entry`, `entry at OFFSET`, `children of OFFSET`, `attributes of OFFSET`,
 //!   `attribute NAME of OFFSET`, `numbers of OFFSET`, `bare values of OFFSET`: as `entries` says;
 //! - `calls`: by how many calls it goes out, as `calls` says;
+//! - `printed`: as `Debug` prints it;
 //! - `put NUMBER as NAME of OFFSET`: as `put` says.
 use crate::calls::append_calls;
 use crate::entries::append_entries;
@@ -32,6 +33,7 @@ fn append_to_words(
     match words {
         ["unit"] => append_unit(unit, answer),
         ["calls"] => append_calls(alloc, unit, answer),
+        ["printed"] => write!(answer, "{unit:?}"),
         ["put", number, "as", name, "of", offset] => {
             append_put(alloc, unit, (offset, name, number), answer)
         }
