@@ -1,8 +1,11 @@
-//! A digest of numbers and bytes: it doesn't depend on how bytes are cut into pieces.
+//! A digest of numbers, texts and bytes: it doesn't depend on how bytes are cut into pieces, and tells what stands beside what.
 ghost use Rattle.std.specs.Prelude.{◌<◌};
 
 use std::io;
 use std::io::Write;
+
+/// Stands for an answer that isn't there.
+const NONE: u64 = 0x6e6f_6e65;
 
 #[derive(Drop)]
 pub(crate) struct Digest {
@@ -28,14 +31,26 @@ impl Digest {
     }
 
     pub(crate) fn add_number(&mut self, number: u64) {
-        let mixed = (self.state ^ number).wrapping_mul(0x9e37_79b9_7f4a_7c15);
-        self.state = mixed ^ (mixed >> 32);
+        self.settle();
+        self.mix(number);
     }
 
-    pub(crate) fn add_bytes(&mut self, bytes: &[u8]) {
+    /// Adds that there is no answer.
+    pub(crate) fn add_none(&mut self) {
+        self.add_number(NONE);
+    }
+
+    /// Adds a text: its length, so that no byte of it passes for one of another text, and its bytes.
+    pub(crate) fn add_text(&mut self, text: &[u8]) {
+        self.add_number(text.len() as u64);
+        self.add_bytes(text);
+    }
+
+    /// Adds bytes that come in pieces, as to a writer.
+    fn add_bytes(&mut self, bytes: &[u8]) {
         let mut left = self.fill(bytes);
         while let Some((word, behind)) = left.split_first_chunk::<8>() {
-            self.add_number(u64::from_le_bytes(*word));
+            self.mix(u64::from_le_bytes(*word));
             left = behind;
         }
         for byte in left {
@@ -60,9 +75,23 @@ impl Digest {
         self.part = (self.part >> 8) | (u64::from(byte) << 56);
         self.held = (self.held % 8 + 1) % 8;
         if self.held == 0 {
-            self.add_number(self.part);
+            self.mix(self.part);
             self.part = 0;
         }
+    }
+
+    /// Bytes that make no whole word are one, with their count: what comes behind them can't join them.
+    fn settle(&mut self) {
+        if self.held != 0 {
+            self.mix(self.part ^ u64::from(self.held));
+            self.part = 0;
+            self.held = 0;
+        }
+    }
+
+    fn mix(&mut self, word: u64) {
+        let mixed = (self.state ^ word).wrapping_mul(0x9e37_79b9_7f4a_7c15);
+        self.state = mixed ^ (mixed >> 32);
     }
 }
 

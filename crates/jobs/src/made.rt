@@ -28,8 +28,8 @@ pub(crate) fn units(
 ) -> Result<(), JobError> {
     let mut abbrev = Vec::new(alloc);
     let info = info_of(alloc, count, &mut abbrev, random, digest)?;
-    digest.add_bytes(info.as_slice());
-    digest.add_bytes(abbrev.as_slice());
+    digest.add_text(info.as_slice());
+    digest.add_text(abbrev.as_slice());
     let none = Strings {
         str: &[],
         line_str: &[],
@@ -54,21 +54,22 @@ fn info_of(
     digest: &mut Digest,
 ) -> Result<Vec<u8>, JobError> {
     let mut section = Section::new(alloc, Order::Little);
-    for _ in 0..count {
-        add_unit(alloc, abbrev, &mut section, random)?;
+    for number in 0..count {
+        add_unit(alloc, number, abbrev, &mut section, random)?;
     }
     change(&mut section, random, digest);
     Ok(written(alloc, &section)?)
 }
 
-/// Adds a unit with a table of its own, which is written behind the others.
+/// Adds a unit with a table of its own, which is written behind the others. No two units have the same constant in their tables.
 fn add_unit(
     alloc: Global,
+    number: usize,
     abbrev: &mut Vec<u8>,
     section: &mut Section,
     random: &mut Random,
 ) -> Result<(), JobError> {
-    let constant = Sleb::least(i64::from(random.byte()));
+    let constant = Sleb::least((number % 0x100_0000) as i64 * 256 + i64::from(random.byte()));
     let table = table_of(alloc, constant)?;
     let offset = abbrev.len() as u64;
     put_table(alloc, &table, abbrev)?;

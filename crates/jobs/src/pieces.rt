@@ -8,7 +8,7 @@ use crate::digest::Digest;
 use crate::error::JobError;
 use crate::joined::Joined;
 use crate::random::Random;
-use rothelduf::{BodyFeed, HeadFeed, Header, Order, Progress, Tables, Unit};
+use rothelduf::{BodyFeed, Format, HeadFeed, Header, Kind, Order, Progress, Tables, Unit};
 use std::alloc::Global;
 
 /// Of 32 units in a row, the most bytes of a piece: of a file or a socket, of a decompressor, and at worst one.
@@ -56,12 +56,37 @@ fn each_unit(
     Ok(())
 }
 
-/// What was read: how many bytes and rows it has, and its values with their texts.
+/// What was read: its header, how many bytes and rows it has, its values with their texts, its entries, and its padding.
 fn add_unit(unit: &Unit, digest: &mut Digest) {
+    add_header(unit.header(), digest);
     digest.add_number(unit.size());
     digest.add_number(unit.tree().row_count() as u64);
-    digest.add_bytes(unit.tree().heads());
-    digest.add_bytes(unit.tree().content());
+    digest.add_text(unit.tree().heads());
+    digest.add_text(unit.tree().content());
+    for entry in unit.entries() {
+        digest.add_number(entry.offset() ^ (entry.depth() << 40));
+        digest.add_number(entry.code().value ^ (u64::from(entry.code().width) << 56));
+    }
+    digest.add_text(unit.padding());
+}
+
+fn add_header(header: Header, digest: &mut Digest) {
+    digest.add_number(u64::from(header.format() == Format::Dwarf64));
+    digest.add_number(u64::from(header.address_size()));
+    digest.add_number(header.abbrev_offset());
+    match header.kind() {
+        Kind::Compile => digest.add_number(1),
+        Kind::TypeUnit {
+            signature,
+            type_offset,
+        } => {
+            digest.add_number(signature);
+            digest.add_number(type_offset);
+        }
+        Kind::Partial => digest.add_number(3),
+        Kind::Skeleton { dwo_id } => digest.add_number(dwo_id),
+        Kind::Four => digest.add_number(4),
+    }
 }
 
 /// The unit that these bytes are, in pieces of so many.

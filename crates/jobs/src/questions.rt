@@ -98,11 +98,12 @@ impl<'a> Asked<'a> {
         requires { IsSome (unit_at self.now.section.now.items id.item) }
     {
         for name in [DW_AT_TYPE, DW_AT_ABSTRACT_ORIGIN, DW_AT_SPECIFICATION] {
-            if let Some(attribute) = entry.attr(name) {
-                match self.section.resolve(id, &attribute) {
+            match entry.attr(name) {
+                Some(attribute) => match self.section.resolve(id, &attribute) {
                     Ok(target) => add_id(target, digest),
                     Err(fault) => digest.add_number(name + fault as u64 * 0x1_0000),
-                }
+                },
+                None => digest.add_none(),
             }
         }
     }
@@ -111,11 +112,12 @@ impl<'a> Asked<'a> {
         requires { IsSome (unit_at self.now.section.now.items id.item) }
     {
         for name in [DW_AT_NAME, DW_AT_LINKAGE_NAME] {
-            if let Some(attribute) = entry.attr(name) {
-                match self.strings.text(self.section, id, &attribute) {
-                    Ok(text) => digest.add_bytes(text),
+            match entry.attr(name) {
+                Some(attribute) => match self.strings.text(self.section, id, &attribute) {
+                    Ok(text) => digest.add_text(text),
                     Err(fault) => digest.add_number(name + fault as u64 * 0x1_0000),
-                }
+                },
+                None => digest.add_none(),
             }
         }
     }
@@ -127,7 +129,7 @@ impl<'a> Asked<'a> {
         }
         let answer = type_text(self.alloc, self.section, self.strings, id, b"x", text);
         digest.add_number(number_of(answer));
-        digest.add_bytes(text.as_slice());
+        digest.add_text(text.as_slice());
         text.clear();
     }
 }
@@ -155,9 +157,12 @@ fn number_of(answer: Result<(), TypeError>) -> u64 {
 /// Looks up what is at each of these offsets.
 fn find_each(section: &Section, offsets: &[u64], digest: &mut Digest) {
     for offset in offsets {
-        if let Some(id) = section.find(*offset) {
-            add_id(id, digest);
-            digest.add_number(tag_of(section, id));
+        match section.find(*offset) {
+            Some(id) => {
+                add_id(id, digest);
+                digest.add_number(tag_of(section, id));
+            }
+            None => digest.add_none(),
         }
     }
 }
