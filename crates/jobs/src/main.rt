@@ -4,6 +4,10 @@
 //! it reads from files in the folder that it runs in (`gcc/debug_info` and so on). SIZE says how often each unit is there; SEED gives the
 //! order of the units, and other numbers in the places of some of theirs. The jobs are `copy`, `check`, `show`,
 //! `questions`, `pieces` and `made`; `all` does each of them.
+//!
+//! Others are over the section of the files `info` and `abbrev`, as `bench/inputs.py` makes them: `push` pushes its units in pieces of SIZE
+//! bytes, `ask` asks what `questions` does, and `look-one`, `look-four`, `look-near`, `look-along` and `look-any` look up SIZE entries by
+//! their offsets.
 #![tactic(auto)]
 
 mod bytes;
@@ -11,6 +15,7 @@ mod corpus;
 mod digest;
 mod error;
 mod joined;
+mod look;
 mod made;
 mod parts;
 mod pieces;
@@ -23,6 +28,7 @@ mod whole;
 use crate::corpus::Corpus;
 use crate::digest::Digest;
 use crate::error::JobError;
+use crate::look::Pattern;
 use crate::random::Random;
 use dw_tool::command::Command;
 use std::env;
@@ -93,7 +99,23 @@ fn act_on(
         }
         "pieces" => push(rt, size, random, digest),
         "made" => make(rt, size, random, digest),
-        _ => Err(JobError::Usage),
+        "push" => pieces::of_files(rt, size, digest),
+        "ask" => questions::of_files(rt, random, digest),
+        _ => match pattern_of(job) {
+            Some(pattern) => look::of_files(rt, pattern, size, random, digest),
+            None => Err(JobError::Usage),
+        },
+    }
+}
+
+fn pattern_of(job: &str) -> Option<Pattern> {
+    match job {
+        "look-one" => Some(Pattern::One),
+        "look-four" => Some(Pattern::Four),
+        "look-near" => Some(Pattern::Near),
+        "look-along" => Some(Pattern::Along),
+        "look-any" => Some(Pattern::Any),
+        _ => None,
     }
 }
 

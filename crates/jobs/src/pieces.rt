@@ -10,6 +10,8 @@ use crate::joined::Joined;
 use crate::random::Random;
 use rothelduf::{BodyFeed, Format, HeadFeed, Header, Kind, Order, Progress, Tables, Unit};
 use std::alloc::Global;
+use std::fs;
+use std::rt::Files;
 
 /// Of 32 units in a row, the most bytes of a piece: of a file or a socket, of a decompressor, and at worst one.
 const SIZES: [usize; 32] = [
@@ -29,15 +31,34 @@ pub(crate) fn of_corpus(
         alloc,
         joined.info.as_slice(),
         joined.abbrev.as_slice(),
+        &SIZES,
         digest,
     )
 }
 
-/// Pushes each unit of a section.
+/// The units of the files `info` and `abbrev`, in pieces of so many bytes.
+pub(crate) fn of_files(
+    rt: &(impl AllocGlobal + Files),
+    size: usize,
+    digest: &mut Digest,
+) -> Result<(), JobError> {
+    let abbrev = fs::read(rt, "abbrev")?;
+    let info = fs::read(rt, "info")?;
+    each_unit(
+        rt.alloc(),
+        info.as_slice(),
+        abbrev.as_slice(),
+        &[size],
+        digest,
+    )
+}
+
+/// Pushes each unit of a section, in pieces of these sizes in turn.
 fn each_unit(
     alloc: Global,
     info: &[u8],
     abbrev: &[u8],
+    sizes: &[usize],
     digest: &mut Digest,
 ) -> Result<(), JobError> {
     let mut tables = Tables::new(alloc, abbrev);
@@ -49,7 +70,8 @@ fn each_unit(
         let size = (word_at(left, 0) as usize)
             .saturating_add(4)
             .min(left.len());
-        let unit = pushed(alloc, &mut tables, &left[..size], SIZES[number % 32])?;
+        let piece = sizes.get(number % sizes.len().max(1)).copied().unwrap_or(1);
+        let unit = pushed(alloc, &mut tables, &left[..size], piece)?;
         add_unit(&unit, digest);
         left = between(left, size, left.len());
     }

@@ -18,6 +18,8 @@ use rothelduf::{
     EntryId, EntryRef, Order, Section, Strings, Tables, TypeError, Watched, read_section, type_text,
 };
 use std::alloc::{AllocError, Global};
+use std::fs;
+use std::rt::Files;
 
 /// One of so many entries is looked up by its offset.
 const STEP: u64 = 4;
@@ -30,8 +32,35 @@ pub(crate) fn of_corpus(
     digest: &mut Digest,
 ) -> Result<(), JobError> {
     let joined = Joined::of(alloc, corpus, rounds, false, random)?;
-    let section = read(alloc, &joined)?;
-    let strings = corpus.strings();
+    ask(alloc, &joined, corpus.strings(), random, digest)
+}
+
+/// The same of the section of the files `info` and `abbrev`, whose texts stand in the units.
+pub(crate) fn of_files(
+    rt: &(impl AllocGlobal + Files),
+    random: &mut Random,
+    digest: &mut Digest,
+) -> Result<(), JobError> {
+    let joined = Joined {
+        abbrev: fs::read(rt, "abbrev")?,
+        info: fs::read(rt, "info")?,
+    };
+    let none = Strings {
+        str: &[],
+        line_str: &[],
+        str_offsets: &[],
+    };
+    ask(rt.alloc(), &joined, none, random, digest)
+}
+
+fn ask(
+    alloc: Global,
+    joined: &Joined,
+    strings: Strings<'_>,
+    random: &mut Random,
+    digest: &mut Digest,
+) -> Result<(), JobError> {
+    let section = read(alloc, joined)?;
     let asked = Asked {
         alloc,
         section: &section,
