@@ -145,6 +145,8 @@ def run(words, folder):
         ran.returncode = os.waitstatus_to_exitcode(status)
     with _lock:
         _running.discard(ran.pid)
+        if _ends.is_set():
+            raise Stop("it was ended")
     return Ran(said, ran.returncode, used.ru_utime + used.ru_stime)
 
 
@@ -198,7 +200,7 @@ def folder_for_clones(given=""):
 
 def clone(top, folder):
     """Makes a clone of the tree at hand, with what has changed in it since its last commit."""
-    git(["clone", "--quiet", top, folder], top)
+    git(["clone", "--quiet", "--shared", top, folder], top)
     changed = git(["status", "--porcelain=v1", "-z", "--no-renames", "--untracked-files=all"], top)
     for line in changed.split("\0"):
         path = line[3:]
@@ -215,7 +217,8 @@ def clone(top, folder):
 def git(words, folder):
     ran = subprocess.run(["git", *words], cwd=folder, stdin=subprocess.DEVNULL, capture_output=True, text=True)
     if ran.returncode:
-        raise Stop(f"git {words[0]}: {(ran.stderr.strip() or 'failed').splitlines()[-1]}")
+        lines = ran.stderr.strip().splitlines() or ["it failed"]
+        raise Stop(f"git {words[0]}: {next((it for it in lines if it.startswith(('fatal', 'error'))), lines[0])}")
     return ran.stdout
 
 
