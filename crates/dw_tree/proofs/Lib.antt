@@ -25,4 +25,3 @@ pub mod Patches
 pub mod Putting
 pub mod PutNumber
 pub mod Skipped
-pub mod Marking

@@ -22,7 +22,6 @@ pub mod DraftInvariant
 pub mod DraftView
 pub mod TreeView
 pub mod Lent
-pub mod Marks
 pub mod Names
 pub mod Structure
 pub mod Paths
