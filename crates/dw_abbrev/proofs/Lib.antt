@@ -1,3 +1,6 @@
+pub mod LowForms
+pub mod Counted
+pub mod ShortNumbers
 pub mod PairLemmas
 pub mod DeclLemmas
 pub mod TableLemmas

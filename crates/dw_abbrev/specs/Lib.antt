@@ -9,4 +9,5 @@ pub mod TableErrors
 pub mod Spelling
 pub mod Build
 pub mod Prefix
+pub mod Parts
 pub mod Laws

@@ -23,6 +23,19 @@ AreTold k (p ∷ ps) n = (s : FormSize) × (m : ℕ) × (told p ≡ Some s) × (
 abbrev pub prefix_size : Ctx → FixedPrefix → ℕ
 prefix_size k f = f.bytes + (f.addresses * k.address_size + f.offsets * offset_size k.format)
 
+-- a value of this size has so many bytes in each unit, or else is one address or one offset
+abbrev pub bytes_in : FormSize → ℕ
+bytes_in (Bytes n) = n
+bytes_in _ = 0
+
+abbrev pub addresses_in : FormSize → ℕ
+addresses_in Address = 1
+addresses_in _ = 0
+
+abbrev pub offsets_in : FormSize → ℕ
+offsets_in Offset = 1
+offsets_in _ = 0
+
 -- no more pairs could be counted
 abbrev pub Stops : Option Pair → ℕ → Type 0
 Stops None n = Unit {0}
@@ -84,11 +97,31 @@ module _ (ps : List Pair) (p : Pair) (f : FixedPrefix) (is : IsPrefix ps f) wher
         most = subst (λ (o : Option Pair). Stops o new.count) (sym (get_past (ps ++ p ∷ []) new.count (omega (arith, all)))) tt;
       }
 
+-- ---- those of the first pairs, and no more
+
+get_behind : (front rest : List Pair) (n : ℕ) → length front ≡ n → slice_get (front ++ rest) n ≡ slice_get rest 0
+get_behind [] rest zero e = refl
+get_behind [] rest (suc n) e = absurd (omega (arith, e))
+get_behind (q ∷ front) rest zero e = absurd (omega (arith, e))
+get_behind (q ∷ front) rest (suc n) e = get_behind front rest n (omega (arith, e))
+
+pub prefix_front : (front rest : List Pair) (f : FixedPrefix) → IsPrefix front f → length front ≡ f.count → Stops (slice_get rest 0) f.count → IsPrefix (front ++ rest) f
+prefix_front front rest f is all stops = record {
+  within = omega (arith, all, length-append front rest);
+  told = λ k. subst (λ (qs : List Pair). AreTold k qs (prefix_size k f)) (sym (take-append-le f.count front rest is.within)) (is.told k);
+  most = subst (λ (o : Option Pair). Stops o f.count) (sym (get_behind front rest f.count all)) stops;
+}
+
 pub prefix_empty : (f : FixedPrefix) → f.count ≡ 0 → ((k : Ctx) → prefix_size k f ≡ 0) → IsPrefix [] f
 prefix_empty f e s = record { within = omega (arith, e); told = λ k. subst (λ (n : ℕ). AreTold k (take n []) (prefix_size k f)) (sym e) (s k); most = tt }
 
 regroup : (b x y c u v m n : ℕ) → (b + c) + ((x + u) * m + (y + v) * n) ≡ (b + (x * m + y * n)) + (c + (u * m + v * n))
 regroup b x y c u v m n = omega arith
+
+pub parts_size : (k : Ctx) (s : FormSize) → size_in k s ≡ bytes_in s + (addresses_in s * k.address_size + offsets_in s * offset_size k.format)
+parts_size k (Bytes n) = omega arith
+parts_size k Address = omega arith
+parts_size k Offset = omega arith
 
 -- the value has so many bytes, addresses and offsets
 pub prefix_parts : (ps : List Pair) (p : Pair) (f : FixedPrefix) → IsPrefix ps f → length ps ≡ f.count → (s : FormSize) → told p ≡ Some s → (new : FixedPrefix) (b u v : ℕ) → new.count ≡ f.count + 1 → new.bytes ≡ f.bytes + b → new.addresses ≡ f.addresses + u → new.offsets ≡ f.offsets + v

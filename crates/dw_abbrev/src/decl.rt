@@ -160,7 +160,8 @@ impl Decl {
     pub fn prefix(&self) -> FixedPrefix
         ensures { IsPrefix self.now.pairs result }
     {
-        self.prefix
+        let Decl { prefix, .. } = self;
+        *prefix
     }
 
     /// The counts of bytes, 1 to 16, in which the two zeros behind the pairs are written.
@@ -228,12 +229,13 @@ pub(crate) fn decl_at(
     let (tag, behind_tag) = uleb_at(abbreviations, at)?;
     let (children, behind_flag) = flag_at(abbreviations, behind_tag)?;
     let (pairs, next) = pairs_at(alloc, abbreviations, behind_flag)?;
+    let prefix = FixedPrefix::of(pairs.list.as_slice());
     let decl = Decl {
         code,
         tag,
         children,
         pairs: pairs.list,
-        prefix: pairs.prefix,
+        prefix,
         name_zero: pairs.name_zero,
         form_zero: pairs.form_zero,
     };

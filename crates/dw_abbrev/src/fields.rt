@@ -1,6 +1,6 @@
 //! The fields of tables, each read at its offset from the first byte of `.debug_abbrev`, and
 //! written. Only the section's end bounds a table.
-ghost use Rattle.std.specs.Prelude.{◌≡◌, ◌<◌, ◌≤◌, length, None, IfOk, IfErr, OnOk};
+ghost use Rattle.std.specs.Prelude.{◌≡◌, ◌<◌, ◌≤◌, length, None, IfOk, IfErr, IfSome, OnOk};
 ghost use Rattle.std.specs.Result.{result_err};
 ghost use Rattle.dw_leb.specs.Number.{uleb, sleb};
 ghost use Rattle.dw_leb.specs.View.{uleb_of, sleb_of};
@@ -45,6 +45,7 @@ pub(crate) fn zero(width: u8) -> Result<Uleb, TableRefusal>
 }
 
 /// The unsigned number at `at`, and where what follows begins.
+#[inline(always)]
 pub(crate) fn uleb_at(abbreviations: &[u8], at: usize) -> Result<(Uleb, usize), ReadError>
     requires { at ≤ length abbreviations.now }
     ensures ok { IfOk result (λ x. Gives read_uleb abbreviations.now at (uleb_of x.0) x.1) }
@@ -52,10 +53,29 @@ pub(crate) fn uleb_at(abbreviations: &[u8], at: usize) -> Result<(Uleb, usize), 
     ensures err { IfErr result (λ e. IsErrorAt read_uleb abbreviations.now at e) }
     ensures fault { IfErr result IsFault }
 {
+    if let Some(n) = of_two_bytes(&abbreviations[at..]) {
+        return Ok((n, at + 2));
+    }
     match Uleb::read(&abbreviations[at..], u64::MAX) {
         Ok(n) => Ok((n, at + n.width as usize)),
         Err(reason) => Err(fault(at, reason)),
     }
+}
+
+/// The number at the front, where it has two bytes, as many names of attributes have.
+#[inline(always)]
+fn of_two_bytes(b: &[u8]) -> Option<Uleb>
+    ensures there { IfSome result (λ n. Gives read_uleb b.now 0 (uleb_of n) 2) }
+{
+    let (first, others) = b.split_first()?;
+    if *first < 128 {
+        return None;
+    }
+    let (second, _) = others.split_first()?;
+    if *second >= 128 {
+        return None;
+    }
+    Uleb::with_width((*first - 128) as u64 + 128 * *second as u64, 2)
 }
 
 /// The signed number at `at`, and where what follows begins.

@@ -6,6 +6,7 @@ mod decl;
 mod fields;
 pub mod laws;
 mod pair;
+mod parts;
 mod prefix;
 mod refusal;
 mod table;

@@ -1,20 +1,17 @@
 //! Attribute specifications: the pairs of name and form (section 7.5.3).
-ghost use Rattle.std.specs.Prelude.{◌≡◌, ◌<◌, ◌≤◌, true, length, None, IfOk, IfErr, IfSome, OnOk, map, option_map};
+ghost use Rattle.std.specs.Prelude.{◌≡◌, ◌<◌, ◌≤◌, true, false, length, None, IfOk, IfErr, IfSome, OnOk, map, option_map};
 ghost use Rattle.dw_leb.specs.View.{uleb_of, sleb_of};
 ghost use Rattle.dw_leb.specs.Watch.{inner_of, fault_of, writer_fault, Wrote};
 ghost use Rattle.dw_abbrev.specs.Spelling.{pair_bytes, pairs_bytes};
 ghost use Rattle.dw_abbrev.specs.Table.{is_end as ends_pairs, refused_pair};
+ghost use Rattle.dw_leb.specs.ReadNumber.{read_uleb};
 ghost use Rattle.dw_abbrev.specs.ReadTable.{read_names, read_constant, read_pairs};
 ghost use Rattle.dw_abbrev.specs.PairView.{pair_of, pairs_of};
 ghost use Rattle.dw_abbrev.specs.Place.{Gives, IsErrorAt};
-ghost use Rattle.dw_form.specs.FormSize.{FormSizeFits};
-ghost use Rattle.dw_abbrev.specs.Prefix.{IsPrefix, told};
 ghost use Rattle.dw_abbrev.specs.Build.{constant_belongs, pair_refusal, ArePairs};
 
 use crate::fields::{fault, sleb_at, uleb_at, write_sleb, write_uleb};
-use crate::prefix::FixedPrefix;
 use crate::refusal::TableRefusal;
-use dw_form::FormSize;
 use dw_leb::constants::form::DW_FORM_IMPLICIT_CONST;
 use dw_leb::{ReadError, Reason, Sleb, Uleb, Watched, WriteError};
 use std::alloc::Global;
@@ -47,24 +44,28 @@ pub(crate) fn misfit(pair: Pair) -> Option<TableRefusal>
     None
 }
 
-/// How many bytes the values of a pair have, where its form tells. Those that are a constant of their declaration have none.
-pub(crate) fn told(pair: &Pair) -> Option<FormSize>
-    ensures told { result ≡ told (pair_of pair.now) }
-    ensures few { IfSome result FormSizeFits }
-{
-    if pair.constant.is_some() && pair.form.value == DW_FORM_IMPLICIT_CONST {
-        return Some(FormSize::Bytes(0));
-    }
-    FormSize::of(pair.form.value)
-}
-
 /// The pairs of a declaration, and the two zeros that end them.
 #[derive(Drop)]
 pub(crate) struct Pairs {
     pub(crate) list: Vec<Pair>,
-    pub(crate) prefix: FixedPrefix,
     pub(crate) name_zero: Uleb,
     pub(crate) form_zero: Uleb,
+}
+
+impl Pairs {
+    /// These pairs, which this name and this form end.
+    #[inline(always)]
+    fn ended(list: Vec<Pair>, name: Uleb, form: Uleb) -> Pairs
+        ensures list { result.list.items ≡ list.items }
+        ensures name_zero { result.name_zero ≡ name }
+        ensures form_zero { result.form_zero ≡ form }
+    {
+        Pairs {
+            list,
+            name_zero: name,
+            form_zero: form,
+        }
+    }
 }
 
 /// Whether a name and a form end the pairs.
@@ -88,6 +89,7 @@ fn refusal(name: Uleb, form: Uleb, before: usize) -> Option<Reason>
 }
 
 /// The name and the form at `at`, and where what follows begins.
+#[inline(always)]
 fn names_at(
     abbreviations: &[u8],
     at: usize,
@@ -107,7 +109,44 @@ fn names_at(
     }
 }
 
+/// The same, where the name and the form have one byte each, as nearly all do: the compiler then knows their widths, and what it
+/// keeps of the pair. None too where they are refused.
+#[inline(always)]
+fn small_names_at(abbreviations: &[u8], at: usize, before: usize) -> Option<((Uleb, Uleb), usize)>
+    requires { at ≤ length abbreviations.now }
+    ensures there { IfSome result (λ x. Gives (read_names before) abbreviations.now at (uleb_of x.0.0, uleb_of x.0.1) x.1) }
+    ensures forward { IfSome result (λ x. (at < x.1) × (x.1 ≤ length abbreviations.now)) }
+    ensures judged { IfSome result (λ x. refused_pair before (uleb_of x.0.0, uleb_of x.0.1) ≡ None) }
+{
+    let (name, form_at) = one_byte_at(abbreviations, at)?;
+    let (form, next) = one_byte_at(abbreviations, form_at)?;
+    if name.value != 0 && form.value != 0 && before < MOST_PAIRS {
+        return Some(((name, form), next));
+    }
+    match refusal(name, form, before) {
+        Some(_) => None,
+        None => Some(((name, form), next)),
+    }
+}
+
+/// The number at `at` and where what follows begins, where it has one byte.
+#[inline(always)]
+fn one_byte_at(abbreviations: &[u8], at: usize) -> Option<(Uleb, usize)>
+    requires { at ≤ length abbreviations.now }
+    ensures there { IfSome result (λ x. Gives read_uleb abbreviations.now at (uleb_of x.0) x.1) }
+    ensures forward { IfSome result (λ x. (at < x.1) × (x.1 ≤ length abbreviations.now)) }
+{
+    if *abbreviations.get(at)? >= 128 {
+        return None;
+    }
+    match uleb_at(abbreviations, at) {
+        Ok(x) => Some(x),
+        Err(_) => None,
+    }
+}
+
 /// The constant that a pair of this form has, at `at`, and where what follows begins.
+#[inline(always)]
 fn constant_at(
     abbreviations: &[u8],
     at: usize,
@@ -139,22 +178,36 @@ pub(crate) fn pairs_at(
     ensures forward { IfOk result (λ x. (at < x.1) × (x.1 ≤ length abbreviations.now)) }
     ensures zeros { IfOk result (λ x. (x.0.name_zero.value ≡ 0) × (x.0.form_zero.value ≡ 0)) }
     ensures pairs { IfOk result (λ x. ArePairs (map pair_of x.0.list.items)) }
-    ensures prefix { IfOk result (λ x. IsPrefix (map pair_of x.0.list.items) x.0.prefix) }
     ensures err { IfErr result (λ e. IsErrorAt read_pairs abbreviations.now at e) }
 {
     let mut list = Vec::new(alloc);
-    let mut prefix = FixedPrefix::empty();
     let mut here = at;
     loop {
+        if let Some(((name, form), next)) = small_names_at(abbreviations, here, list.len()) {
+            if is_end(name, form) {
+                return Ok((Pairs::ended(list, name, form), next));
+            }
+            if form.value != DW_FORM_IMPLICIT_CONST {
+                list.push(Pair {
+                    name,
+                    form,
+                    constant: None,
+                })?;
+                here = next;
+                continue;
+            }
+            let (constant, behind) = constant_at(abbreviations, next, name, form)?;
+            list.push(Pair {
+                name,
+                form,
+                constant,
+            })?;
+            here = behind;
+            continue;
+        }
         let ((name, form), behind) = names_at(abbreviations, here, list.len())?;
         if is_end(name, form) {
-            let pairs = Pairs {
-                list,
-                prefix,
-                name_zero: name,
-                form_zero: form,
-            };
-            return Ok((pairs, behind));
+            return Ok((Pairs::ended(list, name, form), behind));
         }
         let (constant, next) = constant_at(abbreviations, behind, name, form)?;
         let pair = Pair {
@@ -162,7 +215,6 @@ pub(crate) fn pairs_at(
             form,
             constant,
         };
-        prefix = prefix.extended(&pair, list.len());
         list.push(pair)?;
         here = next;
     }

@@ -1,9 +1,8 @@
 //! The values at the front of an entry whose sizes their forms tell (section 7.5.6).
-ghost use Rattle.std.specs.Prelude.{◌≡◌, ◌≤◌, ◌+◌, ◌*◌, List, length, ◌∷◌, ◌++◌, [], IfSome};
-ghost use Rattle.dw_form.specs.FormSize.{FormSizeFits};
+ghost use Rattle.std.specs.Prelude.{◌≡◌, ◌≤◌, ◌+◌, ◌*◌, List, length, ◌∷◌, ◌++◌, [], None, map, IsTrue, IsFalse};
 
-use crate::pair::{Pair, told};
-use dw_form::FormSize;
+use crate::pair::Pair;
+use crate::parts::{LOW_FORMS, addresses_of, bytes_of, has_offset, is_told, offsets_of};
 
 /// The most values that are counted.
 const MOST_VALUES: u16 = 1024;
@@ -26,6 +25,8 @@ pub struct FixedPrefix {
 impl FixedPrefix {
     ghost use Rattle.dw_abbrev.specs.Table.{Pair as ThePair};
     ghost use Rattle.dw_abbrev.specs.PairView.{pair_of};
+    ghost use Rattle.dw_abbrev.specs.Parts.{told_by};
+    ghost use Rattle.dw_abbrev.specs.Build.{ArePairs, pair_refusal};
     ghost use Rattle.dw_abbrev.specs.Prefix.{IsPrefix, told};
 
     /// That of a declaration without pairs.
@@ -40,6 +41,38 @@ impl FixedPrefix {
         }
     }
 
+    /// That of a declaration with these pairs.
+    #[inline(always)]
+    pub(crate) fn of(pairs: &[Pair]) -> FixedPrefix
+        requires { ArePairs (map pair_of pairs.now) }
+        ensures { IsPrefix (map pair_of pairs.now) result }
+    {
+        if pairs.is_empty() {
+            return FixedPrefix::empty();
+        }
+        FixedPrefix::counted(pairs)
+    }
+
+    /// The same, pair by pair. Those behind the first one that isn't counted aren't looked at.
+    #[inline(never)]
+    fn counted(pairs: &[Pair]) -> FixedPrefix
+        requires { ArePairs (map pair_of pairs.now) }
+        ensures { IsPrefix (map pair_of pairs.now) result }
+    {
+        let mut prefix = FixedPrefix::empty();
+        let mut left = pairs;
+        while let Some((pair, others)) = left.split_first() {
+            if prefix.count == MOST_VALUES {
+                return prefix;
+            }
+            if !prefix.count_form(pair.form.value) {
+                return prefix;
+            }
+            left = others;
+        }
+        prefix
+    }
+
     /// The bytes that its values have in all, in units with addresses and offsets of these sizes.
     #[inline(always)]
     pub fn size(&self, address_size: u8, offset_size: u8) -> usize
@@ -52,6 +85,7 @@ impl FixedPrefix {
 
     /// With one pair more behind `before` others, of which it is that.
     pub(crate) fn extended(self, pair: &Pair, before: usize) -> FixedPrefix
+        requires { pair_refusal (pair_of pair.now) ≡ None }
         ensures { (ps : List ThePair) → length ps ≡ before → IsPrefix ps self → IsPrefix (ps ++ pair_of pair.now ∷ []) result }
     {
         if self.count as usize != before {
@@ -60,41 +94,66 @@ impl FixedPrefix {
         if self.count == MOST_VALUES {
             return self;
         }
-        match told(pair) {
-            Some(size) => self.with(size),
-            None => self,
+        let mut prefix = self;
+        if !prefix.count_form(pair.form.value) {
+            return self;
         }
+        prefix
     }
 
-    /// With one value more of this size.
-    fn with(self, size: FormSize) -> FixedPrefix
-        requires few { FormSizeFits size }
-        requires room { self.count ≤ 1023 }
-        ensures { (ps : List ThePair) (p : ThePair) → IsPrefix ps self → length ps ≡ self.count → told p ≡ Some size → IsPrefix (ps ++ p ∷ []) result }
+    /// Counts one value more, of this form, if the form tells its size. Else nothing is changed, and the answer is false.
+    #[inline(always)]
+    fn count_form(&mut self, form: u64) -> bool
+        requires { self.old.count ≤ 1023 }
+        ensures count { IsTrue result → self.new.count ≡ self.old.count + 1 }
+        ensures prefix { IsTrue result → (ps : List ThePair) (p : ThePair) → IsPrefix ps self.old → length ps ≡ self.old.count → told p ≡ told_by form → IsPrefix (ps ++ p ∷ []) self.new }
+        ensures untold { IsFalse result → told_by form ≡ None }
+        ensures same { IsFalse result → self.new ≡ self.old }
     {
-        match size {
-            FormSize::Bytes(more) => self.with_parts(more, 0, 0),
-            FormSize::Address => self.with_parts(0, 1, 0),
-            FormSize::Offset => self.with_parts(0, 0, 1),
+        if form >= LOW_FORMS {
+            return self.count_high(form);
         }
+        if !is_told(form) {
+            return false;
+        }
+        self.add(bytes_of(form), addresses_of(form), offsets_of(form));
+        true
     }
 
-    /// With one value more, of so many bytes, addresses and offsets.
-    fn with_parts(self, bytes: u8, addresses: u8, offsets: u8) -> FixedPrefix
+    /// The same of a form behind those of the standard.
+    #[inline(always)]
+    fn count_high(&mut self, form: u64) -> bool
+        requires room { self.old.count ≤ 1023 }
+        requires high { 45 ≤ form }
+        ensures count { IsTrue result → self.new.count ≡ self.old.count + 1 }
+        ensures prefix { IsTrue result → (ps : List ThePair) (p : ThePair) → IsPrefix ps self.old → length ps ≡ self.old.count → told p ≡ told_by form → IsPrefix (ps ++ p ∷ []) self.new }
+        ensures untold { IsFalse result → told_by form ≡ None }
+        ensures same { IsFalse result → self.new ≡ self.old }
+    {
+        if !has_offset(form) {
+            return false;
+        }
+        self.add(0, 0, 1);
+        true
+    }
+
+    /// Counts one value more, of so many bytes, addresses and offsets.
+    #[inline(always)]
+    fn add(&mut self, bytes: u16, addresses: u16, offsets: u16)
         requires bytes { bytes ≤ 16 }
         requires addresses { addresses ≤ 1 }
         requires offsets { offsets ≤ 1 }
-        requires room { self.count ≤ 1023 }
-        ensures count { result.count ≡ self.count + 1 }
-        ensures bytes { result.bytes ≡ self.bytes + bytes }
-        ensures addresses { result.addresses ≡ self.addresses + addresses }
-        ensures offsets { result.offsets ≡ self.offsets + offsets }
+        requires room { self.old.count ≤ 1023 }
+        ensures count { self.new.count ≡ self.old.count + 1 }
+        ensures bytes { self.new.bytes ≡ self.old.bytes + bytes }
+        ensures addresses { self.new.addresses ≡ self.old.addresses + addresses }
+        ensures offsets { self.new.offsets ≡ self.old.offsets + offsets }
     {
-        FixedPrefix {
+        *self = FixedPrefix {
             count: self.count + 1,
-            bytes: self.bytes + bytes as u16,
-            addresses: self.addresses + addresses as u16,
-            offsets: self.offsets + offsets as u16,
-        }
+            bytes: self.bytes + bytes,
+            addresses: self.addresses + addresses,
+            offsets: self.offsets + offsets,
+        };
     }
 }
