@@ -1,5 +1,5 @@
 -- Values without content: their heads are their spelling, so that only their end has to be found.
-use Rattle.std.specs.Prelude.{◌≡◌, ◌<◌, ◌≤◌, ℕ, suc, ◌+◌, ◌-◌, Bool, true, false, List, [], ◌∷◌, ◌++◌, length, take, drop, position, Option, Some, None, IfSome, ◌==◌}
+use Rattle.std.specs.Prelude.{◌≡◌, ◌<◌, ◌≤◌, ℕ, suc, ◌+◌, ◌-◌, Bool, true, false, cond, List, [], ◌∷◌, ◌++◌, length, take, drop, position, Option, Some, None, IfSome, ◌==◌}
 use Rattle.std.specs.List.{AllByRecursion, position_from}
 use Rattle.std.proofs.Common.{refl, sym, ap, subst, ◌∙◌, arith, length-append}
 use Rattle.std.proofs.lemmas.List.{drop_at, take_at}
@@ -96,7 +96,27 @@ sized_whole k form hs n e c a start rest fits split = form_size_there k form c a
 
 -- ---- where an end was found
 
+-- whatever stands behind
+found_still : (j i : ℕ) (bytes more : List ℕ) → position_from is_last j bytes ≡ Some i → position_from is_last j (bytes ++ more) ≡ Some i
+found_still j i [] more e = absurd cc
+found_still j i (b ∷ bytes) more e = by (is_last b) e (found_still (j + 1) i bytes more)
+  where
+    by : (l : Bool) → cond l (Some j) (position_from is_last (j + 1) bytes) ≡ Some i → (position_from is_last (j + 1) bytes ≡ Some i → position_from is_last (j + 1) (bytes ++ more) ≡ Some i) → cond l (Some j) (position_from is_last (j + 1) (bytes ++ more)) ≡ Some i
+    by true h others = h
+    by false h others = others h
+
+position_still : (i : ℕ) (bytes more : List ℕ) → position is_last bytes ≡ Some i → position is_last (bytes ++ more) ≡ Some i
+position_still i bytes more e = position_from-zero is_last (bytes ++ more) ∙ found_still 0 i bytes more (sym (position_from-zero is_last bytes) ∙ e)
+
 module _ (k : Ctx) (form : ℕ) (hs : List ℕ) (size : ℕ) where
+  pub number_ends_still : (o : Option ℕ) → is_leb (shape form k.address_size k.format) ≡ true → IfSome o (λ end. size < end) → IfSome o (λ end. position is_last hs ≡ Some (end - size - 1)) → IfSome o (λ end. (more : List ℕ) → IsWhole k form (hs ++ more) (end - size))
+  number_ends_still None e behind found = tt
+  number_ends_still (Some end) e behind found = λ more. number_whole k form (hs ++ more) (end - size) e (omega (arith, behind)) (position_still (end - size - 1) hs more found)
+
+  pub sized_ends_still : (o : Option ℕ) → IfSome o (λ end. size_of_shape (shape form k.address_size k.format) ≡ Some (end - size)) → IfSome o (λ end. (more : List ℕ) → IsWhole k form (hs ++ more) (end - size))
+  sized_ends_still None sized = tt
+  sized_ends_still (Some end) sized = λ more. sized_whole k form (hs ++ more) (end - size) sized
+
   pub number_ends : (o : Option ℕ) → is_leb (shape form k.address_size k.format) ≡ true → IfSome o (λ end. size < end) → IfSome o (λ end. position is_last hs ≡ Some (end - size - 1)) → IfSome o (λ end. IsWhole k form hs (end - size))
   number_ends None e behind found = tt
   number_ends (Some end) e behind found = number_whole k form hs (end - size) e (omega (arith, behind)) found

@@ -1,12 +1,13 @@
 //! Rows that are gathered, and written together.
-ghost use Rattle.std.specs.Prelude.{◌≡◌, ◌∷◌, ◌++◌, IsTrue, IsFalse, IfSome, map};
+ghost use Rattle.std.specs.Prelude.{◌≡◌, ◌≤◌, ◌∷◌, ◌++◌, length, take, IsTrue, IsFalse, IfSome, map};
+ghost use Rattle.dw_leb.specs.Number.{uleb};
 ghost use Rattle.dw_abbrev.specs.PairView.{pair_of};
 ghost use Rattle.dw_form.specs.Form.{IsContext};
 ghost use Rattle.dw_form.specs.Lent.{value_of};
 ghost use Rattle.dw_form.specs.Pieces.{content_of, tail_of};
 ghost use Rattle.dw_tree.specs.Row.{row_bytes};
 ghost use Rattle.dw_tree.specs.RowHeads.{Here, First, run_bytes, first_bytes, behind_first};
-ghost use Rattle.dw_tree.specs.Flat.{token_at, RowReads};
+ghost use Rattle.dw_tree.specs.Flat.{code_in, token_at, RowReads};
 ghost use Rattle.dw_tree.specs.Grown.{Grown};
 ghost use Rattle.dw_tree.specs.ToldFronts.{ToldFront};
 
@@ -19,7 +20,7 @@ use dw_form::{Ctx, Value, front_len, lend_head};
 /// The bytes of rows, one behind the other, that are still to be written.
 pub(crate) type Gathered = ArrayVec<u8, 512>;
 
-/// The most bytes of a row that is gathered, where not each form of its values tells their size.
+/// The most bytes of a row that is gathered, where not each form of its values tells their size, or its code has several bytes.
 const MOST_SPELLED: usize = 128;
 
 /// Puts the bytes of a row behind those that were gathered, where there is room for them. Else nothing is changed, and
@@ -96,12 +97,25 @@ fn put_entry(
         return None;
     }
     let decl = table.get(row.code)?;
-    put_bytes(row.code().bytes().as_slice(), most, gathered)?;
+    put_code(row, most, gathered)?;
     put_values(ctx, decl, behind(heads, row.first), pool, most, gathered)
 }
 
+/// Puts an entry's code. None where there is no room for it.
+#[inline(always)]
+fn put_code(row: Row, most: usize, gathered: &mut Gathered) -> Option<()>
+    ensures put { IfSome result (λ x. gathered.new.items ≡ gathered.old.items ++ uleb.spell (code_in row)) }
+    ensures kept { Grown gathered.old.items gathered.new.items }
+{
+    // Most codes have one byte.
+    if row.width == 1 {
+        return put_bytes(&[(row.code % 128) as u8], most, gathered);
+    }
+    put_bytes(row.code().bytes().as_slice(), most, gathered)
+}
+
 /// Puts the bytes of an entry's values behind those that were gathered. Values without content are put together, as they
-/// stand. None where there is no room for all.
+/// stand. None where there is no room for all: then those that are too far behind aren't looked at.
 #[inline(always)]
 fn put_values(
     ctx: Ctx,
@@ -119,19 +133,33 @@ fn put_values(
     let (told, others) = told_front(ctx, decl);
     let mut left = others;
     let mut run = heads;
+    let mut near = front_within(heads, most.saturating_sub(gathered.len()));
     let mut size = told;
+    if size > near.len() {
+        return None;
+    }
     while let Some((pair, others)) = left.split_first() {
-        match whole_end(ctx, pair.form.value, run, size) {
+        match whole_end(ctx, pair.form.value, near, size) {
             Some(end) => size = end,
             None => {
                 put_bytes(front(run, size), most, gathered)?;
                 run = put_one(ctx, pair, behind(run, size), pool, most, gathered)?;
+                near = front_within(run, most.saturating_sub(gathered.len()));
                 size = 0;
             }
         }
         left = others;
     }
     put_bytes(front(run, size), most, gathered)
+}
+
+/// As many bytes as there are, and at most so many.
+#[inline(always)]
+fn front_within(b: &[u8], most: usize) -> &[u8]
+    ensures front { result.now ≡ take (length result.now) b.now }
+    ensures within { length result.now ≤ length b.now }
+{
+    &b[..b.len().min(most)]
 }
 
 /// Puts the bytes of a pair's value behind those that were gathered, and gives what stands behind its head. None where there is
@@ -204,7 +232,7 @@ fn put_both(code: u8, run: &[u8], gathered: &mut Gathered) -> bool
     gathered.try_extend_from_slice(run).is_ok()
 }
 
-/// The code of a row and the bytes of its values, where the code has one byte, and its values have no content and few bytes.
+/// The code of a row and the bytes of its values, where the code has one byte, and the forms of its values tell their sizes.
 /// Of a null they are none.
 #[inline(always)]
 fn plain_row<'a>(
@@ -229,25 +257,21 @@ fn plain_row<'a>(
     Some(((row.code % 128) as u8, run))
 }
 
-/// The bytes of an entry's values, where they have no content: they are their heads. None where they are many, and not each form
-/// tells its values' size.
+/// The bytes of an entry's values, where the forms of all tell their sizes: they are their heads.
 #[inline(always)]
 fn plain_run<'a>(ctx: Ctx, decl: &Decl, heads: &'a [u8], _pool: &[u8]) -> Option<&'a [u8]>
     requires context { IsContext ctx }
     requires here { Here ctx decl.now.pairs heads.now _pool.now }
     ensures { IfSome result (λ run. run.now ≡ run_bytes ctx decl.now.pairs heads.now _pool.now) }
 {
-    let (told, others) = told_front(ctx, decl);
-    let mut left = others;
-    let mut size = told;
-    while let Some((pair, behind_it)) = left.split_first() {
-        size = whole_end(ctx, pair.form.value, heads, size)?;
-        left = behind_it;
+    if decl.pairs().is_empty() {
+        return Some(front(heads, 0));
     }
-    if size >= MOST_SPELLED && !others.is_empty() {
+    let (told, others) = told_front(ctx, decl);
+    if !others.is_empty() {
         return None;
     }
-    Some(front(heads, size))
+    Some(front(heads, told))
 }
 
 /// How many bytes the first values of each entry of this declaration have, whose forms tell their sizes (section 7.5.6), and

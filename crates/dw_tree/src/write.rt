@@ -1,5 +1,5 @@
 //! Writing a tree.
-ghost use Rattle.std.specs.Prelude.{◌≡◌, ◌≤◌, ◌<◌, ◌-◌, length, map, take, drop, position, None, Some, IfSome, IfOk};
+ghost use Rattle.std.specs.Prelude.{◌≡◌, ◌≤◌, ◌<◌, ◌-◌, ◌++◌, ℕ, List, length, map, take, drop, position, None, Some, IfSome, IfOk};
 ghost use Rattle.dw_leb.specs.Watch.{inner_of, fault_of, writer_fault, Wrote};
 ghost use Rattle.dw_leb.specs.Number.{uleb};
 ghost use Rattle.dw_leb.specs.Scan.{is_last};
@@ -101,12 +101,13 @@ pub fn write_null<W: Write>(width: u8, writer: &mut Watched<W>) -> Result<(), Wr
 }
 
 /// Where the value at `size` ends, if it has no content: its head is its spelling. Its form tells its size, or it is a LEB128
-/// number, which ends at its first byte without bit 7 (section 7.6).
+/// number, which ends at its first byte without bit 7 (section 7.6). It ends there also where `run` is cut off behind it.
 #[inline(always)]
 pub(crate) fn whole_end(ctx: Ctx, form: u64, run: &[u8], size: usize) -> Option<usize>
     requires context { IsContext ctx }
     requires within { size ≤ length run.now }
     ensures whole { IfSome result (λ end. IsWhole ctx form (drop size run.now) (end - size)) }
+    ensures beyond { IfSome result (λ end. (more : List ℕ) → IsWhole ctx form (drop size run.now ++ more) (end - size)) }
     ensures behind { IfSome result (λ end. size ≤ end) }
     ensures room { IfSome result (λ end. end ≤ length run.now) }
 {
