@@ -9,6 +9,7 @@ pub mod Row
 pub mod Codes
 pub mod Place
 pub mod Steps
+pub mod FirstGiven
 pub mod LeftPairs
 pub mod Next
 pub mod RowHeads

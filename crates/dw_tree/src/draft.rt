@@ -1,5 +1,5 @@
 //! A tree under construction.
-ghost use Rattle.std.specs.Prelude.{◌≡◌, ◌≢◌, ◌+◌, ◌++◌, ◌<◌, ◌≤◌, ◌^◌, ◌-◌, ◌*◌, [], List, length, take, map, option_map, IfOk, IfSome, None, Some, is_some, IsSome, OnOk, OnErr, vec_len, vec_capacity};
+ghost use Rattle.std.specs.Prelude.{◌≡◌, ◌≢◌, ◌+◌, ◌++◌, ◌<◌, ◌≤◌, ◌^◌, ◌-◌, ◌*◌, [], List, length, take, map, option_map, IfOk, IfSome, None, Some, is_some, IsSome, false, OnOk, OnErr, vec_len, vec_capacity};
 ghost use Rattle.dw_leb.specs.Number.{uleb};
 ghost use Rattle.dw_leb.specs.View.{uleb_of};
 ghost use Rattle.dw_form.specs.Form.{IsContext, Attribute};
@@ -15,6 +15,7 @@ ghost use Rattle.dw_tree.specs.RowHeads.{heads_in};
 ghost use Rattle.dw_tree.specs.Emptiness.{is_bare};
 ghost use Rattle.dw_tree.specs.declared.row.RowKind.TheVariants.{Null};
 ghost use Rattle.dw_tree.specs.Completed.{one_given, row_with, settled_rows, settled_open, settled_unfinished};
+ghost use Rattle.dw_tree.specs.FirstGiven.{given_if};
 ghost use Rattle.dw_tree.specs.Steps.{begun_at, with_value, partial_in, partial_attribute, started, extended, ended, closed_at, undone, end_of, NextFits, IsPlainNext, SpellsPlain, ArePlain, SpellsFirst, with_values, next_bytes, next_front, next_pair, next_pairs, finished};
 
 use crate::row::{PartialValue, Row, RowKind, Unfinished};
@@ -158,7 +159,10 @@ impl TreeDraft {
 
     /// An entry of this code begins, which `decl` declares, and is given its first values, `count` of them and none a text or
     /// block, by the bytes that spell them one behind the other: the first `size` of these. With all its values the entry is
-    /// complete. It is what `begin` and as many calls of `plain_value` do.
+    /// complete. It is what `begin` and as many calls of `plain_value` do, and `true` is answered.
+    ///
+    /// Where the growth by the values is refused, it is what `begin` does alone: the entry waits for all its values, and
+    /// `false` is answered. `AllocError` where a growth by one entry is refused, and nothing is changed.
     #[inline(always)]
     pub fn begin_with(
         &mut self,
@@ -167,7 +171,7 @@ impl TreeDraft {
         bytes: &[u8],
         size: usize,
         count: usize,
-    ) -> Result<(), AllocError>
+    ) -> Result<bool, AllocError>
         requires some { 0 < code.value }
         requires known { declared self.old.table code.value ≡ Some decl.now }
         requires free { self.old.place.unfinished ≡ None }
@@ -175,13 +179,15 @@ impl TreeDraft {
         requires within { size ≤ length bytes.now }
         requires spelled { SpellsFirst self.old.context decl.now.pairs count (take size bytes.now) }
         requires near { end_of self.old + (code.width + size) < 2 ^ 63 }
-        ensures ok { (vs : List Attribute) → length vs ≡ count → ArePlain self.old.context decl.now.pairs vs (take size bytes.now) → OnOk result (self.new ≡ with_values vs (begun_at (uleb_of code) self.old)) }
+        ensures ok { (vs : List Attribute) → length vs ≡ count → ArePlain self.old.context decl.now.pairs vs (take size bytes.now) → IfOk result (λ all. self.new ≡ with_values (given_if all vs) (begun_at (uleb_of code) self.old)) }
         ensures err { OnErr result (self.new ≡ self.old) }
     {
         self.rows.reserve(1)?;
         self.nested.reserve(1)?;
         let first = self.heads.len();
-        append_front(&mut self.heads, bytes, size)?;
+        if let Err(_refused) = append_front(&mut self.heads, bytes, size) {
+            return self.begin_alone(code);
+        }
         let unfinished = Unfinished {
             code,
             offset: self.here,
@@ -194,7 +200,21 @@ impl TreeDraft {
         self.here += code.width as u64 + size as u64;
         let left = settle(&mut self.rows, &mut self.nested, unfinished);
         leave(&mut self.unfinished, left);
-        Ok(())
+        Ok(true)
+    }
+
+    /// The same where there is no memory for the values. For the entry itself there is room already, so none is asked for.
+    fn begin_alone(&mut self, code: Uleb) -> Result<bool, AllocError>
+        requires some { 0 < code.value }
+        requires known { IsSome (declared self.old.table code.value) }
+        requires free { self.old.place.unfinished ≡ None }
+        requires level { length self.old.place.spot.above < nesting }
+        requires near { end_of self.old + code.width < 2 ^ 63 }
+        ensures ok { IfOk result (λ all. (all ≡ false) × (self.new ≡ begun_at (uleb_of code) self.old)) }
+        ensures err { OnErr result (self.new ≡ self.old) }
+    {
+        self.begin(code)?;
+        Ok(false)
     }
 
     /// A text, or a block whose length field has `width` bytes, begins as the next value of the
@@ -514,6 +534,9 @@ fn append_front(list: &mut Vec<u8>, bytes: &[u8], size: usize) -> Result<(), All
     ensures items { OnOk result (list.new.items ≡ list.old.items ++ take size bytes.now) }
     ensures err { OnErr result (list.new.items ≡ list.old.items) }
 {
+    if size == 0 {
+        return Ok(());
+    }
     let before = list.len();
     if size > AT_ONCE || bytes.len() < AT_ONCE || list.capacity() < before + AT_ONCE {
         return list.extend_from_slice(&bytes[..size]);

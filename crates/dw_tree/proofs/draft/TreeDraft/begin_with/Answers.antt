@@ -43,7 +43,7 @@ invariant_of-self-2 c =
     let m = vec_len c.reserve.new.self in
     let s = begun_with k t a.start a.rows.items a.heads.items a.pool.items a.nested.items a.here g.tokens g.values l r d known (sym c.has_children.ensures) count refl (c.len-first.ensures ∙ a.heads.ok.0) (c.len.ensures ∙ a.pool.ok.0)
     (uleb_fits (uleb_of c.args.code) c.args.code.fits) (ne_eqb c.args.code.value 0 (omega (arith, c.requires.some))) level c.requires.spelled.0 bytes plain (sym c.requires.spelled.1)
-    q.new.rows.items q.new.nested.items c.leave.new.unfinished c.append_front.new.list.items n m (a.here + (c.args.code.width + c.args.size)) c.in_ok-append_front.ensures.items (omega (arith, size)) (c.reserve.ensures.len ∙ a.rows.ok.0) (ap (λ (i : ℕ). i + 1) (c.reserve-2.ensures.len ∙ a.nested.ok.0))
+    q.new.rows.items q.new.nested.items c.leave.new.unfinished c.append_front.new.list.items n m (a.here + (c.args.code.width + c.args.size)) c.in_default.ensures.items (omega (arith, size)) (c.reserve.ensures.len ∙ a.rows.ok.0) (ap (λ (i : ℕ). i + 1) (c.reserve-2.ensures.len ∙ a.nested.ok.0))
     (q.ensures.rows ∙ ap (settled_rows r n) c.reserve.ensures.items) (q.ensures.nested ∙ ap (settled_open r m) c.reserve-2.ensures.items) (c.leave.ensures ∙ q.ensures.unfinished) in
     draft_of _ free (record {
       context_fits = g.context_fits;
@@ -77,7 +77,7 @@ returns-clause-ok c vs many plain0 =
     let m = vec_len c.reserve.new.self in
     let s = begun_with k t a.start a.rows.items a.heads.items a.pool.items a.nested.items a.here g.tokens g.values l r d known (sym c.has_children.ensures) count refl (c.len-first.ensures ∙ a.heads.ok.0) (c.len.ensures ∙ a.pool.ok.0)
     (uleb_fits (uleb_of c.args.code) c.args.code.fits) (ne_eqb c.args.code.value 0 (omega (arith, c.requires.some))) level vs bytes plain (sym many)
-    q.new.rows.items q.new.nested.items c.leave.new.unfinished c.append_front.new.list.items n m (a.here + (c.args.code.width + c.args.size)) c.in_ok-append_front.ensures.items (omega (arith, size)) (c.reserve.ensures.len ∙ a.rows.ok.0) (ap (λ (i : ℕ). i + 1) (c.reserve-2.ensures.len ∙ a.nested.ok.0))
+    q.new.rows.items q.new.nested.items c.leave.new.unfinished c.append_front.new.list.items n m (a.here + (c.args.code.width + c.args.size)) c.in_default.ensures.items (omega (arith, size)) (c.reserve.ensures.len ∙ a.rows.ok.0) (ap (λ (i : ℕ). i + 1) (c.reserve-2.ensures.len ∙ a.nested.ok.0))
     (q.ensures.rows ∙ ap (settled_rows r n) c.reserve.ensures.items) (q.ensures.nested ∙ ap (settled_open r m) c.reserve-2.ensures.items) (c.leave.ensures ∙ q.ensures.unfinished) in
     let build : Place → Growing = λ p. record { context = k; table = t; start = a.start; place = p } in
     ap build (sym (place_given a.partial k t q.new.rows.items c.append_front.new.list.items a.pool.items c.leave.new.unfinished free))
