@@ -1,13 +1,14 @@
 -- An entry of a draft that begins, and is given its first values one after the other.
-use Rattle.std.proofs.Common.{◌≡◌, ◌+◌, ◌<◌, ◌≤◌, ℕ, List, [], ◌∷◌, ◌++◌, Bool, true, false, Option, Some, None, length, drop, refl, sym, ap, subst, ◌∙◌, arith, length-append}
-use Rattle.std.specs.Prelude.{IsSome}
+use Rattle.std.proofs.Common.{◌≡◌, ◌+◌, ℕ, List, [], ◌∷◌, ◌++◌, Bool, true, false, Option, Some, None, length, drop, refl, sym, ap, subst, ◌∙◌, arith, length-append}
+use Rattle.std.specs.Prelude.{IsSome, Result, Ok, Err, IfOk, OnErr}
 use Rattle.dw_leb.specs.Number.{Unsigned}
 use Rattle.dw_form.specs.declared.shape.Ctx.{Ctx}
-use Rattle.dw_form.specs.Form.{Attribute, attribute}
+use Rattle.dw_form.specs.Form.{Attribute}
 use Rattle.dw_abbrev.specs.Table.{Pair, Declaration, Table, declared}
 use Rattle.dw_tree.specs.Tree.{declared_pairs}
 use Rattle.dw_tree.specs.Place.{UnfinishedEntry}
 use Rattle.dw_tree.specs.Steps.{Growing, begun_at, with_value, with_values, NextFits, next_bytes, ArePlain}
+use Rattle.dw_tree.specs.FirstGiven.{given_if, size_if}
 use Rattle.dw_tree.specs.LeftPairs.{left_pairs, settled_left, value_left}
 use Rattle.dw_header.specs.Header.{context_of}
 use Rattle.dw_unit.specs.Draft.{Drafted, tree_in, drafted_size, begun, given, given_each, passes_limit, value_bytes, IsOnlyRoot, IsDrafted}
@@ -76,3 +77,19 @@ module _ (d : Drafted) (padded : ℕ) (i : IsDrafted d (tree_in d) padded) (code
       let left : left_pairs d.table (begun code d).place.unfinished ≡ decl.pairs = settled_left d.table d.place.spot code [] ∙ ap declared_pairs known in
       let r = values_kept vs (begun code d) padded kept bytes (subst (λ (ps : List Pair). ArePlain (context_of d.header) ps vs bytes) (sym left) h) (not_long (begun code d) (length bytes) (omega (arith, room, one))) in
       record { drafted = r.drafted; size = omega (arith, r.size, one) }
+
+  -- with all of them, or none
+  pub begun_kept_if : (all : Bool) (vs : List Attribute) (bytes : List ℕ) → ArePlain (context_of d.header) decl.pairs vs bytes → passes_limit d (code.width + length bytes) ≡ false
+      → Kept d (given_each (given_if all vs) (begun code d)) padded (code.width + size_if all (length bytes))
+  begun_kept_if true vs bytes h short = begun_kept vs bytes h short
+  begun_kept_if false vs bytes h short = begun_kept [] [] refl (not_long d (code.width + 0) (omega (arith, within d (code.width + length bytes) short)))
+
+-- ---- a call that says which, or fails
+
+pub either_if : {X E : Type 0} (r : Result X E) (P : X → Type 0) (Q R : Type 0) → IfOk r P → OnErr r Q → ((x : X) → P x → R) → (Q → R) → R
+either_if (Ok x) P Q R p q f g = f x p
+either_if (Err e) P Q R p q f g = g q
+
+pub on_if : {X E : Type 0} (r : Result X E) (P Q : X → Type 0) → IfOk r P → ((x : X) → P x → Q x) → IfOk r Q
+on_if (Ok x) P Q p f = f x p
+on_if (Err e) P Q p f = tt

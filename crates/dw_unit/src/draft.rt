@@ -10,6 +10,7 @@ ghost use Rattle.dw_abbrev.specs.Table.{declared, zero_of};
 ghost use Rattle.dw_tree.specs.Tree.{nesting};
 ghost use Rattle.dw_tree.specs.PoolBytes.{held_in};
 ghost use Rattle.dw_tree.specs.Emptiness.{is_bare};
+ghost use Rattle.dw_tree.specs.FirstGiven.{given_if, size_if};
 ghost use Rattle.dw_tree.specs.Steps.{partial_in, NextFits, IsPlainNext, SpellsPlain, ArePlain, SpellsFirst, next_pair, next_pairs};
 ghost use Rattle.dw_header.specs.Header.{context_of};
 ghost use Rattle.dw_unit.specs.Unit.{UnitFits, bytes_of};
@@ -102,8 +103,10 @@ impl Draft {
 
     /// An entry of this code begins, which `decl` declares, and is given its first values, `count` of them and none a text or
     /// block, by the bytes that spell them one behind the other (sections 7.5.2 and 7.5.5): the first `size` of these, by a
-    /// caller that has read them. It is what `begin` and as many calls of `plain_value` do, but that `AllocError` takes back
-    /// all of it.
+    /// caller that has read them. It is what `begin` and as many calls of `plain_value` do, and `true` is answered.
+    ///
+    /// Where the growth by the values is refused, it is what `begin` does alone: the entry waits for all its values, and
+    /// `false` is answered. `AllocError` where a growth by one entry is refused, and nothing is changed.
     #[inline(always)]
     pub fn begin_with(
         &mut self,
@@ -112,7 +115,7 @@ impl Draft {
         bytes: &[u8],
         size: usize,
         count: usize,
-    ) -> Result<(), AllocError>
+    ) -> Result<bool, AllocError>
         requires some { 0 < code.value }
         requires known { declared self.old.table code.value ≡ Some decl.now }
         requires free { self.old.place.unfinished ≡ None }
@@ -121,8 +124,8 @@ impl Draft {
         requires within { size ≤ length bytes.now }
         requires spelled { SpellsFirst (context_of self.old.header) decl.now.pairs count (take size bytes.now) }
         requires short { passes_limit self.old (code.width + size) ≡ false }
-        ensures ok { (vs : List Attribute) → length vs ≡ count → ArePlain (context_of self.old.header) decl.now.pairs vs (take size bytes.now) → OnOk result (self.new ≡ given_each vs (begun (uleb_of code) self.old)) }
-        ensures size { OnOk result (drafted_size self.new ≡ drafted_size self.old + (code.width + size)) }
+        ensures ok { (vs : List Attribute) → length vs ≡ count → ArePlain (context_of self.old.header) decl.now.pairs vs (take size bytes.now) → IfOk result (λ all. self.new ≡ given_each (given_if all vs) (begun (uleb_of code) self.old)) }
+        ensures size { IfOk result (λ all. drafted_size self.new ≡ drafted_size self.old + (code.width + size_if all size)) }
         ensures err { OnErr result (self.new ≡ self.old) }
     {
         self.tree.begin_with(code, decl, bytes, size, count)

@@ -1,14 +1,14 @@
-use Rattle.std.proofs.Common.{◌≡◌, ◌+◌, ℕ, List, length, take, false, None, Some, sym, ap, subst, ◌∙◌, arith, refl}
+use Rattle.std.proofs.Common.{◌≡◌, ◌+◌, ℕ, length, take, false, None, Some, sym, ap, subst, ◌∙◌, arith}
 use Rattle.std.proofs.lemmas.List.{length-take-le}
 use Rattle.dw_leb.specs.Number.{Unsigned}
 use Rattle.dw_leb.specs.View.{uleb_of}
-use Rattle.dw_form.specs.Form.{Attribute}
 use Rattle.dw_abbrev.specs.Table.{declared}
+use Rattle.dw_tree.specs.FirstGiven.{given_if, size_if}
 use Rattle.dw_tree.specs.Steps.{Growing, begun_at, end_of, with_values, ArePlain, SpellsFirst}
 use Rattle.dw_header.specs.Header.{context_of}
 use Rattle.dw_unit.specs.Draft.{Drafted, tree_in, begun, given_each, drafted_size, passes_limit, IsOnlyRoot, IsDrafted}
-use Rattle.dw_unit.proofs.DraftLemmas.{either_way, on_ok, same_kept, within, limit_near}
-use Rattle.dw_unit.proofs.EachValue.{begun_kept, each_same, values_place}
+use Rattle.dw_unit.proofs.DraftLemmas.{same_kept, within, limit_near}
+use Rattle.dw_unit.proofs.EachValue.{begun_kept_if, either_if, on_if, each_same, values_place}
 use Rattle.dw_unit.proofs.draft.Draft.begin_with.Goals as goal
 
 pub begin_with-requires-clause-spelled : goal.begin_with-requires-clause-spelled
@@ -43,10 +43,11 @@ invariant_of-self c =
     let plain : ArePlain (context_of d.header) decl.pairs vs bytes = subst (λ (x : Drafted). ArePlain (context_of x.header) decl.pairs vs bytes) (sym c.self.view_is) c.requires.spelled.2 in
     let below : ArePlain a.tree.context decl.pairs vs bytes = subst (λ (g : Growing). ArePlain g.context decl.pairs vs bytes) (sym c.self.invariant.tree_is) plain in
     let short : passes_limit d (code.width + length bytes) ≡ false = ap (λ (n : ℕ). passes_limit d (code.width + n)) size ∙ (ap (λ (x : Drafted). passes_limit x (c.args.code.width + c.args.size)) c.self.view_is ∙ c.requires.short) in
-    let kept = begun_kept d a.padded i code decl known free only vs bytes plain short in
-    either_way c.begin_with.result (new ≡ with_values vs (begun_at code a.tree)) (new ≡ a.tree) _ (c.begin_with.ensures.ok vs c.requires.spelled.1 below) c.begin_with.ensures.err
-    (λ e. subst (λ (g : Growing). IsDrafted (record { header = a.header; table = g.table; place = g.place; padding = a.padding.items }) g a.padded)
-    (sym (e ∙ ap (λ (g : Growing). with_values vs (begun_at code g)) c.self.invariant.tree_is ∙ values_place vs (begun code d))) (subst (λ (x : Drafted). IsDrafted x (tree_in (given_each vs (begun code d))) a.padded) (sym (each_same vs (begun code d))) kept.drafted))
+    either_if c.begin_with.result (λ all. new ≡ with_values (given_if all vs) (begun_at code a.tree)) (new ≡ a.tree) _ (c.begin_with.ensures.ok vs c.requires.spelled.1 below) c.begin_with.ensures.err
+    (λ all e. subst (λ (g : Growing). IsDrafted (record { header = a.header; table = g.table; place = g.place; padding = a.padding.items }) g a.padded)
+    (sym (e ∙ ap (λ (g : Growing). with_values (given_if all vs) (begun_at code g)) c.self.invariant.tree_is ∙ values_place (given_if all vs) (begun code d)))
+    (subst (λ (x : Drafted). IsDrafted x (tree_in (given_each (given_if all vs) (begun code d))) a.padded) (sym (each_same (given_if all vs) (begun code d)))
+    (begun_kept_if d a.padded i code decl known free only all vs bytes plain short).drafted))
     (λ e. same_kept d a.tree a.padded c.self.invariant new e)
 
 pub returns-clause-ok : goal.returns-clause-ok
@@ -59,10 +60,10 @@ returns-clause-ok c vs many h =
     let bytes = take c.args.size c.args.bytes.now in
     let plain : ArePlain (context_of d.header) decl.pairs vs bytes = subst (λ (x : Drafted). ArePlain (context_of x.header) decl.pairs vs bytes) (sym c.self.view_is) h in
     let below : ArePlain a.tree.context decl.pairs vs bytes = subst (λ (g : Growing). ArePlain g.context decl.pairs vs bytes) (sym c.self.invariant.tree_is) plain in
-    on_ok c.begin_with.result (new ≡ with_values vs (begun_at code a.tree)) _ (c.begin_with.ensures.ok vs many below)
-    (λ e. ap (λ (g : Growing). record { header = a.header; table = g.table; place = g.place; padding = a.padding.items }) (e ∙ ap (λ (g : Growing). with_values vs (begun_at code g)) c.self.invariant.tree_is ∙ values_place vs (begun code d))
-    ∙ each_same vs (begun code d)
-    ∙ ap (λ (x : Drafted). given_each vs (begun code x)) c.self.view_is)
+    on_if c.begin_with.result (λ all. new ≡ with_values (given_if all vs) (begun_at code a.tree)) _ (c.begin_with.ensures.ok vs many below)
+    (λ all e. ap (λ (g : Growing). record { header = a.header; table = g.table; place = g.place; padding = a.padding.items }) (e ∙ ap (λ (g : Growing). with_values (given_if all vs) (begun_at code g)) c.self.invariant.tree_is ∙ values_place (given_if all vs) (begun code d))
+    ∙ each_same (given_if all vs) (begun code d)
+    ∙ ap (λ (x : Drafted). given_each (given_if all vs) (begun code x)) c.self.view_is)
 
 pub returns-clause-size : goal.returns-clause-size
 returns-clause-size c =
@@ -81,8 +82,8 @@ returns-clause-size c =
     let plain : ArePlain (context_of d.header) decl.pairs vs bytes = subst (λ (x : Drafted). ArePlain (context_of x.header) decl.pairs vs bytes) (sym c.self.view_is) c.requires.spelled.2 in
     let below : ArePlain a.tree.context decl.pairs vs bytes = subst (λ (g : Growing). ArePlain g.context decl.pairs vs bytes) (sym c.self.invariant.tree_is) plain in
     let short : passes_limit d (code.width + length bytes) ≡ false = ap (λ (n : ℕ). passes_limit d (code.width + n)) size ∙ (ap (λ (x : Drafted). passes_limit x (c.args.code.width + c.args.size)) c.self.view_is ∙ c.requires.short) in
-    let kept = begun_kept d a.padded i code decl known free only vs bytes plain short in
-    on_ok c.begin_with.result (new ≡ with_values vs (begun_at code a.tree)) _ (c.begin_with.ensures.ok vs c.requires.spelled.1 below)
-    (λ e. ap (λ (g : Growing). drafted_size (record { header = a.header; table = g.table; place = g.place; padding = a.padding.items })) (e ∙ ap (λ (g : Growing). with_values vs (begun_at code g)) c.self.invariant.tree_is ∙ values_place vs (begun code d))
-    ∙ ap drafted_size (each_same vs (begun code d))
-    ∙ (kept.size ∙ (ap (λ (n : ℕ). drafted_size d + (code.width + n)) size ∙ ap (λ (x : Drafted). drafted_size x + (c.args.code.width + c.args.size)) c.self.view_is)))
+    on_if c.begin_with.result (λ all. new ≡ with_values (given_if all vs) (begun_at code a.tree)) _ (c.begin_with.ensures.ok vs c.requires.spelled.1 below)
+    (λ all e. ap (λ (g : Growing). drafted_size (record { header = a.header; table = g.table; place = g.place; padding = a.padding.items })) (e ∙ ap (λ (g : Growing). with_values (given_if all vs) (begun_at code g)) c.self.invariant.tree_is ∙ values_place (given_if all vs) (begun code d))
+    ∙ ap drafted_size (each_same (given_if all vs) (begun code d))
+    ∙ ((begun_kept_if d a.padded i code decl known free only all vs bytes plain short).size
+    ∙ (ap (λ (n : ℕ). drafted_size d + (code.width + size_if all n)) size ∙ ap (λ (x : Drafted). drafted_size x + (c.args.code.width + size_if all c.args.size)) c.self.view_is)))
