@@ -179,3 +179,9 @@ module _ (g : PartialUnit) (keeps : Keeps g) (has : HasPart g) (none_there : par
         let end : after ≡ drop (code.width + size) b = drop-drop size code.width b in
         let whole : Given g b keeps none_there fit new (drop (code.width + size) b) = subst (λ (u : PartialUnit). Given g b keeps none_there fit u (drop (code.width + size) b)) (sym same) (subst (Given g b keeps none_there fit (gives vs first)) end all) in
         (omega (arith, some), omega (arith, there, room, length-drop code.width b), whole.on, whole.none_kept, whole.free)
+
+    -- without them
+    pub begun_alone_says : code.width ≤ left g → (new : PartialUnit) → new ≡ coming (begun code (drafted g)) g.unit_length None 0 [] → EntrySays g b (Some code.width) new
+    begun_alone_says within new is =
+        let size : code.width + 0 ≡ code.width = omega arith in
+        subst (λ (n : ℕ). EntrySays g b (Some n) new) size (begun_says [] 0 (omega arith) (omega (arith, within)) refl new is)

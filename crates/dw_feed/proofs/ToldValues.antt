@@ -1,23 +1,26 @@
 -- Values whose sizes their forms tell: where there are as many bytes, they are spelled there.
 use Rattle.std.proofs.Common.{◌≡◌, ℕ, zero, suc, ◌+◌, ◌≤◌, List, [], ◌∷◌, ◌++◌, length, take, Option, Some, None, refl, sym, ap, ap₂, subst, ◌∙◌, arith, length-append}
-use Rattle.std.specs.Prelude.{◌&&◌, ◌==◌, is_some, if◌then◌else◌, Bool, true, false}
+use Rattle.std.specs.Prelude.{◌<◌, ◌&&◌, ◌==◌, is_some, IsSomeAnd, if◌then◌else◌, Bool, true, false}
 use Rattle.std.proofs.lemmas.Bool.{eqb-true}
 use Rattle.std.proofs.lemmas.List.{length-take-le}
 use Rattle.std.proofs.Math.Seq.{take-append-add}
 use Rattle.dw_leb.specs.Decide.{AreBytes, AreBytes-behind}
 use Rattle.dw_leb.specs.Number.{Signed}
+use Rattle.dw_leb.specs.Reader.{Broken}
+use Rattle.dw_leb.specs.declared.errors.Reason.TheVariants.{Truncated}
 use Rattle.dw_form.specs.declared.shape.Ctx.{Ctx}
 use Rattle.dw_form.specs.declared.shape.Shape.{Shape}
 use Rattle.dw_form.specs.declared.shape.Shape.TheVariants as shapes
 use Rattle.dw_form.specs.declared.size.FormSize.{FormSize}
 use Rattle.dw_form.specs.declared.size.FormSize.TheVariants.{Bytes}
 use Rattle.dw_form.specs.Form.{Attribute, attribute, shape}
+use Rattle.dw_form.specs.ReadForm.{read_attribute}
 use Rattle.dw_form.specs.FormSize.{HasSize, told_form, size_in, told_shape}
 use Rattle.dw_abbrev.specs.Table.{Pair}
 use Rattle.dw_abbrev.specs.Prefix as prefix
 use Rattle.dw_tree.specs.Steps.{ArePlain, SpellsFirst}
 use Rattle.dw_feed.specs.FirstValues.{FirstsAreTold}
-use Rattle.dw_feed.specs.PlainValues.{told, told_size, PlainAt, plain_there}
+use Rattle.dw_feed.specs.PlainValues.{told, told_size, PlainAt, plain_there, cut_short}
 
 -- ---- the size of one
 
@@ -48,6 +51,24 @@ told_is k p s e = by (is_some p.constant) (p.form.value == 0x21) refl refl e
     by true false constant is h = by_shape p.constant (shape p.form.value k.address_size k.format) (size_in k s) (told_shape k p.form.value s h)
     by false c constant is h = by_shape p.constant (shape p.form.value k.address_size k.format) (size_in k s) (told_shape k p.form.value s h)
 
+-- by its shape
+pub told_fixed : (k : Ctx) (p : Pair) (n : ℕ) → shape p.form.value k.address_size k.format ≡ Some (shapes.Fixed n) → told_size k p ≡ Some n
+told_fixed k p n e = ap (told p.constant) e ∙ by p.constant
+  where
+    by : (c : Option Signed) → told c (Some (shapes.Fixed n)) ≡ Some n
+    by None = refl
+    by (Some x) = refl
+
+pub told_present : (k : Ctx) (p : Pair) → shape p.form.value k.address_size k.format ≡ Some shapes.Present → told_size k p ≡ Some 0
+told_present k p e = ap (told p.constant) e ∙ by p.constant
+  where
+    by : (c : Option Signed) → told c (Some shapes.Present) ≡ Some 0
+    by None = refl
+    by (Some x) = refl
+
+pub told_constant : (k : Ctx) (p : Pair) (x : Signed) → shape p.form.value k.address_size k.format ≡ Some shapes.Implicit → p.constant ≡ Some x → told_size k p ≡ Some 0
+told_constant k p x e is = ap (told p.constant) e ∙ ap (λ (c : Option Signed). told c (Some shapes.Implicit)) is
+
 -- ---- several, one behind the other
 
 spelled : (k : Ctx) (ps : List Pair) (n : ℕ) → prefix.AreTold k ps n → (bytes : List ℕ) → AreBytes bytes → n ≤ length bytes → SpellsFirst k ps (length ps) (take n bytes)
@@ -73,3 +94,9 @@ pub told_there : (k : Ctx) (ps : List Pair) (count size : ℕ) → FirstsAreTold
 told_there k ps count size are bytes fit there =
     let x = spelled k (take count ps) size are.1 bytes fit there in
     (x.0, omega (arith, x.1, length-take-le count ps are.0), of_all k count ps x.0 (take size bytes) x.2)
+
+-- ---- with fewer bytes than its form tells a value is cut off
+
+pub cut_told : (k : Ctx) (p : Pair) (bytes : List ℕ) (lim : ℕ) (o : Option ℕ) → o ≡ told_size k p → IsSomeAnd o (λ size. (length bytes < size) × (size ≤ lim)) → read_attribute k p.form.value p.constant bytes lim ≡ Broken 0 Truncated
+cut_told k p bytes lim None is h = absurd h
+cut_told k p bytes lim (Some size) is h = cut_short k p bytes lim size (sym is) h.0 h.1

@@ -39,6 +39,7 @@ pub mod FedUnit
 pub mod FeedReads
 pub mod Openings
 pub mod ValueSteps
+pub mod ValueCut
 pub mod EmptyPiece
 pub mod ContentSteps
 pub mod NamedValues
@@ -47,3 +48,4 @@ pub mod FieldTurns
 pub mod EntrySteps
 pub mod FirstValues
 pub mod PlainValues
+pub mod PlainSizes

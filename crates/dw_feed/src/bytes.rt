@@ -1,5 +1,5 @@
 //! Bytes that are taken from a reader and kept.
-ghost use Rattle.std.specs.Prelude.{◌≡◌, ◌<◌, None, length, vec_items};
+ghost use Rattle.std.specs.Prelude.{◌≡◌, ◌≤◌, None, length, vec_items};
 ghost use Rattle.dw_leb.specs.Watch.{inner_of, fault_of, reader_fault, KeptSome};
 ghost use Rattle.dw_feed.specs.Feed.{ReadsField, ReadsUpTo, IsEscape};
 
@@ -10,8 +10,8 @@ use std::io::Read;
 /// The most bytes that are read at once.
 const CHUNK: usize = 4096;
 
-/// The most where no more are asked for, as in a length field: a larger piece of the stack would cost more than these.
-const SMALL: usize = 16;
+/// The most of few, as in a length field: a larger piece of the stack would cost more than these.
+const FEW: usize = 16;
 
 /// The bytes of an initial length (section 7.4): four, and eight more where those are ff ff ff ff. Fewer where the
 /// reader has no more. `NoMemory` is returned where a growth was refused, and only where at least a byte was
@@ -55,33 +55,13 @@ pub fn read_up_to<R: Read>(
     ensures memory { KeptSome (R.remaining (inner_of reader.old)) (R.remaining (inner_of reader.new)) result }
     ensures fault { fault_of reader.new ≡ reader_fault result }
 {
-    if most <= SMALL as u64 {
-        let mut chunk = [0u8; SMALL];
-        return read_through(reader, most, bytes, &mut chunk);
+    if most <= FEW as u64 {
+        return read_few(reader, most as usize, bytes);
     }
     let mut chunk = [0u8; CHUNK];
-    read_through(reader, most, bytes, &mut chunk)
-}
-
-/// The same, read into this chunk again and again.
-fn read_through<R: Read>(
-    reader: &mut Watched<R>,
-    most: u64,
-    bytes: &mut Vec<u8>,
-    chunk: &mut [u8],
-) -> Result<(), ReadError>
-    requires clear { fault_of reader.old ≡ None }
-    requires room { 0 < length chunk.old }
-    ensures bytes { ReadsUpTo bytes.old.items bytes.new.items
-        (R.remaining (inner_of reader.old))
-        (R.remaining (inner_of reader.new))
-        most result }
-    ensures memory { KeptSome (R.remaining (inner_of reader.old)) (R.remaining (inner_of reader.new)) result }
-    ensures fault { fault_of reader.new ≡ reader_fault result }
-{
     let mut left = most;
     while left > 0 {
-        let want = left.min(chunk.len() as u64) as usize;
+        let want = left.min(CHUNK as u64) as usize;
         let got = match reader.read(&mut chunk[..want]) {
             Ok(got) => got,
             Err(e) => return Err(ReadError::Io(e.kind())),
@@ -91,6 +71,38 @@ fn read_through<R: Read>(
         }
         bytes.extend_from_slice(&chunk[..got])?;
         left -= got as u64;
+    }
+    Ok(())
+}
+
+/// The same of few bytes.
+fn read_few<R: Read>(
+    reader: &mut Watched<R>,
+    most: usize,
+    bytes: &mut Vec<u8>,
+) -> Result<(), ReadError>
+    requires clear { fault_of reader.old ≡ None }
+    requires few { most ≤ 16 }
+    ensures bytes { ReadsUpTo bytes.old.items bytes.new.items
+        (R.remaining (inner_of reader.old))
+        (R.remaining (inner_of reader.new))
+        most result }
+    ensures memory { KeptSome (R.remaining (inner_of reader.old)) (R.remaining (inner_of reader.new)) result }
+    ensures fault { fault_of reader.new ≡ reader_fault result }
+{
+    let mut chunk = [0u8; FEW];
+    let mut left = most;
+    while left > 0 {
+        let got = match reader.read(&mut chunk[..left]) {
+            Ok(got) => got,
+            Err(fault) => return Err(ReadError::Io(fault.kind())),
+        };
+        if got == 0 {
+            return Ok(());
+        }
+        let read = &chunk[..got];
+        bytes.extend_from_slice(read)?;
+        left -= got;
     }
     Ok(())
 }

@@ -15,6 +15,8 @@ ghost use Rattle.dw_header.specs.Laws.{HasHeaderBytes};
 ghost use Rattle.dw_unit.specs.Draft.{given, passes_limit, value_bytes};
 ghost use Rattle.dw_feed.specs.BodyView.{drafted};
 ghost use Rattle.dw_feed.specs.ValueSteps.{ValueSays, naming};
+ghost use Rattle.dw_feed.specs.ValueCut.{IsCutHere};
+ghost use Rattle.dw_feed.specs.PlainValues.{told_size};
 ghost use Rattle.dw_feed.specs.PlainFeed.{root_if_whole, unit_with};
 ghost use Rattle.dw_feed.specs.BodyFeed.{Reading, EndsBody, started, part};
 ghost use Rattle.dw_feed.specs.HeldCounts.{held_by};
@@ -26,7 +28,7 @@ use crate::code::{code_at, is_cut};
 use crate::counted::Counted;
 use crate::held::Held;
 use crate::step::{Attempt, Step, Taken};
-use crate::value::{form_at, is_short, joined, value_at, without_front};
+use crate::value::{form_at, is_short, joined, told_size, value_at, without_front};
 use arrayvec::ArrayVec;
 use dw_abbrev::{Pair, Table};
 use dw_form::AttrValue;
@@ -120,7 +122,7 @@ impl Coming {
         requires waits { FrontsWait self.old (part self.old) }
         ensures { StepSays self.old (part self.old ++ b.now) result self.new }
     {
-        if self.pending.is_empty() {
+        if self.pending.is_empty() && !b.is_empty() {
             let lim = self.left();
             if let Ok(code) = code_at(&self.draft, b, lim) {
                 return self.put(code, b.len() - code.width as usize);
@@ -215,7 +217,10 @@ impl Coming {
                     if self.is_whole() {
                         return Taken::Whole(over);
                     }
-                    left = self.fields_at_once(table, left);
+                    match self.fields_at_once(table, left) {
+                        Ok(rest) => left = rest,
+                        Err(_) => return Taken::NoMemory,
+                    }
                 }
                 Step::Wanting => return Taken::More,
                 Step::Refused(over, reason) => return Taken::Refused(over, fault_at(here, reason)),
@@ -242,7 +247,7 @@ impl Coming {
         requires next { next_pair self.old.table self.old.place.unfinished ≡ Some (pair_of pair.now) }
         requires stands { Keeps self.old }
         requires has { HasPart self.old }
-        requires waits { FrontsWait self.old (part self.old) }
+        requires waits { Waits self.old }
         ensures { StepSays self.old (part self.old ++ b.now) result self.new }
     {
         if self.draft.partial_value().is_some() {
@@ -263,12 +268,27 @@ impl Coming {
         requires none_there { part self.old ≡ [] }
         ensures { StepSays self.old (part self.old ++ b.now) result self.new }
     {
-        let lim = self.left();
-        match self.give(pair, b, lim) {
+        let told = self.told(pair);
+        match self.give(pair, told, b, self.left()) {
             Attempt::Whole(size) => Step::Found(b.len() - size),
-            Attempt::Broken(_) => self.value_in_parts(pair, b),
             Attempt::NoMemory => Step::NoMemory,
+            Attempt::Broken(reason) => {
+                if is_cut(reason) && pair.form.value != DW_FORM_INDIRECT {
+                    // Then without its bytes it isn't whole either.
+                    self.rest_of_value(pair, b)
+                } else {
+                    self.value_in_parts(pair, b)
+                }
+            }
         }
+    }
+
+    /// How many bytes the value has, where its form alone tells (section 7.5.6).
+    #[inline(always)]
+    fn told(&self, pair: &Pair) -> Option<usize>
+        ensures { result ≡ told_size (context self.now) (pair_of pair.now) }
+    {
+        told_size(self.draft.header().context(), pair)
     }
 
     /// The value at the place, of whose number or length field some bytes may be kept.
@@ -276,14 +296,17 @@ impl Coming {
         requires next { next_pair self.old.table self.old.place.unfinished ≡ Some (pair_of pair.now) }
         requires stands { Keeps self.old }
         requires has { HasPart self.old }
-        requires waits { FrontsWait self.old (part self.old) }
+        requires waits { Waits self.old }
         requires between { partial_in self.old.place.unfinished ≡ None }
         ensures { StepSays self.old (part self.old ++ b.now) result self.new }
     {
         if pair.form.value == DW_FORM_INDIRECT && self.named.is_none() {
             self.named_form(pair, b)
-        } else {
+        } else if self.pending.is_empty() {
             self.own_value(pair, b)
+        } else {
+            // With these bytes it was tried when they came.
+            self.rest_of_value(pair, b)
         }
     }
 
@@ -342,18 +365,35 @@ impl Coming {
         requires named { pair.now.form.value ≡ 0x16 → IsSome self.old.named }
         ensures { StepSays self.old (part self.old ++ b.now) result self.new }
     {
-        let lim = self.left();
-        let mut rest = b;
-        loop {
-            match self.give_front(pair, lim) {
-                Attempt::Whole(_) => return Step::Found(rest.len()),
-                Attempt::NoMemory => return Step::NoMemory,
-                Attempt::Broken(reason) => {
-                    if !is_cut(reason) {
-                        return Step::Refused(rest.len(), reason);
-                    }
+        let told = self.told(pair);
+        match self.give_front(pair, told, self.left()) {
+            Attempt::Whole(_) => Step::Found(b.len()),
+            Attempt::NoMemory => Step::NoMemory,
+            Attempt::Broken(reason) => {
+                if is_cut(reason) {
+                    self.rest_of_value(pair, b)
+                } else {
+                    Step::Refused(b.len(), reason)
                 }
             }
+        }
+    }
+
+    /// The rest of it, where what is there isn't the whole value: byte by byte.
+    fn rest_of_value(&mut self, pair: &Pair, b: &[u8]) -> Step
+        requires next { next_pair self.old.table self.old.place.unfinished ≡ Some (pair_of pair.now) }
+        requires stands { Keeps self.old }
+        requires has { HasPart self.old }
+        requires waits { FrontsWait self.old (part self.old) }
+        requires between { partial_in self.old.place.unfinished ≡ None }
+        requires named { pair.now.form.value ≡ 0x16 → IsSome self.old.named }
+        requires cut { IsCutHere (pair_of pair.now) self.old }
+        ensures { StepSays self.old (part self.old ++ b.now) result self.new }
+    {
+        let lim = self.left();
+        let told = self.told(pair);
+        let mut rest = b;
+        loop {
             if let Some((width, count)) = self.opening(pair) {
                 return self.open(width, count, rest);
             }
@@ -364,22 +404,34 @@ impl Coming {
                 }
                 None => return Step::Wanting,
             }
+            match self.give_front(pair, told, lim) {
+                Attempt::Whole(_) => return Step::Found(rest.len()),
+                Attempt::NoMemory => return Step::NoMemory,
+                Attempt::Broken(reason) => {
+                    if !is_cut(reason) {
+                        return Step::Refused(rest.len(), reason);
+                    }
+                }
+            }
         }
     }
 
     /// What is there of the value, where it is the whole value, goes to the draft.
-    fn give_front(&mut self, pair: &Pair, lim: u64) -> Attempt
+    #[inline(always)]
+    fn give_front(&mut self, pair: &Pair, told: Option<usize>, lim: u64) -> Attempt
         requires next { next_pair self.old.table self.old.place.unfinished ≡ Some (pair_of pair.now) }
         requires stands { Standing self.old }
         requires between { partial_in self.old.place.unfinished ≡ None }
+        requires told { told ≡ told_size (context self.old) (pair_of pair.now) }
         requires lim { lim ≡ left_of self.old }
         ensures { ValueSays self.old (pair_of pair.now) (part self.old) result self.new }
     {
         let front = self.front();
-        self.give(pair, front.as_slice(), lim)
+        self.give(pair, told, front.as_slice(), lim)
     }
 
     /// What is there of the value: the form that it names, and bytes of a number or of a length field.
+    #[inline(always)]
     fn front(&self) -> ArrayVec<u8, 32>
         requires between { partial_in self.now.place.unfinished ≡ None }
         ensures { result.items ≡ part self.now }
@@ -389,6 +441,7 @@ impl Coming {
     }
 
     /// The bytes of the form that an indirect value names.
+    #[inline(always)]
     fn named_bytes(&self) -> ArrayVec<u8, 16>
         ensures { result.items ≡ via_bytes self.now.named }
     {
@@ -398,18 +451,20 @@ impl Coming {
         }
     }
 
-    /// The value at the front of these bytes, of which `lim` are left to the unit's end, goes to the draft.
-    fn give(&mut self, pair: &Pair, bytes: &[u8], lim: u64) -> Attempt
+    /// The value at the front of these bytes, of which `lim` are left to the unit's end, goes to the draft. `told` are as
+    /// many bytes as its form alone tells: with fewer it isn't looked at.
+    fn give(&mut self, pair: &Pair, told: Option<usize>, bytes: &[u8], lim: u64) -> Attempt
         requires next { next_pair self.old.table self.old.place.unfinished ≡ Some (pair_of pair.now) }
         requires stands { Standing self.old }
         requires between { partial_in self.old.place.unfinished ≡ None }
+        requires told { told ≡ told_size (context self.old) (pair_of pair.now) }
         requires lim { lim ≡ left_of self.old }
         ensures { ValueSays self.old (pair_of pair.now) bytes.now result self.new }
     {
-        let context = self.draft.header().context();
-        if is_short(context, pair, bytes, lim) {
+        if is_short(told, bytes.len(), lim) {
             return Attempt::Broken(Reason::Truncated);
         }
+        let context = self.draft.header().context();
         match value_at(context, pair, bytes, lim) {
             Ok((value, size)) => match self.settle(&value, &bytes[..size]) {
                 Ok(()) => Attempt::Whole(size),

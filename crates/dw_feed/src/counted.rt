@@ -1,10 +1,11 @@
 //! A unit under construction whose entries and values are counted.
-ghost use Rattle.std.specs.Prelude.{◌≡◌, ◌≢◌, ◌<◌, ◌+◌, ◌≤◌, [], List, length, take, true, false, None, Some, IsSome, option_map, OnOk, OnErr};
+ghost use Rattle.std.specs.Prelude.{◌≡◌, ◌≢◌, ◌<◌, ◌+◌, ◌≤◌, [], List, length, take, true, false, None, Some, IsSome, option_map, IfOk, OnOk, OnErr};
 ghost use Rattle.dw_leb.specs.View.{uleb_of};
 ghost use Rattle.dw_form.specs.Form.{Attribute};
 ghost use Rattle.dw_form.specs.Lent.{attribute_of};
 ghost use Rattle.dw_abbrev.specs.Build.{is_width};
 ghost use Rattle.dw_abbrev.specs.Table.{declared};
+ghost use Rattle.dw_tree.specs.FirstGiven.{given_if};
 ghost use Rattle.dw_tree.specs.Tree.{nesting};
 ghost use Rattle.dw_tree.specs.Emptiness.{is_bare};
 ghost use Rattle.dw_tree.specs.Steps.{partial_in, NextFits, IsPlainNext, SpellsPlain, ArePlain, SpellsFirst};
@@ -92,7 +93,7 @@ impl Counted {
     }
 
     /// An entry of this code begins, which `decl` declares, and is given its first values, none of them a text or block, by the
-    /// bytes that spell them.
+    /// bytes that spell them: all of them, and then `true` is answered, or none, where the growth by them is refused.
     #[inline(always)]
     pub(crate) fn begin_with(
         &mut self,
@@ -101,7 +102,7 @@ impl Counted {
         bytes: &[u8],
         size: usize,
         count: usize,
-    ) -> Result<(), AllocError>
+    ) -> Result<bool, AllocError>
         requires some { 0 < code.value }
         requires known { declared self.old.table code.value ≡ Some decl.now }
         requires free { self.old.place.unfinished ≡ None }
@@ -110,13 +111,16 @@ impl Counted {
         requires within { size ≤ length bytes.now }
         requires spelled { SpellsFirst (context_of self.old.header) decl.now.pairs count (take size bytes.now) }
         requires short { passes_limit self.old (code.width + size) ≡ false }
-        ensures ok { (vs : List Attribute) → length vs ≡ count → ArePlain (context_of self.old.header) decl.now.pairs vs (take size bytes.now) → OnOk result (self.new ≡ given_each vs (begun (uleb_of code) self.old)) }
+        ensures ok { (vs : List Attribute) → length vs ≡ count → ArePlain (context_of self.old.header) decl.now.pairs vs (take size bytes.now) → IfOk result (λ all. self.new ≡ given_each (given_if all vs) (begun (uleb_of code) self.old)) }
         ensures err { OnErr result (self.new ≡ self.old) }
     {
-        self.draft.begin_with(code, decl, bytes, size, count)?;
+        let all = self.draft.begin_with(code, decl, bytes, size, count)?;
         self.entries += 1;
+        if !all {
+            return Ok(false);
+        }
         self.values += count as u128;
-        Ok(())
+        Ok(true)
     }
 
     /// The unfinished entry is given its next value, with the bytes that spell it.

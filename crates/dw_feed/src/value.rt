@@ -1,16 +1,16 @@
 //! Values at the place of a unit under construction, and the forms that indirect values name (section 7.5.3).
-ghost use Rattle.std.specs.Prelude.{◌≡◌, ◌≤◌, ◌++◌, length, drop, IsTrue, IfOk, IfSome, None, Some};
-ghost use Rattle.dw_leb.specs.declared.errors.Reason.TheVariants.{Truncated};
+ghost use Rattle.std.specs.Prelude.{◌≡◌, ◌≤◌, ◌<◌, ◌↔◌, ◌++◌, length, drop, IsTrue, IsSomeAnd, IfOk, None, Some};
 ghost use Rattle.dw_leb.specs.Part.{Taken, judged};
 ghost use Rattle.dw_leb.specs.Number.{uleb};
 ghost use Rattle.dw_leb.specs.View.{uleb_of, sleb_of};
-ghost use Rattle.dw_leb.specs.Reader.{Broken, checked, outcome_of};
+ghost use Rattle.dw_leb.specs.Reader.{checked, outcome_of};
 ghost use Rattle.dw_leb.specs.ReadNumber.{read_uleb, read_sleb};
 ghost use Rattle.dw_form.specs.Form.{IsContext, attribute, bad_inner};
 ghost use Rattle.dw_form.specs.Lent.{attribute_of, lent_outcome};
 ghost use Rattle.dw_form.specs.ReadForm.{read_attribute};
 ghost use Rattle.dw_abbrev.specs.PairView.{pair_of};
 ghost use Rattle.dw_feed.specs.PlainValues.{PlainAt, told_size};
+ghost use Rattle.dw_feed.specs.PlainSizes.{IfWhole};
 ghost use Rattle.dw_feed.specs.FirstValues.{FirstsAreTold};
 
 use crate::code::number;
@@ -37,7 +37,7 @@ pub(crate) fn value_at<'a>(
 
 /// How many bytes the value of this pair has, where its form alone tells (section 7.5.6).
 #[inline(always)]
-fn told_size(context: Ctx, pair: &Pair) -> Option<usize>
+pub(crate) fn told_size(context: Ctx, pair: &Pair) -> Option<usize>
     requires { IsContext context }
     ensures { result ≡ told_size context (pair_of pair.now) }
 {
@@ -52,42 +52,47 @@ fn told_size(context: Ctx, pair: &Pair) -> Option<usize>
     }
 }
 
-/// How many bytes the value of this pair has, where it is no text or block and at the front of `b`, of which `lim`
-/// bytes are left to the unit's end.
-#[inline(always)]
-pub(crate) fn plain_size(context: Ctx, pair: &Pair, b: &[u8], lim: u64) -> Option<usize>
-    requires { IsContext context }
-    ensures plain { IfSome result (PlainAt context (pair_of pair.now) b.now lim) }
-    ensures room { IfSome result (λ n. n ≤ length b.now) }
-{
-    match told_size(context, pair) {
-        Some(size) => {
-            if size <= b.len() && size as u64 <= lim {
-                Some(size)
-            } else {
-                None
-            }
-        }
-        None => number_size(context, pair, b, lim),
-    }
+/// What is known of a value's size before it is read.
+#[derive(Clone, Copy)]
+pub(crate) enum PlainSize {
+    /// It is no text or block, and stands whole at the front, with so many bytes.
+    Whole(usize),
+    /// It is none, and doesn't stand whole there, or is refused.
+    Cut,
+    /// Its form doesn't tell.
+    Untold,
 }
 
-/// The same of a number in LEB128.
-fn number_size(context: Ctx, pair: &Pair, b: &[u8], lim: u64) -> Option<usize>
+/// How many bytes the value of this pair has, where it is no text or block and at the front of `b`, of which `lim`
+/// bytes are left to the unit's end. The form is looked at once, and a number in LEB128 read once.
+#[inline(always)]
+pub(crate) fn plain_size(context: Ctx, pair: &Pair, b: &[u8], lim: u64) -> PlainSize
     requires { IsContext context }
-    ensures plain { IfSome result (PlainAt context (pair_of pair.now) b.now lim) }
-    ensures room { IfSome result (λ n. n ≤ length b.now) }
+    ensures plain { IfWhole result (PlainAt context (pair_of pair.now) b.now lim) }
+    ensures room { IfWhole result (λ n. n ≤ length b.now) }
 {
-    match Shape::of(pair.form.value, context.address_size, context.format)? {
-        Shape::Uleb => match number(b, lim) {
-            Ok(number) => Some(number.width as usize),
-            Err(_) => None,
+    match Shape::of(pair.form.value, context.address_size, context.format) {
+        Some(Shape::Fixed(size)) => {
+            if size as usize <= b.len() && size as u64 <= lim {
+                PlainSize::Whole(size as usize)
+            } else {
+                PlainSize::Cut
+            }
+        }
+        Some(Shape::Present) => PlainSize::Whole(0),
+        Some(Shape::Implicit) => match pair.constant {
+            Some(_) => PlainSize::Whole(0),
+            None => PlainSize::Untold,
         },
-        Shape::Sleb => match signed(b, lim) {
-            Ok(number) => Some(number.width as usize),
-            Err(_) => None,
+        Some(Shape::Uleb) => match number(b, lim) {
+            Ok(number) => PlainSize::Whole(number.width as usize),
+            Err(_) => PlainSize::Cut,
         },
-        _ => None,
+        Some(Shape::Sleb) => match signed(b, lim) {
+            Ok(number) => PlainSize::Whole(number.width as usize),
+            Err(_) => PlainSize::Cut,
+        },
+        _ => PlainSize::Untold,
     }
 }
 
@@ -99,14 +104,13 @@ fn signed(b: &[u8], lim: u64) -> Result<Sleb, Reason>
     Sleb::read(b, lim)
 }
 
-/// Whether the form of this pair tells how many bytes its value has, and there are fewer, where the unit has them.
+/// Whether a value has so many bytes, and fewer are there, where the unit has them.
 #[inline(always)]
-pub(crate) fn is_short(context: Ctx, pair: &Pair, b: &[u8], lim: u64) -> bool
-    requires { IsContext context }
-    ensures { IsTrue result → read_attribute context (pair_of pair.now).form.value (pair_of pair.now).constant b.now lim ≡ Broken 0 Truncated }
+pub(crate) fn is_short(told: Option<usize>, count: usize, lim: u64) -> bool
+    ensures { IsTrue result ↔ IsSomeAnd told (λ size. (count < size) × (size ≤ lim)) }
 {
-    match told_size(context, pair) {
-        Some(size) => b.len() < size && size as u64 <= lim,
+    match told {
+        Some(size) => count < size && size as u64 <= lim,
         None => false,
     }
 }

@@ -1,6 +1,7 @@
-use Rattle.std.proofs.Common.{◌≡◌, ℕ, ap, ap₂, subst, ◌∙◌, sym}
+use Rattle.std.proofs.Common.{◌≡◌, ℕ, refl, ap, ap₂, subst, ◌∙◌, sym}
 use Rattle.dw_leb.specs.Part.{Taken}
-use Rattle.dw_leb.specs.Reader.{Found}
+use Rattle.dw_leb.specs.Reader.{Found, Broken}
+use Rattle.dw_leb.specs.declared.errors.Reason.TheVariants.{Truncated}
 use Rattle.dw_form.specs.declared.shape.Ctx.{Ctx}
 use Rattle.dw_form.specs.Form.{Attribute, attribute}
 use Rattle.dw_form.specs.ReadForm.{read_attribute}
@@ -12,6 +13,7 @@ use Rattle.dw_unit.specs.Draft.{Drafted}
 use Rattle.dw_feed.specs.BodyFeed.{PartialUnit}
 use Rattle.dw_feed.specs.FeedInvariant.{context, left}
 use Rattle.dw_feed.specs.ValueSteps.{behind_value, value_read}
+use Rattle.dw_feed.proofs.ToldValues.{cut_told}
 use Rattle.dw_feed.proofs.ValueRoom.{value_fits, value_spelled}
 use Rattle.dw_feed.proofs.coming.Coming.give.Goals as goal
 
@@ -48,3 +50,12 @@ returns-in-Ok-settle c =
     let read : read_attribute (context g) p.form.value p.constant c.args.bytes.now (left g) ≡ Found v c.in-Ok.size =
     ap₂ (λ (x : Ctx) (n : ℕ). read_attribute x p.form.value p.constant c.args.bytes.now n) (sym k) (sym c.requires.lim) ∙ c.in-Ok.ensures.exact in
     (behind_value g v, value_read g p c.requires.stands c.requires.next c.args.bytes.now (Found v c.in-Ok.size) read, c.in-Ok.ensures.room.0, c.in-Ok-settle.ensures)
+
+pub returns-then-is_short : goal.returns-then-is_short
+returns-then-is_short c =
+    let g : PartialUnit = c.args.self.now in
+    let p : Pair = pair_of c.args.pair.now in (
+      subst (λ (n : ℕ). read_attribute (context g) p.form.value p.constant c.args.bytes.now n ≡ Broken 0 Truncated) c.requires.lim
+          (cut_told (context g) p c.args.bytes.now c.args.lim c.args.told c.requires.told (c.is_short.ensures.0 c.if-is_short.true)),
+      refl,
+    )

@@ -1,77 +1,46 @@
-use Rattle.std.proofs.Common.{◌≡◌, ◌++◌, ◌∷◌, [], length, ℕ, sym, ap, ap₂, subst, ◌∙◌}
-use Rattle.std.proofs.lemmas.List.{nil_from_length}
-use Rattle.std.specs.Prelude.{option_map, IsSome}
+use Rattle.std.proofs.Common.{◌≡◌, ◌++◌, Some, None, sym, ap, subst, ◌∙◌}
+use Rattle.std.specs.Prelude.{IsSome}
 use Rattle.dw_leb.specs.declared.errors.Reason.{Reason}
-use Rattle.dw_leb.specs.declared.errors.Reason.TheVariants.{Truncated}
-use Rattle.dw_leb.specs.Reader.{Broken}
 use Rattle.dw_leb.specs.Decide.{broken}
-use Rattle.dw_leb.specs.View.{uleb_of}
 use Rattle.dw_form.specs.Form.{Attribute}
-use Rattle.dw_form.specs.ReadForm.{read_attribute}
 use Rattle.dw_abbrev.specs.PairView.{pair_of}
-use Rattle.dw_abbrev.specs.Table.{Pair}
-use Rattle.dw_feed.specs.declared.step.Step.TheVariants as steps
+use Rattle.dw_tree.specs.Steps.{next_pair, partial_in}
 use Rattle.dw_feed.specs.BodyFeed.{PartialUnit, part}
-use Rattle.dw_feed.specs.BodyView.{coming}
-use Rattle.dw_feed.specs.FeedInvariant.{context, left as left_of}
-use Rattle.dw_feed.specs.FieldSteps.{keeps_stands, told, told_not}
-use Rattle.dw_feed.specs.ValueSteps.{InValue, keeping, value_step, value_whole, value_refused, value_wants, value_goes_on}
+use Rattle.dw_feed.specs.FieldSteps.{HasPart, FrontsWait, StepSays, keeps_stands, told, told_not}
+use Rattle.dw_feed.specs.FeedInvariant.{Keeps}
+use Rattle.dw_feed.specs.ValueSteps.{value_whole, value_refused}
+use Rattle.dw_feed.specs.ValueCut.{IsCutHere}
 use Rattle.dw_feed.proofs.coming.Coming.own_value.Goals as goal
 
--- what is there of the value is cut off
-abbrev IsCutAt : Pair → PartialUnit → Type 0
-IsCutAt p g = read_attribute (context g) p.form.value p.constant (part g) (left_of g) ≡ Broken 0 Truncated
-
 pub returns-in-Whole : goal.returns-in-Whole
-returns-in-Whole c =
-    let i = c.loop-reason.invariant.at in
-    let g : PartialUnit = c.loop-reason.self in
-    let p : Pair = pair_of c.args.pair.now in
-    value_step c.args.self.now c.args.b.now p g c.loop-reason.rest.now i (steps.Found (length c.loop-reason.rest.now)) c.give_front.new.self
-    (value_whole g p (part g) c.loop-reason.rest.now i.waits c.in-Whole.field-0 c.give_front.new.self c.in-Whole.ensures)
+returns-in-Whole c = value_whole c.args.self.now (pair_of c.args.pair.now) (part c.args.self.now) c.args.b.now c.requires.waits c.in-Whole.field-0 c.give_front.new.self c.in-Whole.ensures
 
-pub returns-then-not-is_cut : goal.returns-then-not-is_cut
-returns-then-not-is_cut c =
-    let i = c.loop-reason.invariant.at in
-    let g : PartialUnit = c.loop-reason.self in
-    let p : Pair = pair_of c.args.pair.now in
-    value_step c.args.self.now c.args.b.now p g c.loop-reason.rest.now i (steps.Refused (length c.loop-reason.rest.now) c.in-Broken.reason) c.give_front.new.self
-    (value_refused g p (keeps_stands g i.keeps) i.next (part g) c.loop-reason.rest.now i.waits c.in-Broken.reason (told_not c.is_cut.result c.is_cut.ensures c.if-not-is_cut.true) c.in-Broken.ensures.0 c.give_front.new.self)
+pub returns-else-is_cut : goal.returns-else-is_cut
+returns-else-is_cut c =
+    value_refused c.args.self.now (pair_of c.args.pair.now) (keeps_stands c.args.self.now c.requires.stands) c.requires.next (part c.args.self.now) c.args.b.now c.requires.waits c.in-Broken.reason
+    (told_not c.is_cut.result c.is_cut.ensures c.if-is_cut.false) c.in-Broken.ensures.0 c.give_front.new.self
 
-pub returns-in-Some : goal.returns-in-Some
-returns-in-Some c =
-    let i = c.loop-reason.invariant.at in
-    let p : Pair = pair_of c.args.pair.now in
-    let h : PartialUnit = c.give_front.new.self in
-    let at = subst (λ (x : PartialUnit). InValue c.args.self.now c.args.b.now p x c.loop-reason.rest.now) (sym c.in-Broken.ensures.1) i in
-    value_step c.args.self.now c.args.b.now p h c.loop-reason.rest.now at c.open.result c.open.new.self c.open.ensures
+pub rest_of_value-requires-clause-next : goal.rest_of_value-requires-clause-next
+rest_of_value-requires-clause-next c = subst (λ (x : PartialUnit). next_pair x.table x.place.unfinished ≡ Some (pair_of c.args.pair.now)) (sym c.in-Broken.ensures.1) c.requires.next
 
-pub returns-in-None : goal.returns-in-None
-returns-in-None c =
-    let i = c.loop-reason.invariant.at in
-    let p : Pair = pair_of c.args.pair.now in
-    let h : PartialUnit = c.give_front.new.self in
-    let at = subst (λ (x : PartialUnit). InValue c.args.self.now c.args.b.now p x c.loop-reason.rest.now) (sym c.in-Broken.ensures.1) i in
-    let cut : c.in-Broken.reason ≡ Truncated = told c.is_cut.result c.is_cut.ensures c.if-not-is_cut.false in
-    let read = subst (IsCutAt p) (sym c.in-Broken.ensures.1) (c.in-Broken.ensures.0 ∙ ap (λ (r : Reason). broken Attribute 0 r) cut) in
-    value_wants c.args.self.now c.args.b.now p h c.loop-reason.rest.now at (nil_from_length c.loop-reason.rest.now c.in-None.ensures.cases) read
+pub rest_of_value-requires-clause-stands : goal.rest_of_value-requires-clause-stands
+rest_of_value-requires-clause-stands c = subst Keeps (sym c.in-Broken.ensures.1) c.requires.stands
 
-pub loop-reason-preserved : goal.loop-reason-preserved
-loop-reason-preserved c =
-    let i = c.loop-reason.invariant in
-    let p : Pair = pair_of c.args.pair.now in
-    let h : PartialUnit = c.give_front.new.self in
-    let at = subst (λ (x : PartialUnit). InValue c.args.self.now c.args.b.now p x c.loop-reason.rest.now) (sym c.in-Broken.ensures.1) i.at in
-    let cut : c.in-Broken.reason ≡ Truncated = told c.is_cut.result c.is_cut.ensures c.if-not-is_cut.false in
-    let read = subst (IsCutAt p) (sym c.in-Broken.ensures.1) (c.in-Broken.ensures.0 ∙ ap (λ (r : Reason). broken Attribute 0 r) cut) in
-    let x : ℕ = c.in-Some-split_first.byte.now in
-    let k : PartialUnit = keeping h (h.pending ++ x ∷ []) in
-    let in_it = c.self.inside in
-    let v : PartialUnit = coming in_it.draft in_it.unit_length (option_map uleb_of in_it.named) in_it.to_come in_it.pending.items in
-    let e : k ≡ keeping v c.push.new.self.items = ap₂ keeping (sym c.self.view_is) (ap (λ (y : PartialUnit). y.pending ++ x ∷ []) (sym c.self.view_is) ∙ sym c.push.ensures.items) in
-    record {
-      at = subst (λ (y : PartialUnit). InValue c.args.self.now c.args.b.now p y c.in-Some-split_first.others.now) e
-          (value_goes_on c.args.self.now c.args.b.now p h c.loop-reason.rest.now at x c.in-Some-split_first.others.now c.in-Some-split_first.ensures.cases.0 read (c.opening.ensures.more c.in_default.is x));
-      named = λ is. subst (λ (y : PartialUnit). IsSome y.named) (sym c.in-Broken.ensures.1 ∙ sym c.self.view_is) (i.named is);
-      lim_is = i.lim_is ∙ ap left_of (sym c.in-Broken.ensures.1) ∙ ap left_of e;
-    }
+pub rest_of_value-requires-clause-has : goal.rest_of_value-requires-clause-has
+rest_of_value-requires-clause-has c = subst HasPart (sym c.in-Broken.ensures.1) c.requires.has
+
+pub rest_of_value-requires-clause-waits : goal.rest_of_value-requires-clause-waits
+rest_of_value-requires-clause-waits c = subst (λ (x : PartialUnit). FrontsWait x (part x)) (sym c.in-Broken.ensures.1) c.requires.waits
+
+pub rest_of_value-requires-clause-between : goal.rest_of_value-requires-clause-between
+rest_of_value-requires-clause-between c = subst (λ (x : PartialUnit). partial_in x.place.unfinished ≡ None) (sym c.in-Broken.ensures.1) c.requires.between
+
+pub rest_of_value-requires-clause-named : goal.rest_of_value-requires-clause-named
+rest_of_value-requires-clause-named c = λ is. subst (λ (x : PartialUnit). IsSome x.named) (sym c.in-Broken.ensures.1) (c.requires.named is)
+
+pub rest_of_value-requires-clause-cut : goal.rest_of_value-requires-clause-cut
+rest_of_value-requires-clause-cut c =
+    subst (IsCutHere (pair_of c.args.pair.now)) (sym c.in-Broken.ensures.1) (c.in-Broken.ensures.0 ∙ ap (λ (r : Reason). broken Attribute 0 r) (told c.is_cut.result c.is_cut.ensures c.if-is_cut.true))
+
+pub returns-then-is_cut : goal.returns-then-is_cut
+returns-then-is_cut c = subst (λ (x : PartialUnit). StepSays x (part x ++ c.args.b.now) c.rest_of_value.result c.rest_of_value.new.self) c.in-Broken.ensures.1 c.rest_of_value.ensures

@@ -3,6 +3,3 @@ use Rattle.dw_feed.proofs.coming.Coming.step.Goals as goal
 
 pub code-requires-clause-waits : goal.code-requires-clause-waits
 code-requires-clause-waits c = waits_fronts c.args.self.now c.requires.waits
-
-pub value-requires-clause-waits : goal.value-requires-clause-waits
-value-requires-clause-waits c = waits_fronts c.args.self.now c.requires.waits

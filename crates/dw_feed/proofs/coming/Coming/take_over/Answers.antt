@@ -35,21 +35,21 @@ is_whole-requires c = behind_stands c.args.self.now c.args.piece.now c.loop-over
 pub returns-then-is_whole : goal.returns-then-is_whole
 returns-then-is_whole c = whole_says c.args.self.now c.args.piece.now c.loop-over.self c.loop-over.left.now c.loop-over.invariant.at c.loop-over.invariant.waits c.in-Found.over c.step.new.self c.in-Found.ensures (sym c.is_whole.ensures ∙ c.if-is_whole.true)
 
-pub fields_at_once-left-requires-clause-over : goal.fields_at_once-left-requires-clause-over
-fields_at_once-left-requires-clause-over c =
+pub fields_at_once-requires-clause-over : goal.fields_at_once-requires-clause-over
+fields_at_once-requires-clause-over c =
     subst (λ (t : Table). IfSome c.args.table (λ x. x.now ≡ t)) (sym (found_table c.loop-over.self (part c.loop-over.self ++ c.loop-over.left.now) c.in-Found.over c.step.new.self c.in-Found.ensures)) c.loop-over.invariant.over
 
-pub fields_at_once-left-requires-clause-stands : goal.fields_at_once-left-requires-clause-stands
-fields_at_once-left-requires-clause-stands c = (goes_at c.args.self.now c.args.piece.now c.loop-over.self c.loop-over.left.now c.loop-over.invariant.at c.loop-over.invariant.waits c.in-Found.over c.step.new.self c.in-Found.ensures (sym c.is_whole.ensures ∙ c.if-is_whole.false)).keeps
+pub fields_at_once-requires-clause-stands : goal.fields_at_once-requires-clause-stands
+fields_at_once-requires-clause-stands c = (goes_at c.args.self.now c.args.piece.now c.loop-over.self c.loop-over.left.now c.loop-over.invariant.at c.loop-over.invariant.waits c.in-Found.over c.step.new.self c.in-Found.ensures (sym c.is_whole.ensures ∙ c.if-is_whole.false)).keeps
 
-pub fields_at_once-left-requires-clause-has : goal.fields_at_once-left-requires-clause-has
-fields_at_once-left-requires-clause-has c = goes_has c.args.self.now c.args.piece.now c.loop-over.self c.loop-over.left.now c.loop-over.invariant.at c.loop-over.invariant.waits c.in-Found.over c.step.new.self c.in-Found.ensures
+pub fields_at_once-requires-clause-has : goal.fields_at_once-requires-clause-has
+fields_at_once-requires-clause-has c = goes_has c.args.self.now c.args.piece.now c.loop-over.self c.loop-over.left.now c.loop-over.invariant.at c.loop-over.invariant.waits c.in-Found.over c.step.new.self c.in-Found.ensures
 
-pub fields_at_once-left-requires-clause-none_kept : goal.fields_at_once-left-requires-clause-none_kept
-fields_at_once-left-requires-clause-none_kept c = found_none_kept c.loop-over.self (part c.loop-over.self ++ c.loop-over.left.now) c.in-Found.over c.step.new.self c.in-Found.ensures
+pub fields_at_once-requires-clause-none_kept : goal.fields_at_once-requires-clause-none_kept
+fields_at_once-requires-clause-none_kept c = found_none_kept c.loop-over.self (part c.loop-over.self ++ c.loop-over.left.now) c.in-Found.over c.step.new.self c.in-Found.ensures
 
-pub fields_at_once-left-requires-clause-between : goal.fields_at_once-left-requires-clause-between
-fields_at_once-left-requires-clause-between c = none_partial c.args.self.now c.args.piece.now c.loop-over.self c.loop-over.left.now c.loop-over.invariant.at c.loop-over.invariant.waits c.in-Found.over c.step.new.self c.in-Found.ensures
+pub fields_at_once-requires-clause-between : goal.fields_at_once-requires-clause-between
+fields_at_once-requires-clause-between c = none_partial c.args.self.now c.args.piece.now c.loop-over.self c.loop-over.left.now c.loop-over.invariant.at c.loop-over.invariant.waits c.in-Found.over c.step.new.self c.in-Found.ensures
 
 pub loop-over-smaller : goal.loop-over-smaller
 loop-over-smaller c =
@@ -57,12 +57,12 @@ loop-over-smaller c =
     let w = over_within c.args.self.now c.args.piece.now c.loop-over.self c.loop-over.left.now c.loop-over.invariant.at c.loop-over.invariant.waits c.in-Found.over c.step.new.self c.in-Found.ensures in
     let n : c.in-Found.over ≡ length c.last-left.result.now = omega (arith, w, ap length c.last-left.ensures, length-drop (length c.loop-over.left.now - c.in-Found.over) c.loop-over.left.now) in
     let less : turns c.step.new.self (length c.last-left.result.now) < turns c.loop-over.self (length c.loop-over.left.now) = subst (λ (m : ℕ). turns c.step.new.self m < turns c.loop-over.self (length c.loop-over.left.now)) n l in
-    let more = c.fields_at_once-left.ensures.fewer in
-    turns_less c.fields_at_once-left.new.self c.step.new.self c.loop-over.self c.fields_at_once-left.result.now c.last-left.result.now c.loop-over.left.now more less
+    let more = c.in-Ok.ensures.fewer in
+    turns_less c.fields_at_once.new.self c.step.new.self c.loop-over.self c.in-Ok.rest.now c.last-left.result.now c.loop-over.left.now more less
 
 pub loop-over-preserved : goal.loop-over-preserved
 loop-over-preserved c =
-    let on = c.fields_at_once-left.ensures in
+    let on = c.in-Ok.ensures in
     record {
       at = on.at c.args.self.now c.args.piece.now (subst (λ (bs : List ℕ). At c.args.self.now c.args.piece.now c.step.new.self (part c.step.new.self ++ bs)) (sym c.last-left.ensures)
           (goes_at c.args.self.now c.args.piece.now c.loop-over.self c.loop-over.left.now c.loop-over.invariant.at c.loop-over.invariant.waits c.in-Found.over c.step.new.self c.in-Found.ensures (sym c.is_whole.ensures ∙ c.if-is_whole.false)));

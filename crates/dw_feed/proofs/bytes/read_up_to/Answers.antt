@@ -1,7 +1,7 @@
 use Rattle.std.proofs.Common.{◌++◌, take, arith, length-append, length-take}
 use Rattle.std.proofs.lemmas.Result.{err_from_is_err_and}
 use Rattle.dw_leb.specs.Transfers.{consumes_more}
-use Rattle.dw_feed.proofs.bytes.read_through.Goals as goal
+use Rattle.dw_feed.proofs.bytes.read_up_to.Goals as goal
 
 pub returns-in_err-extend_from_slice-clause-bytes : goal.returns-in_err-extend_from_slice-clause-bytes
 returns-in_err-extend_from_slice-clause-bytes g c =
