@@ -1,5 +1,6 @@
 pub mod Answering
 pub mod Appending
+pub mod Befores
 pub mod Chains
 pub mod Gathered
 pub mod InOrder

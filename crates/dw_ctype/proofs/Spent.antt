@@ -75,16 +75,3 @@ module _ (one : EntryAt → ℕ) (e : EntryAt) (es all : List EntryAt) (steps : 
 
   pub parameter_passed : tag e ≢ 5 → parameter_visits one all ≡ parameter_visits one es
   parameter_passed h = ap (parameter_visits one) steps ∙ rw (ne_eqb (tag e) 5 h) refl
-
--- ---- at most so many steps
-
--- of an entry that a type is: one, and those of what it names
-pub entry_visits_next : (items : List Item) (depth : ℕ) (t : Typed) (id : EntryId) (e : EntryAt) → 0 < depth → t ≡ Entry id → entry items id ≡ Some e
-    → visits items depth t ≡ 1 + kind_visits (visits items (depth - 1)) items id.item e (kind_of e)
-entry_visits_next items depth t id e deep is there =
-    let one = visits items (depth - 1) in
-    visits_next items depth t deep ∙ ap (λ (k : ℕ). 1 + k) (ap (type_visits one items) is ∙ ap (entry_visits one items id.item) there)
-
--- one step is taken, and then those of what the entry names
-pub steps_taken : (n more left rest : ℕ) (r : Option ℕ) → n ≡ 1 + more → left ≡ 1 + rest → IfSome r (λ last. more + last ≤ rest) → IfSome r (λ last. n + last ≤ left)
-steps_taken n more left rest r is sum h = IfSome_then r h (λ last le. omega (arith, is, sum, le))

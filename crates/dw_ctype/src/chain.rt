@@ -1,5 +1,6 @@
 //! Texts of types that are chains: marks and qualifiers one behind the other, and then a word. Nothing stands behind
-//! their declarators. So each entry is looked up once, on the way to the word, and nothing is kept or counted.
+//! their declarators. So each entry is looked up once, on the way to the word (a pointer behind a qualifier twice: first for
+//! the place of the qualifier's word), and nothing is kept or counted.
 ghost use Rattle.std.specs.Prelude.{◌≡◌, ◌++◌, ◌<◌, IfOk, IsSome, Some, codes, false};
 ghost use Rattle.dw_section.specs.Lookup.{entry, unit_at};
 ghost use Rattle.dw_ctype.specs.declared.typed.Typed.TheVariants.{Entry};
@@ -209,7 +210,7 @@ fn word_and_last<'a>(
 }
 
 /// Appends what the text of an entry of this item that goes on to no type has before its declarator.
-fn last_word<'a>(
+pub(crate) fn last_word<'a>(
     section: &'a Section,
     strings: &Strings<'a>,
     item: usize,

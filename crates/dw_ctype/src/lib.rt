@@ -10,7 +10,6 @@ mod kind;
 mod left;
 mod parts;
 mod right;
-mod steps;
 mod text;
 mod typed;
 mod visits;

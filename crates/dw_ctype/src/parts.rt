@@ -1,8 +1,8 @@
-//! What texts need of the types that they go on to, looked up once for each. Without it each visit of a function or an
-//! array would look at all of its children again.
-ghost use Rattle.std.specs.Prelude.{◌≡◌, ◌++◌, IfOk, IfSome, IsSome, OnOk};
+//! What texts need of functions and arrays with many children, looked up once for each. Without it each visit of one would
+//! look at all of its children again.
+ghost use Rattle.std.specs.Prelude.{◌≡◌, ◌++◌, ◌<◌, length, nat_le, IfOk, IfSome, IsSome, OnOk, Some};
 ghost use Rattle.dw_tree.specs.Lent.{children_of};
-ghost use Rattle.dw_section.specs.Lookup.{entry, unit_at};
+ghost use Rattle.dw_section.specs.Lookup.{entry as entry_there, unit_at};
 ghost use Rattle.dw_ctype.specs.Parts.{ArePartsOf, is_shown, parameter_types, shown_of, types_of};
 
 use crate::kind::Kind;
@@ -15,6 +15,10 @@ use dw_unit::EntryRef;
 use indexmap::IndexMap;
 use std::alloc::{AllocError, Global};
 use std::marker::Model;
+use std::rc::Rc;
+
+/// The most children that are looked at again at each visit: to keep what is needed of so few is dearer.
+const FEW_CHILDREN: u8 = 8;
 
 /// What the text of an entry needs.
 #[derive(Drop)]
@@ -28,8 +32,9 @@ pub(crate) struct Parts<'a> {
 /// The parts of entries of a section.
 #[derive(Drop)]
 pub(crate) struct Kept<'a> {
+    alloc: Global,
     section: &'a Section,
-    parts: IndexMap<EntryId, Parts<'a>>,
+    parts: IndexMap<EntryId, Rc<Parts<'a>>>,
 }
 
 impl<'a> Model for Kept<'a> {
@@ -45,7 +50,7 @@ impl<'a> Model for Kept<'a> {
 
     ghost view = { λ k. k.section.now };
 
-    ghost invariant = { λ k. AllByRecursion (λ e. ArePartsOf k.section.now.items e.0.item (entry k.section.now.items e.0) e.1) k.parts.entries };
+    ghost invariant = { λ k. AllByRecursion (λ e. ArePartsOf k.section.now.items e.0.item (entry k.section.now.items e.0) e.1.value) k.parts.entries };
 }
 
 impl<'a> Kept<'a> {
@@ -54,78 +59,68 @@ impl<'a> Kept<'a> {
         ensures { result ≡ section.now }
     {
         Kept {
+            alloc,
             section,
             parts: IndexMap::new(alloc),
         }
     }
 
-    /// The parts of the entries that the text of a type goes on to, down to so many levels, each looked up once. Where a
-    /// growth is refused it ends, and the others are not kept.
-    pub(crate) fn gather(alloc: Global, section: &'a Section, typed: Typed, levels: u8) -> Kept<'a>
-        ensures { result ≡ section.now }
-    {
-        let mut kept = Kept::nothing(alloc, section);
-        let _ = kept.keep_levels(alloc, typed, levels);
-        kept
-    }
-
     /// The parts of an entry, if they are kept.
     pub(crate) fn parts(&self, id: EntryId) -> Option<&Parts<'a>>
-        ensures { IfSome result (λ p. ArePartsOf self.now.items id.item (entry self.now.items id) p.now) }
+        ensures { IfSome result (λ p. ArePartsOf self.now.items id.item (entry_there self.now.items id) p.now) }
     {
         if self.parts.is_empty() {
             return None;
         }
-        self.parts.get(&id)
+        match self.parts.get(&id) {
+            Some(parts) => Some(parts),
+            None => None,
+        }
     }
 
-    /// Keeps the parts of a type, of the types that it goes on to, and so on.
-    fn keep_levels(&mut self, alloc: Global, typed: Typed, levels: u8) -> Result<(), AllocError>
-        ensures { self.new ≡ self.old }
+    /// The parts of an entry that has many children, which are kept from then on. None where it has few, and where the
+    /// memory for its parts is refused: they aren't kept then.
+    pub(crate) fn keep(&mut self, id: EntryId, entry: &EntryRef<'a>) -> Option<Rc<Parts<'a>>>
+        requires { entry_there self.old.items id ≡ Some entry.now }
+        ensures section { self.new ≡ self.old }
+        ensures parts { IfSome result (λ p. ArePartsOf self.old.items id.item (entry_there self.old.items id) p.value) }
     {
-        let mut targets = Vec::new(alloc);
-        targets.push(typed)?;
-        for _ in 0..levels {
-            targets = self.keep_level(alloc, &targets)?;
+        if !has_many(entry) {
+            return None;
         }
-        Ok(())
+        self.shared(id, entry).ok()
     }
 
-    /// Keeps the parts of types. Answers the types that they go on to.
-    fn keep_level(&mut self, alloc: Global, targets: &[Typed]) -> Result<Vec<Typed>, AllocError>
-        ensures { self.new ≡ self.old }
+    /// The parts of an entry, which are kept from then on.
+    fn shared(&mut self, id: EntryId, entry: &EntryRef<'a>) -> Result<Rc<Parts<'a>>, AllocError>
+        requires { entry_there self.old.items id ≡ Some entry.now }
+        ensures section { self.new ≡ self.old }
+        ensures parts { IfOk result (λ p. ArePartsOf self.old.items id.item (entry_there self.old.items id) p.value) }
     {
-        let mut next = Vec::new(alloc);
-        for typed in targets {
-            self.keep(alloc, *typed, &mut next)?;
+        if let Some(parts) = self.parts.get(&id) {
+            return Ok(parts.clone()?);
         }
-        Ok(next)
+        let types = types_of(self.alloc, self.section, id.item, entry)?;
+        let shown = shown_of(self.alloc, entry)?;
+        let parts = Rc::new(self.alloc, Parts { types, shown })?;
+        let shared = parts.clone()?;
+        self.parts.insert(id, parts)?;
+        Ok(shared)
     }
+}
 
-    /// Keeps the parts of a type, unless they are kept already or it goes on to no types, and appends the types that
-    /// it goes on to.
-    fn keep(&mut self, alloc: Global, typed: Typed, next: &mut Vec<Typed>) -> Result<(), AllocError>
-        ensures { self.new ≡ self.old }
-    {
-        let Typed::Entry(id) = typed else {
-            return Ok(());
-        };
-        if self.parts.contains_key(&id) {
-            return Ok(());
+/// Whether an entry has more children than are looked at again at each visit.
+fn has_many(entry: &EntryRef<'_>) -> bool
+    ensures { result ≡ nat_le 9 (length (children_of entry.now)) }
+{
+    let mut left = FEW_CHILDREN;
+    for _child in entry.children() {
+        if left == 0 {
+            return true;
         }
-        let section = self.section;
-        let Some(entry) = section.entry(id) else {
-            return Ok(());
-        };
-        let types = types_of(alloc, section, id.item, &entry)?;
-        if types.is_empty() {
-            return Ok(());
-        }
-        let shown = shown_of(alloc, &entry)?;
-        next.extend_from_slice(&types)?;
-        self.parts.insert(id, Parts { types, shown })?;
-        Ok(())
+        left -= 1;
     }
+    false
 }
 
 /// The types whose texts the text of an entry of this item counts.

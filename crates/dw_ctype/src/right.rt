@@ -9,7 +9,6 @@ ghost use Rattle.dw_ctype.specs.Types as definition;
 ghost use Rattle.dw_ctype.specs.View.{source_of};
 
 use crate::append::{push, push_if};
-use crate::chain::say_chain;
 use crate::dimension::push_dimensions;
 use crate::kind::Kind;
 use crate::left::left;
@@ -23,7 +22,8 @@ use dw_strings::Strings;
 use dw_unit::EntryRef;
 use std::alloc::AllocError;
 
-/// Appends the text of a type and a declarator, down to `depth` levels.
+/// Appends the text of a type and a declarator, down to `depth` levels. Most types are chains, behind whose declarators
+/// nothing stands: so they aren't walked once more for it.
 #[cycle(say)]
 pub(crate) fn say<'a>(
     section: &'a Section,
@@ -37,10 +37,14 @@ pub(crate) fn say<'a>(
     requires { kept.now ≡ section.now }
     ensures { Puts out.old out.new (definition.say (source_of section.now strings.now) depth typed declarator.now) result }
 {
-    if left(section, strings, typed, depth, declarator.is_empty(), out)? {
+    let before = left(section, strings, typed, depth, declarator.is_empty(), out)?;
+    if before.cut {
         return Ok(());
     }
     push(declarator, out)?;
+    if before.chain {
+        return Ok(());
+    }
     right(section, strings, kept, typed, depth, out)
 }
 
@@ -239,7 +243,7 @@ fn push_parameter<'a>(
         DW_TAG_FORMAL_PARAMETER => {
             push_if(some, b", ", out)?;
             let typed = type_of(section, item, child);
-            say_alone(section, strings, kept, typed, depth, out)?;
+            say(section, strings, kept, typed, depth, b"", out)?;
             Ok(true)
         }
         DW_TAG_UNSPECIFIED_PARAMETERS => {
@@ -249,29 +253,6 @@ fn push_parameter<'a>(
         }
         _ => Ok(some),
     }
-}
-
-/// Appends the text of a type and no declarator. That of a parameter most often is a chain too.
-#[cycle(say)]
-#[inline(always)]
-fn say_alone<'a>(
-    section: &'a Section,
-    strings: &Strings<'a>,
-    kept: &Kept<'a>,
-    typed: Typed,
-    depth: u8,
-    out: &mut Vec<u8>,
-) -> Result<(), AllocError>
-    requires { kept.now ≡ section.now }
-    ensures { Puts out.old out.new (definition.say (source_of section.now strings.now) depth typed []) result }
-{
-    if depth == 0 {
-        return say(section, strings, kept, typed, depth, b"", out);
-    }
-    if say_chain(section, strings, typed, depth, b"", out)? {
-        return say(section, strings, kept, typed, depth, b"", out);
-    }
-    Ok(())
 }
 
 /// Appends what stands for no parameters of a function that is prototyped or not, unless there are some.

@@ -14,7 +14,6 @@ use crate::ended::ended;
 use crate::fault::TypeError;
 use crate::parts::Kept;
 use crate::right::say;
-use crate::steps::steps;
 use crate::typed::{Typed, type_of};
 use crate::visits::count;
 use dw_leb::constants::tag::{DW_TAG_FORMAL_PARAMETER, DW_TAG_MEMBER, DW_TAG_VARIABLE};
@@ -29,18 +28,15 @@ const MOST_LEVELS: u8 = 64;
 /// The most visits of types that a text may need.
 const MOST_VISITS: u16 = 1024;
 
-/// The most steps of a text for which nothing is kept. So few that where there are more, those that were counted in
-/// vain cost little.
-const FEW_STEPS: u8 = 32;
-
 /// Appends the text of a type with a name, as a declaration would be written in C: of the type of a variable,
 /// a formal parameter or a member, and else of the entry itself. `strings` are the texts that names are in.
 /// The vector grows by its own allocator. `alloc` keeps what is needed of the children of functions and arrays while
 /// the text is made, so that each visit needn't look for it; where it has no memory the answer is the same.
 ///
 /// Errors: `NoEntry` exactly where no entry begins at the id; `TypeTooBig` exactly where there is one, and its
-/// text needs more than 1,024 visits of types; `NoMemory` only where there is a text, and the vector has no room
-/// for it and isn't given more. After an error the vector has the bytes that it had.
+/// text needs more than 1,024 visits of types (it is refused before anything is appended); `NoMemory` only
+/// where there is a text, and the vector has no room for it and isn't given more. After an error the vector
+/// has the bytes that it had.
 pub fn type_text<'a>(
     alloc: Global,
     section: &'a Section,
@@ -60,77 +56,24 @@ pub fn type_text<'a>(
         return Err(TypeError::NoEntry);
     };
     let typed = subject(section, id, &entry);
-    typed_text(alloc, section, strings, typed, name, out)
-}
-
-/// The same for the text of a type, which most often is a chain.
-fn typed_text<'a>(
-    alloc: Global,
-    section: &'a Section,
-    strings: &Strings<'a>,
-    typed: Typed,
-    name: &[u8],
-    out: &mut Vec<u8>,
-) -> Result<(), TypeError>
-    ensures appended { OnOk result ((text : List ℕ) ×
-        ((answer_typed (source_of section.now strings.now) typed name.now ≡ Ok text) × (out.new.items ≡ out.old.items ++ text))) }
-    ensures refused { IfErr result (IsRefusal
-        (answer_typed (source_of section.now strings.now) typed name.now)
-        (vec_capacity out.old - vec_len out.old)) }
-    ensures unchanged { OnErr result (out.new.items ≡ out.old.items) }
-{
     let start = out.len();
     match say_chain(section, strings, typed, MOST_LEVELS, name, out) {
-        Ok(false) => Ok(()),
-        Ok(true) => any_text(alloc, section, strings, typed, name, out),
+        Ok(false) => return Ok(()),
+        Ok(true) => {}
         Err(_) => {
             out.truncate(start);
-            Err(TypeError::NoMemory)
+            return Err(TypeError::NoMemory);
         }
     }
-}
-
-/// The same for any type.
-fn any_text<'a>(
-    alloc: Global,
-    section: &'a Section,
-    strings: &Strings<'a>,
-    typed: Typed,
-    name: &[u8],
-    out: &mut Vec<u8>,
-) -> Result<(), TypeError>
-    ensures appended { OnOk result ((text : List ℕ) ×
-        ((answer_typed (source_of section.now strings.now) typed name.now ≡ Ok text) × (out.new.items ≡ out.old.items ++ text))) }
-    ensures refused { IfErr result (IsRefusal
-        (answer_typed (source_of section.now strings.now) typed name.now)
-        (vec_capacity out.old - vec_len out.old)) }
-    ensures unchanged { OnErr result (out.new.items ≡ out.old.items) }
-{
-    let Some(kept) = kept_for(alloc, section, typed) else {
+    let mut kept = Kept::nothing(alloc, section);
+    if count(section, &mut kept, typed, MOST_LEVELS, MOST_VISITS).is_none() {
         return Err(TypeError::TypeTooBig);
-    };
-    let before = out.len();
+    }
     if append(section, strings, &kept, typed, name, out).is_err() {
-        out.truncate(before);
+        out.truncate(start);
         return Err(TypeError::NoMemory);
     }
     Ok(())
-}
-
-/// What is kept for the text of a type. None where it needs too many visits. Most texts take few steps, and then it is
-/// dearer to keep anything than to look at the children again.
-fn kept_for<'a>(alloc: Global, section: &'a Section, typed: Typed) -> Option<Kept<'a>>
-    ensures same { IfSome result (λ kept. kept ≡ section.now) }
-    ensures counted { is_some result ≡ nat_le (visits section.now.items 64 typed) 1024 }
-{
-    if steps(section, typed, MOST_LEVELS, FEW_STEPS).is_some() {
-        return Some(Kept::nothing(alloc, section));
-    }
-    let kept = Kept::gather(alloc, section, typed, MOST_LEVELS);
-    if count(section, &kept, typed, MOST_LEVELS, MOST_VISITS).is_none() {
-        return None;
-    }
-    Some(kept)
 }
 
 /// Appends the text of a type with a name. Names are looked up in the sections up to their last zero bytes: a name

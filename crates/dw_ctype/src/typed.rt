@@ -88,6 +88,17 @@ pub(crate) fn under(section: &Section, item: usize, entry: &EntryRef<'_>, steps:
     under(section, id.item, &target, steps - 1)
 }
 
+/// The same for a type.
+pub(crate) fn under_typed(section: &Section, typed: Typed, steps: u8) -> Option<Kind>
+    ensures { result ≡ definition.under_type (definition.under section.now.items steps) section.now.items typed }
+{
+    let Typed::Entry(id) = typed else {
+        return None;
+    };
+    let target = section.entry(id)?;
+    under(section, id.item, &target, steps)
+}
+
 /// Whether the declarator of a type stands in brackets behind a mark: it is an array or a function, behind its
 /// qualifiers.
 pub(crate) fn is_bracketed(section: &Section, typed: Typed) -> bool

@@ -2,6 +2,7 @@
 ghost use Rattle.std.specs.Prelude.{◌≡◌, IsSome, Some};
 ghost use Rattle.dw_tree.specs.Lent.{children_of};
 ghost use Rattle.dw_section.specs.Lookup.{entry as entry_there, unit_at};
+ghost use Rattle.dw_ctype.specs.declared.kind.Kind.TheVariants.{Function};
 ghost use Rattle.dw_ctype.specs.Parts.{visits_of};
 ghost use Rattle.dw_ctype.specs.Types.{kind_of as kind_there, type_of as type_there};
 ghost use Rattle.dw_ctype.specs.Visits.{less, visits, type_visits, kind_visits, parameter_visits};
@@ -14,17 +15,18 @@ use dw_section::{EntryId, Section};
 use dw_unit::EntryRef;
 
 /// What is left of `left` visits behind those of the text of a type, down to `depth` levels. None where there
-/// are more: it stops at the first one too many.
+/// are more: it stops at the first one too many. On the way the parts of what has many children are kept.
 #[cycle(visits)]
-pub(crate) fn count(
-    section: &Section,
-    kept: &Kept<'_>,
+pub(crate) fn count<'a>(
+    section: &'a Section,
+    kept: &mut Kept<'a>,
     typed: Typed,
     depth: u8,
     left: u16,
 ) -> Option<u16>
-    requires { kept.now ≡ section.now }
-    ensures { result ≡ less (visits section.now.items depth typed) left }
+    requires { kept.old ≡ section.now }
+    ensures count { result ≡ less (visits section.now.items depth typed) left }
+    ensures kept { kept.new ≡ kept.old }
 {
     let rest = left.checked_sub(1)?;
     if depth == 0 {
@@ -35,9 +37,16 @@ pub(crate) fn count(
 
 /// The same for what a type names, whose texts are one level deeper.
 #[cycle(visits)]
-fn count_type(section: &Section, kept: &Kept<'_>, typed: Typed, depth: u8, left: u16) -> Option<u16>
-    requires { kept.now ≡ section.now }
-    ensures { result ≡ less (type_visits (visits section.now.items depth) section.now.items typed) left }
+fn count_type<'a>(
+    section: &'a Section,
+    kept: &mut Kept<'a>,
+    typed: Typed,
+    depth: u8,
+    left: u16,
+) -> Option<u16>
+    requires { kept.old ≡ section.now }
+    ensures count { result ≡ less (type_visits (visits section.now.items depth) section.now.items typed) left }
+    ensures kept { kept.new ≡ kept.old }
 {
     let Typed::Entry(id) = typed else {
         return Some(left);
@@ -48,37 +57,74 @@ fn count_type(section: &Section, kept: &Kept<'_>, typed: Typed, depth: u8, left:
     }
 }
 
-/// The same for what an entry names, by its parts where they are kept.
+/// The same for what an entry names.
 #[cycle(visits)]
-fn count_entry(
-    section: &Section,
-    kept: &Kept<'_>,
+fn count_entry<'a>(
+    section: &'a Section,
+    kept: &mut Kept<'a>,
     id: EntryId,
-    entry: &EntryRef<'_>,
+    entry: &EntryRef<'a>,
     depth: u8,
     left: u16,
 ) -> Option<u16>
-    requires kept { kept.now ≡ section.now }
+    requires kept { kept.old ≡ section.now }
     requires there { entry_there section.now.items id ≡ Some entry.now }
-    ensures { result ≡ less (kind_visits (visits section.now.items depth) section.now.items id.item entry.now (kind_there entry.now)) left }
+    ensures count { result ≡ less (kind_visits (visits section.now.items depth) section.now.items id.item entry.now (kind_there entry.now)) left }
+    ensures kept { kept.new ≡ kept.old }
 {
-    match kept.parts(id) {
+    match kind_of(entry) {
+        Kind::Named | Kind::Tagged(_) | Kind::Other => Some(left),
+        Kind::Marked(_) | Kind::Qualified(_) => {
+            let typed = type_of(section, id.item, entry);
+            count(section, kept, typed, depth, left)
+        }
+        Kind::Array => {
+            let _parts = kept.keep(id, entry);
+            let typed = type_of(section, id.item, entry);
+            count(section, kept, typed, depth, left)
+        }
+        Kind::Function => count_function(section, kept, id, entry, depth, left),
+    }
+}
+
+/// The same for a function, by its parts where it has many children.
+#[cycle(visits)]
+fn count_function<'a>(
+    section: &'a Section,
+    kept: &mut Kept<'a>,
+    id: EntryId,
+    function: &EntryRef<'a>,
+    depth: u8,
+    left: u16,
+) -> Option<u16>
+    requires kept { kept.old ≡ section.now }
+    requires there { entry_there section.now.items id ≡ Some function.now }
+    requires kind { kind_there function.now ≡ Function }
+    ensures count { result ≡ less (kind_visits (visits section.now.items depth) section.now.items id.item function.now (kind_there function.now)) left }
+    ensures kept { kept.new ≡ kept.old }
+{
+    match kept.keep(id, function) {
         Some(parts) => count_each(section, kept, &parts.types, depth, left),
-        None => count_kind(section, kept, id.item, entry, depth, left),
+        None => {
+            let typed = type_of(section, id.item, function);
+            let rest = count(section, kept, typed, depth, left)?;
+            count_parameters(section, kept, id.item, function, depth, rest)
+        }
     }
 }
 
 /// The same for all of these types.
 #[cycle(visits)]
-fn count_each(
-    section: &Section,
-    kept: &Kept<'_>,
+fn count_each<'a>(
+    section: &'a Section,
+    kept: &mut Kept<'a>,
     types: &[Typed],
     depth: u8,
     left: u16,
 ) -> Option<u16>
-    requires { kept.now ≡ section.now }
-    ensures { result ≡ less (visits_of (visits section.now.items depth) types.now) left }
+    requires { kept.old ≡ section.now }
+    ensures count { result ≡ less (visits_of (visits section.now.items depth) types.now) left }
+    ensures kept { kept.new ≡ kept.old }
 {
     let mut rest = left;
     for typed in types {
@@ -87,50 +133,26 @@ fn count_each(
     Some(rest)
 }
 
-/// The same for what an entry of this item names, by its children.
-#[cycle(visits)]
-fn count_kind(
-    section: &Section,
-    kept: &Kept<'_>,
-    item: usize,
-    entry: &EntryRef<'_>,
-    depth: u8,
-    left: u16,
-) -> Option<u16>
-    requires kept { kept.now ≡ section.now }
-    requires known { IsSome (unit_at section.now.items item) }
-    ensures { result ≡ less (kind_visits (visits section.now.items depth) section.now.items item entry.now (kind_there entry.now)) left }
-{
-    match kind_of(entry) {
-        Kind::Named | Kind::Tagged(_) | Kind::Other => Some(left),
-        Kind::Marked(_) | Kind::Qualified(_) | Kind::Array => {
-            count(section, kept, type_of(section, item, entry), depth, left)
-        }
-        Kind::Function => {
-            let rest = count(section, kept, type_of(section, item, entry), depth, left)?;
-            count_parameters(section, kept, item, entry, depth, rest)
-        }
-    }
-}
-
 /// The same for the types of all parameters of a function, an entry of this item.
 #[cycle(visits)]
-fn count_parameters(
-    section: &Section,
-    kept: &Kept<'_>,
+fn count_parameters<'a>(
+    section: &'a Section,
+    kept: &mut Kept<'a>,
     item: usize,
-    function: &EntryRef<'_>,
+    function: &EntryRef<'a>,
     depth: u8,
     left: u16,
 ) -> Option<u16>
-    requires kept { kept.now ≡ section.now }
+    requires kept { kept.old ≡ section.now }
     requires known { IsSome (unit_at section.now.items item) }
-    ensures { result ≡ less (parameter_visits (λ p. visits section.now.items depth (type_there section.now.items item p)) (children_of function.now)) left }
+    ensures count { result ≡ less (parameter_visits (λ p. visits section.now.items depth (type_there section.now.items item p)) (children_of function.now)) left }
+    ensures kept { kept.new ≡ kept.old }
 {
     let mut rest = left;
     for child in function.children() {
         if child.tag() == DW_TAG_FORMAL_PARAMETER {
-            rest = count(section, kept, type_of(section, item, &child), depth, rest)?;
+            let typed = type_of(section, item, &child);
+            rest = count(section, kept, typed, depth, rest)?;
         }
     }
     Some(rest)

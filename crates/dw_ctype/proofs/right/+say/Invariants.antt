@@ -7,31 +7,28 @@ use Rattle.dw_ctype.proofs.Appending.{Reaches}
 use Rattle.dw_ctype.proofs.right.+say.Given as goal
 
 abbrev pub decreases-right : goal.decreases-right
-decreases-right l = 8 * l.depth
+decreases-right l = 7 * l.depth
 
 abbrev pub decreases-say : goal.decreases-say
-decreases-say l = 8 * l.depth + 1
-
-abbrev pub decreases-say_alone : goal.decreases-say_alone
-decreases-say_alone l = 8 * l.depth + 2
+decreases-say l = 7 * l.depth + 1
 
 abbrev pub decreases-push_parameter : goal.decreases-push_parameter
-decreases-push_parameter l = 8 * l.depth + 3
+decreases-push_parameter l = 7 * l.depth + 2
 
 abbrev pub decreases-push_parameters_of : goal.decreases-push_parameters_of
-decreases-push_parameters_of l = 8 * l.depth + 4
+decreases-push_parameters_of l = 7 * l.depth + 3
 
 abbrev pub decreases-push_parameters_among : goal.decreases-push_parameters_among
-decreases-push_parameters_among l = 8 * l.depth + 4
+decreases-push_parameters_among l = 7 * l.depth + 3
 
 abbrev pub decreases-push_each_parameter : goal.decreases-push_each_parameter
-decreases-push_each_parameter l = 8 * l.depth + 5
+decreases-push_each_parameter l = 7 * l.depth + 4
 
 abbrev pub decreases-push_parameters : goal.decreases-push_parameters
-decreases-push_parameters l = 8 * l.depth + 6
+decreases-push_parameters l = 7 * l.depth + 5
 
 abbrev pub decreases-right_of_entry : goal.decreases-right_of_entry
-decreases-right_of_entry l = 8 * l.depth + 7
+decreases-right_of_entry l = 7 * l.depth + 6
 
 -- what the entries that are left add is still to come
 abbrev pub invariant-push_parameters_of-loop-entry : goal.invariant-push_parameters_of-loop-entry

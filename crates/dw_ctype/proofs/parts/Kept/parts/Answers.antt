@@ -1,14 +1,15 @@
+use Rattle.std.proofs.Common.{sym, subst}
 use Rattle.dw_section.specs.Lookup.{entry}
 use Rattle.dw_section.specs.declared.id.EntryId.{EntryId}
 use Rattle.dw_ctype.specs.declared.parts.Parts.{Parts}
 use Rattle.dw_ctype.specs.Parts.{ArePartsOf}
-use Rattle.dw_ctype.proofs.Gathered.{each_copied, kept_at, same_id}
+use Rattle.dw_ctype.proofs.Gathered.{kept_at, same_id}
 use Rattle.dw_ctype.proofs.parts.Kept.parts.Goals as goal
 
-pub returns : goal.returns
-returns c =
+pub returns-in-Some : goal.returns-in-Some
+returns-in-Some c =
     let items = c.self.inside.section.now.items in
     let id : EntryId = c.args.id in
-    rw (← c.self.view_is)
-    (each_copied (λ (p : Parts). ArePartsOf items id.item (entry items id) p) _ c.get.result c.get.ensures.value
-    (λ p found. kept_at (λ (k : EntryId) (p : Parts). ArePartsOf items k.item (entry items k) p) c.self.inside.parts.entries id _ p (λ other is. same_id id other is) c.self.invariant found))
+    let are : ArePartsOf items id.item (entry items id) c.in-Some.parts.now.value =
+    kept_at (λ (k : EntryId) (p : _). ArePartsOf items k.item (entry items k) p.value) c.self.inside.parts.entries id _ c.in-Some.parts.now (λ other is. same_id id other is) c.self.invariant (sym c.in-Some.ensures.value) in
+    rw (← c.self.view_is) (subst (λ (p : Parts). ArePartsOf items id.item (entry items id) p) (sym c.deref.ensures) are)
