@@ -5,3 +5,4 @@ pub mod Items
 pub mod Kept
 pub mod LastZero
 pub mod Marking
+pub mod Stored

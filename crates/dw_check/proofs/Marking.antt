@@ -16,7 +16,7 @@ use Rattle.dw_tree.specs.Lent.{LentAttribute, EntryAt, lent_attribute, lent_attr
 use Rattle.dw_check.specs.Findings.{is_named_among}
 use Rattle.dw_section.specs.Reference.{ref_forms}
 use Rattle.dw_strings.specs.Text.{stored_forms}
-use Rattle.dw_check.specs.Marks.{marks_behind, is_looked_at, AreMarksFor, IsPlain, AreMarked, MarksItsEntries}
+use Rattle.dw_check.specs.Marks.{marks_behind, is_looked_at, refers_within, AreMarksFor, IsPlain, AreMarked, MarksItsEntries}
 
 -- the pairs that are left, behind others whose names are kept
 pub record MarkedSoFar (has : ℕ → Bool) (marks : List Bool) (left all : List Pair) : Type 0 where
@@ -24,7 +24,7 @@ pub record MarkedSoFar (has : ℕ → Bool) (marks : List Bool) (left all : List
   pub names : (q : ℕ) → has q ≡ list_any (eqb q) before
   pub marked : marks ++ marks_behind before left ≡ marks_behind [] all
 
-eqb_sym : (a b : ℕ) → eqb a b ≡ eqb b a
+pub eqb_sym : (a b : ℕ) → eqb a b ≡ eqb b a
 eqb_sym a b = by (cases_eq a b)
   where
     by : (a ≡ b) ⊎ (a ≡ b → ⊥) → eqb a b ≡ eqb b a
@@ -143,3 +143,9 @@ marked_entry t e code table fits is marks are =
     let coded = subst (λ (n : ℕ). AreMarksFor [] (declared_pairs (declared t n)) marks) is are in
     let own = subst (λ (s : Table). AreMarksFor [] (declared_pairs (declared s (code_of e.node).value)) marks) (sym table) coded in
     marked_behind e.context [] [] (e.offset + (code_of e.node).width) (declared_pairs (declared e.table (code_of e.node).value)) (values_in e.node) marks refl fits own
+
+-- ---- references
+
+pub any_refers : (ps : List ThePair) → list_any (λ p. refers_within p.name.value p.form.value) ps ≡ list_any (λ p. refers_within p.name.value p.form.value) (map pair_of ps)
+any_refers [] = refl
+any_refers (p ∷ ps) = ap (λ (b : Bool). refers_within p.name.value p.form.value || b) (any_refers ps)

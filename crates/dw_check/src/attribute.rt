@@ -1,9 +1,10 @@
 //! What is wrong with an attribute of an entry.
-ghost use Rattle.std.specs.Prelude.{◌≡◌, ◌+◌, ◌<◌, ◌^◌, ◌++◌, ◌||◌, true, is_some, OnOk};
+ghost use Rattle.std.specs.Prelude.{◌≡◌, ◌+◌, ◌<◌, ◌^◌, ◌++◌, ◌||◌, ◌==◌, true, false, is_some, OnOk};
 ghost use Rattle.dw_form.specs.Form.{at_number};
 ghost use Rattle.dw_form.specs.Head.{own_bare};
 ghost use Rattle.dw_form.specs.Lent.{attribute_of, number_in};
 ghost use Rattle.dw_tree.specs.Lent.{attr_of, number_of};
+ghost use Rattle.dw_section.specs.Begins.{AreBegins};
 ghost use Rattle.dw_section.specs.Reference.{ref_forms};
 ghost use Rattle.dw_strings.specs.Text.{stored_forms};
 ghost use Rattle.dw_check.specs.Ends.{is_behind};
@@ -15,7 +16,7 @@ use crate::finding::{Finding, FindingKind, push_if};
 use crate::place::Place;
 use dw_leb::constants::attribute::DW_AT_SIBLING;
 use dw_leb::constants::form::*;
-use dw_section::{EntryId, RefFault, is_right_sibling};
+use dw_section::{Begins, EntryId, RefFault, is_right_sibling};
 use dw_strings::StrFault;
 use dw_unit::{AttrRef, EntryRef, NumberRef};
 use std::alloc::AllocError;
@@ -26,17 +27,19 @@ use std::alloc::AllocError;
 pub(crate) fn check_attribute(
     found: &mut Vec<Finding>,
     place: &Place<'_>,
+    begins: &Begins,
     entry: &EntryRef<'_>,
     position: u64,
     attribute: &AttrRef<'_>,
     repeated: bool,
 ) -> Result<(), AllocError>
     requires place { IsPlace place.now }
+    requires begins { AreBegins place.now.unit.now begins.now }
     requires near { place.now.start + entry.now.offset < 2 ^ 64 }
     ensures { OnOk result (found.new.items ≡ found.old.items ++ definition.findings_at (unit_in place.now) entry.now position (attr_of attribute.now) repeated) }
 {
     let wrong = Wrong {
-        reference: is_bad_reference(place, entry, attribute),
+        reference: is_bad_reference(place, begins, entry, attribute),
         sibling: is_bad_sibling(place, entry, attribute),
         text: is_bad_text(place, entry, attribute),
         name: repeated,
@@ -54,18 +57,50 @@ pub(crate) fn check_attribute(
 pub(crate) fn check_number(
     found: &mut Vec<Finding>,
     place: &Place<'_>,
+    begins: &Begins,
     entry: &EntryRef<'_>,
     position: u64,
     number: &NumberRef,
     repeated: bool,
 ) -> Result<(), AllocError>
     requires place { IsPlace place.now }
+    requires begins { AreBegins place.now.unit.now begins.now }
     requires near { place.now.start + entry.now.offset < 2 ^ 64 }
     ensures { OnOk result (found.new.items ≡ found.old.items ++ definition.findings_at (unit_in place.now) entry.now position (number_of number.now) repeated) }
 {
-    if number.name == DW_AT_SIBLING || repeated || names_something(number.form) {
+    if number.name == DW_AT_SIBLING || repeated || names_entry(number.form) {
         let attribute = number.attribute();
-        return check_attribute(found, place, entry, position, &attribute, repeated);
+        return check_attribute(found, place, begins, entry, position, &attribute, repeated);
+    }
+    if names_text(number.form) {
+        return check_text(found, place, entry, position, &number.attribute());
+    }
+    Ok(())
+}
+
+/// The same as `check_attribute`, of what is no sibling, no reference, and has no name of an earlier one.
+#[inline(always)]
+fn check_text(
+    found: &mut Vec<Finding>,
+    place: &Place<'_>,
+    entry: &EntryRef<'_>,
+    position: u64,
+    attribute: &AttrRef<'_>,
+) -> Result<(), AllocError>
+    requires place { IsPlace place.now }
+    requires near { place.now.start + entry.now.offset < 2 ^ 64 }
+    requires other { (attribute.now.name == 0x01) ≡ false }
+    requires unnamed { is_some (at_number attribute.now.form ref_forms) ≡ false }
+    ensures { OnOk result (found.new.items ≡ found.old.items ++ definition.findings_at (unit_in place.now) entry.now position (attr_of attribute.now) false) }
+{
+    if is_bad_text(place, entry, attribute) {
+        let wrong = Wrong {
+            reference: false,
+            sibling: false,
+            text: true,
+            name: false,
+        };
+        return push_wrong(found, place.start + entry.offset(), position, wrong);
     }
     Ok(())
 }
@@ -76,18 +111,20 @@ pub(crate) fn check_number(
 pub(crate) fn check_bare(
     found: &mut Vec<Finding>,
     place: &Place<'_>,
+    begins: &Begins,
     entry: &EntryRef<'_>,
     position: u64,
     bare: &AttrRef<'_>,
     repeated: bool,
 ) -> Result<(), AllocError>
     requires place { IsPlace place.now }
+    requires begins { AreBegins place.now.unit.now begins.now }
     requires near { place.now.start + entry.now.offset < 2 ^ 64 }
     requires bare { is_some (own_bare (attribute_of bare.now.attr)) ≡ true }
     ensures { OnOk result (found.new.items ≡ found.old.items ++ definition.findings_at (unit_in place.now) entry.now position (attr_of bare.now) repeated) }
 {
     if bare.name == DW_AT_SIBLING || repeated {
-        return check_rare(found, place, entry, position, bare, repeated);
+        return check_rare(found, place, begins, entry, position, bare, repeated);
     }
     Ok(())
 }
@@ -97,16 +134,18 @@ pub(crate) fn check_bare(
 fn check_rare(
     found: &mut Vec<Finding>,
     place: &Place<'_>,
+    begins: &Begins,
     entry: &EntryRef<'_>,
     position: u64,
     attribute: &AttrRef<'_>,
     repeated: bool,
 ) -> Result<(), AllocError>
     requires place { IsPlace place.now }
+    requires begins { AreBegins place.now.unit.now begins.now }
     requires near { place.now.start + entry.now.offset < 2 ^ 64 }
     ensures { OnOk result (found.new.items ≡ found.old.items ++ definition.findings_at (unit_in place.now) entry.now position (attr_of attribute.now) repeated) }
 {
-    check_attribute(found, place, entry, position, attribute, repeated)
+    check_attribute(found, place, begins, entry, position, attribute, repeated)
 }
 
 /// What is wrong with an attribute: as a reference, as a sibling, as a text, and with its name.
@@ -148,8 +187,14 @@ fn push_wrong(
 
 /// Whether an attribute is a reference that names no entry. A DW_AT_sibling is judged by `is_bad_sibling` alone.
 #[inline(always)]
-fn is_bad_reference(place: &Place<'_>, entry: &EntryRef<'_>, attribute: &AttrRef<'_>) -> bool
-    requires { IsPlace place.now }
+fn is_bad_reference(
+    place: &Place<'_>,
+    begins: &Begins,
+    entry: &EntryRef<'_>,
+    attribute: &AttrRef<'_>,
+) -> bool
+    requires place { IsPlace place.now }
+    requires begins { AreBegins place.now.unit.now begins.now }
     ensures { result ≡ definition.is_bad_reference (unit_in place.now) (attr_of attribute.now) }
 {
     if attribute.name == DW_AT_SIBLING {
@@ -159,7 +204,7 @@ fn is_bad_reference(place: &Place<'_>, entry: &EntryRef<'_>, attribute: &AttrRef
         return false;
     }
     let id = id_in(place, entry);
-    match place.section.resolve_among(place.begins, id, attribute) {
+    match place.section.resolve_among(begins, id, attribute) {
         Ok(_) | Err(RefFault::NotReference | RefFault::Supplementary) => false,
         Err(_) => true,
     }
@@ -198,14 +243,16 @@ fn is_behind(end: u64, attribute: &AttrRef<'_>) -> bool
     }
 }
 
-/// The same as `is_bad_text`, of any form.
+/// The same as `is_bad_text`, of a number that names a text by an index, or in another file.
 fn is_unreadable(place: &Place<'_>, entry: &EntryRef<'_>, attribute: &AttrRef<'_>) -> bool
-    requires { IsPlace place.now }
+    requires place { IsPlace place.now }
+    requires stored { is_some (at_number attribute.now.form stored_forms) ≡ true }
+    requires other { (attribute.now.form == 0x1f) ≡ false }
     ensures { result ≡ definition.is_bad_text (unit_in place.now) (attr_of attribute.now) }
 {
     let id = id_in(place, entry);
     match place.strings.place(place.section, id, attribute) {
-        Ok(text) => !place.text_ends.has_text(text),
+        Ok(text) => place.text_ends.has_none(text),
         Err(StrFault::NotText | StrFault::Supplementary) => false,
         Err(_) => true,
     }
@@ -220,14 +267,6 @@ fn id_in(place: &Place<'_>, entry: &EntryRef<'_>) -> EntryId
         item: place.item,
         offset: entry.offset(),
     }
-}
-
-/// Whether values of this form are references or numbers of texts (section 7.5.5).
-#[inline(always)]
-fn names_something(form: u64) -> bool
-    ensures { result ≡ (is_some (at_number form ref_forms) || is_some (at_number form stored_forms)) }
-{
-    names_entry(form) || names_text(form)
 }
 
 /// Whether values of this form are references (section 7.5.5).

@@ -1,6 +1,6 @@
 //! Where the texts of a section end. So it is known of each offset whether it has a text, and none is looked at.
-ghost use Rattle.std.specs.Prelude.{◌≡◌, not};
-ghost use Rattle.dw_strings.specs.Text.{StringSections, text_in_place};
+ghost use Rattle.std.specs.Prelude.{◌≡◌, ℕ};
+ghost use Rattle.dw_strings.specs.Text.{InStr, StringSections, text_in_place};
 ghost use Rattle.dw_strings.specs.TextView.{place_of, sections_of};
 ghost use Rattle.dw_check.specs.Ends.{AreEnds, IsEnd};
 ghost use Rattle.dw_check.specs.Findings.{is_unreadable};
@@ -27,14 +27,14 @@ impl TextEnds {
         }
     }
 
-    /// Whether there is a text at a place.
-    pub(crate) fn has_text(self, place: TextPlace<'_>) -> bool
-        ensures { (s : StringSections) → AreEnds s self → result ≡ not (is_unreadable (text_in_place s (place_of place.entry))) }
+    /// Whether there is no text at a place in `.debug_str`.
+    pub(crate) fn has_none(self, place: TextPlace<'_>) -> bool
+        requires { (offset : ℕ) × (place_of place ≡ InStr offset) }
+        ensures { (s : StringSections) → AreEnds s self → result ≡ is_unreadable (text_in_place s (place_of place.entry)) }
     {
         match place {
-            TextPlace::Own(_) => true,
-            TextPlace::Str(offset) => offset < self.str,
-            TextPlace::LineStr(offset) => offset < self.line_str,
+            TextPlace::Str(offset) => offset >= self.str,
+            TextPlace::Own(_) | TextPlace::LineStr(_) => unreachable!(),
         }
     }
 }

@@ -5,12 +5,15 @@ ghost use Rattle.indexmap.specs.IndexMap.{get};
 ghost use Rattle.dw_abbrev.specs.PairView.{pair_of};
 ghost use Rattle.dw_abbrev.specs.Table.{declared};
 ghost use Rattle.dw_tree.specs.Tree.{declared_pairs};
-ghost use Rattle.dw_check.specs.Marks.{AreMarks, AreMarksFor, is_looked_at, marks_behind};
+ghost use Rattle.std.specs.List.{list_any};
+ghost use Rattle.dw_check.specs.Marks.{AreMarks, AreMarksFor, is_looked_at, marks_behind, refers_within};
 
 use crate::attribute::{names_entry, names_text};
 use dw_abbrev::{Pair, Table};
 use dw_leb::constants::attribute::DW_AT_SIBLING;
-use dw_leb::constants::form::DW_FORM_INDIRECT;
+use dw_leb::constants::form::{
+    DW_FORM_INDIRECT, DW_FORM_REF_UDATA, DW_FORM_REF1, DW_FORM_REF2, DW_FORM_REF4, DW_FORM_REF8,
+};
 use indexmap::{IndexMap, IndexSet};
 use std::alloc::{AllocError, Global};
 
@@ -97,6 +100,39 @@ fn is_looked_at(pair: &Pair) -> bool
         || form == DW_FORM_INDIRECT
         || names_entry(form)
         || names_text(form)
+}
+
+/// Whether a value of a code of this table can be a reference to an entry of its unit.
+pub(crate) fn refers(table: &Table, code: u64) -> bool
+    ensures { result ≡ list_any (λ p. refers_within p.name.value p.form.value) (declared_pairs (declared table.now code)) }
+{
+    match table.get(code) {
+        Some(declaration) => any_refers(declaration.pairs()),
+        None => false,
+    }
+}
+
+/// Whether a value of one of these pairs can be one.
+fn any_refers(pairs: &[Pair]) -> bool
+    ensures { result ≡ list_any (λ p. refers_within p.name.value p.form.value) pairs.now }
+{
+    pairs.iter().any(|pair| refers_within(pair))
+}
+
+/// Whether a value of a pair can be one. A sibling isn't looked up; what an indirect value is, only the value tells.
+fn refers_within(pair: &Pair) -> bool
+    ensures { result ≡ refers_within pair.now.name.value pair.now.form.value }
+{
+    pair.name.value != DW_AT_SIBLING
+        && matches!(
+            pair.form.value,
+            DW_FORM_REF1
+                | DW_FORM_REF2
+                | DW_FORM_REF4
+                | DW_FORM_REF8
+                | DW_FORM_REF_UDATA
+                | DW_FORM_INDIRECT
+        )
 }
 
 /// A mark for each pair: whether an earlier one has its name.

@@ -1,6 +1,6 @@
 //! A unit in its section.
 use crate::ends::TextEnds;
-use dw_section::{Begins, Section};
+use dw_section::Section;
 use dw_strings::Strings;
 use dw_unit::Unit;
 
@@ -15,6 +15,4 @@ pub(crate) struct Place<'a> {
     /// Where the unit starts, counted from the section's first byte.
     pub(crate) start: u64,
     pub(crate) unit: &'a Unit,
-    /// Offsets at which entries of the unit begin.
-    pub(crate) begins: &'a Begins,
 }

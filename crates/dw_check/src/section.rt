@@ -12,7 +12,7 @@ ghost use Rattle.dw_check.specs.Place.{IsPlace, unit_in};
 use crate::attribute::{check_attribute, check_bare, check_number};
 use crate::ends::TextEnds;
 use crate::finding::Finding;
-use crate::marks::{Marks, kept_marks, mark};
+use crate::marks::{Marks, kept_marks, mark, refers};
 use crate::place::Place;
 use crate::root::check_root;
 use dw_section::{Begins, Item, Section};
@@ -20,6 +20,7 @@ use dw_strings::Strings;
 use dw_unit::{EntryRef, Unit};
 use indexmap::IndexMap;
 use std::alloc::{AllocError, Global};
+use std::mem::swap;
 
 /// All that is wrong in a section, ordered by the entries' offsets, by the positions of their attributes, and by the
 /// numbers of the kinds. This checks for:
@@ -46,14 +47,13 @@ pub fn check<'a>(
     let _size = section.size();
     let text_ends = TextEnds::of(strings);
     let mut found = Vec::new(alloc);
-    let mut begins = Begins::new(alloc);
+    let mut spare = Begins::new(alloc);
     let mut number = 0;
     let mut start = 0;
     let mut left = section.items();
     while let Some((item, others)) = left.split_first() {
         match item {
             Item::Known(unit) => {
-                learn(alloc, &mut begins, unit);
                 let place = Place {
                     section: &*section,
                     strings: &*strings,
@@ -61,9 +61,8 @@ pub fn check<'a>(
                     item: number,
                     start,
                     unit,
-                    begins: &begins,
                 };
-                check_unit(alloc, &mut found, &place)?;
+                check_unit(alloc, &mut found, &place, &mut spare)?;
             }
             Item::Other(_) => (),
         }
@@ -74,33 +73,52 @@ pub fn check<'a>(
     Ok(found)
 }
 
-/// Learns where the entries of the unit begin, unless they are so few that their places would cost more than they save: a
-/// unit with a large block or text, or with much padding.
-fn learn(alloc: Global, begins: &mut Begins, unit: &Unit)
-    ensures { AreBegins unit.now begins.new }
-{
-    if unit.size() / 64 <= unit.tree().row_count() as u64 {
-        begins.learn(unit);
-    } else {
-        *begins = Begins::new(alloc);
-    }
-}
-
-/// Adds the findings of a unit.
-fn check_unit(alloc: Global, found: &mut Vec<Finding>, place: &Place<'_>) -> Result<(), AllocError>
+/// Adds the findings of a unit. Where its entries begin is learnt as soon as there is one that can refer to another. `spare` has
+/// the memory for that from unit to unit.
+fn check_unit(
+    alloc: Global,
+    found: &mut Vec<Finding>,
+    place: &Place<'_>,
+    spare: &mut Begins,
+) -> Result<(), AllocError>
     requires { IsPlace place.now }
     ensures { OnOk result (found.new.items ≡ found.old.items ++ definition.unit_findings (unit_in place.now)) }
 {
     check_root(found, place)?;
     let mut kept = IndexMap::new(alloc);
+    let mut begins = Begins::new(alloc);
+    let mut is_learnt = false;
     for entry in place.unit.entries() {
         let code = entry.code().value;
         match kept_marks(&kept, code) {
-            Some(marks) => check_entry(found, place, &entry, marks)?,
-            None => check_first(alloc, found, place, &mut kept, &entry, code)?,
+            Some(marks) => check_entry(found, place, &begins, &entry, marks)?,
+            None => {
+                learn_for(code, &mut is_learnt, &mut begins, spare, place.unit);
+                check_first(alloc, found, place, &begins, &mut kept, &entry, code)?;
+            }
         }
     }
+    if is_learnt {
+        swap(&mut begins, spare);
+    }
     Ok(())
+}
+
+/// Learns where the entries of the unit begin, unless that is learnt, where a value of this code can be a reference to one of
+/// them. Not where they are so few that their places would cost more than they save: in a unit with a large block or text, or
+/// with much padding. The memory is that of `spare`.
+fn learn_for(code: u64, is_learnt: &mut bool, begins: &mut Begins, spare: &mut Begins, unit: &Unit)
+    requires { AreBegins unit.now begins.old }
+    ensures { AreBegins unit.now begins.new }
+{
+    if *is_learnt || !refers(unit.tree().table(), code) {
+        return;
+    }
+    *is_learnt = true;
+    if unit.size() / 64 <= unit.tree().row_count() as u64 {
+        swap(begins, spare);
+        begins.learn(unit);
+    }
 }
 
 /// Adds the findings of an entry that is the first of its code in the unit. The marks of the code are kept for those that follow.
@@ -109,11 +127,13 @@ fn check_first(
     alloc: Global,
     found: &mut Vec<Finding>,
     place: &Place<'_>,
+    begins: &Begins,
     kept: &mut Marks,
     entry: &EntryRef<'_>,
     code: u64,
 ) -> Result<(), AllocError>
     requires place { IsPlace place.now }
+    requires begins { AreBegins place.now.unit.now begins.now }
     requires near { place.now.start + entry.now.offset < 2 ^ 64 }
     requires marked { MarksItsEntries place.now.unit.now.table code entry.now }
     requires kept { AreMarks place.now.unit.now.table kept.old.entries }
@@ -123,7 +143,7 @@ fn check_first(
 {
     mark(alloc, kept, place.unit.tree().table(), code)?;
     match kept_marks(kept, code) {
-        Some(marks) => check_entry(found, place, entry, marks),
+        Some(marks) => check_entry(found, place, begins, entry, marks),
         None => unreachable!(),
     }
 }
@@ -134,10 +154,12 @@ fn check_first(
 fn check_entry(
     found: &mut Vec<Finding>,
     place: &Place<'_>,
+    begins: &Begins,
     entry: &EntryRef<'_>,
     marks: &[bool],
 ) -> Result<(), AllocError>
     requires place { IsPlace place.now }
+    requires begins { AreBegins place.now.unit.now begins.now }
     requires near { place.now.start + entry.now.offset < 2 ^ 64 }
     requires marked { AreMarked [] (attributes_of entry.now) marks.now }
     ensures { OnOk result (found.new.items ≡ found.old.items ++ definition.entry_findings (unit_in place.now) entry.now) }
@@ -149,16 +171,16 @@ fn check_entry(
         position += 1;
         left = others;
         if let Some(number) = attributes.next_number() {
-            check_number(found, place, entry, position, &number, *repeated)?;
+            check_number(found, place, begins, entry, position, &number, *repeated)?;
             continue;
         }
         if let Some(bare) = attributes.next_bare() {
-            check_bare(found, place, entry, position, &bare, *repeated)?;
+            check_bare(found, place, begins, entry, position, &bare, *repeated)?;
             continue;
         }
         match attributes.next() {
             Some(attribute) => check_attribute(
-                found, place, entry, position, &attribute, *repeated,
+                found, place, begins, entry, position, &attribute, *repeated,
             )?,
             None => return Ok(()),
         }

@@ -26,7 +26,6 @@ check_unit-requires c =
       fits = unit_fits s strings c.loop-item.found.items c.loop-item.number c.loop-item.start c.in-Known.unit xs h;
       ends = unit_ends s strings c.loop-item.found.items c.loop-item.number c.loop-item.start c.in-Known.unit xs h;
       text_ends = c.of-text_ends.ensures;
-      begins = c.learn.ensures;
     }
 
 -- where there is an error at all

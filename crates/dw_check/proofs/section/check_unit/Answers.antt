@@ -25,6 +25,7 @@ loop-entry-init c =
     record {
       so_far = so_far ∙ ap (λ (xs : List EntryAt). c.check_root.new.found.items ++ entries_findings u xs) given;
       marks = search rules;
+      begins = c.new-begins.ensures.known u.unit;
       left = subst (λ (xs : List EntryAt). AllByRecursion (IsOf u.unit) xs) given (all_of u.unit c.requires.fits);
     }
 
