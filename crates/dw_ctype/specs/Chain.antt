@@ -1,10 +1,8 @@
 -- Types whose texts are chains: marks and qualifiers one behind the other, and then a word.
-use Rattle.std.specs.Prelude.{◌≡◌, ◌≤◌, ◌++◌, ℕ, suc, Bool, true, false, List, [], Vec, Result, Ok, Err, codes, nat_le, unwrap_or, if◌then◌else◌}
+use Rattle.std.specs.Prelude.{◌≡◌, ◌≤◌, ◌++◌, ℕ, suc, Bool, true, false, List, [], Vec, Result, Ok, Err, codes, unwrap_or}
 use Rattle.std.specs.declared.alloc.AllocError.{AllocError}
 use Rattle.std.specs.declared.alloc.Global.{Global}
 use Rattle.dw_tree.specs.Lent.{EntryAt}
-use Rattle.dw_ctype.specs.declared.fault.TypeError.{TypeError}
-use Rattle.dw_ctype.specs.declared.fault.TypeError.TheVariants.{TypeTooBig}
 use Rattle.dw_ctype.specs.declared.kind.Kind.{Kind}
 use Rattle.dw_ctype.specs.declared.kind.Kind.TheVariants.{Named, Tagged}
 use Rattle.dw_ctype.specs.declared.typed.Typed.{Typed}
@@ -39,7 +37,3 @@ abbrev pub Tried : Type 0 → Vec ℕ Global → Vec ℕ Global → List ℕ →
 Tried P old new text (Ok true) = new ≡ old
 Tried P old new text (Ok false) = P × Puts old new text (Ok false)
 Tried P old new text (Err e) = P × Puts {X = Bool} old new text (Err e)
-
--- what is answered for a type, whatever memory there is
-abbrev pub answer_typed : Source → Typed → List ℕ → Result (List ℕ) TypeError
-answer_typed s t name = if nat_le (visits s.items 64 t) 1024 then Ok (say s 64 t name) else Err TypeTooBig

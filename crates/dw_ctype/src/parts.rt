@@ -1,5 +1,5 @@
-//! What texts need of functions and arrays with many children, looked up once for each. Without it each visit of one would
-//! look at all of its children again.
+//! What texts need of the types that they go on to, looked up once for each: of those with many children, and in a text of many
+//! visits of all. Without it each visit of a function or an array would look at all of its children again.
 ghost use Rattle.std.specs.Prelude.{◌≡◌, ◌++◌, ◌<◌, length, nat_le, IfOk, IfSome, IsSome, OnOk, Some};
 ghost use Rattle.dw_tree.specs.Lent.{children_of};
 ghost use Rattle.dw_section.specs.Lookup.{entry as entry_there, unit_at};
@@ -78,14 +78,19 @@ impl<'a> Kept<'a> {
         }
     }
 
-    /// The parts of an entry that has many children, which are kept from then on. None where it has few, and where the
-    /// memory for its parts is refused: they aren't kept then.
-    pub(crate) fn keep(&mut self, id: EntryId, entry: &EntryRef<'a>) -> Option<Rc<Parts<'a>>>
+    /// The parts of an entry that has many children, or where there are many visits of any entry, which are kept from then
+    /// on. None of others, and where the memory for the parts is refused: they aren't kept then.
+    pub(crate) fn keep(
+        &mut self,
+        id: EntryId,
+        entry: &EntryRef<'a>,
+        many_visits: bool,
+    ) -> Option<Rc<Parts<'a>>>
         requires { entry_there self.old.items id ≡ Some entry.now }
         ensures section { self.new ≡ self.old }
         ensures parts { IfSome result (λ p. ArePartsOf self.old.items id.item (entry_there self.old.items id) p.value) }
     {
-        if !has_many(entry) {
+        if !(many_visits || has_many(entry)) {
             return None;
         }
         self.shared(id, entry).ok()

@@ -1,13 +1,11 @@
 //! The text of an entry's type.
-ghost use Rattle.std.specs.Prelude.{◌≡◌, ◌++◌, List, ℕ, Ok, IfErr, IfSome, IsSome, OnErr, OnOk, ◌-◌, is_some, nat_le};
+ghost use Rattle.std.specs.Prelude.{◌≡◌, ◌++◌, List, ℕ, Ok, IfErr, IsSome, OnErr, OnOk, ◌-◌};
 ghost use Rattle.dw_section.specs.Lookup.{unit_at};
 ghost use Rattle.std.specs.Vec.{vec_len, vec_capacity};
 ghost use Rattle.dw_ctype.specs.Answer.{answer, IsRefusal};
 ghost use Rattle.dw_ctype.specs.Append.{Puts};
-ghost use Rattle.dw_ctype.specs.Chain.{answer_typed};
 ghost use Rattle.dw_ctype.specs.Types as definition;
 ghost use Rattle.dw_ctype.specs.View.{source_of};
-ghost use Rattle.dw_ctype.specs.Visits.{visits};
 
 use crate::chain::say_chain;
 use crate::ended::ended;

@@ -2,7 +2,6 @@
 ghost use Rattle.std.specs.Prelude.{◌≡◌, IsSome, Some};
 ghost use Rattle.dw_tree.specs.Lent.{children_of};
 ghost use Rattle.dw_section.specs.Lookup.{entry as entry_there, unit_at};
-ghost use Rattle.dw_ctype.specs.declared.kind.Kind.TheVariants.{Function};
 ghost use Rattle.dw_ctype.specs.Parts.{visits_of};
 ghost use Rattle.dw_ctype.specs.Types.{kind_of as kind_there, type_of as type_there};
 ghost use Rattle.dw_ctype.specs.Visits.{less, visits, type_visits, kind_visits, parameter_visits};
@@ -14,8 +13,13 @@ use dw_leb::constants::tag::DW_TAG_FORMAL_PARAMETER;
 use dw_section::{EntryId, Section};
 use dw_unit::EntryRef;
 
+/// As soon as fewer visits than these are left, all that is visited is kept. The first of a text are made again in less time
+/// than it takes to keep what they need.
+const KEPT_FROM: u16 = 960;
+
 /// What is left of `left` visits behind those of the text of a type, down to `depth` levels. None where there
-/// are more: it stops at the first one too many. On the way the parts of what has many children are kept.
+/// are more: it stops at the first one too many. On the way parts are kept, of what has many children and
+/// then of all.
 #[cycle(visits)]
 pub(crate) fn count<'a>(
     section: &'a Section,
@@ -57,7 +61,7 @@ fn count_type<'a>(
     }
 }
 
-/// The same for what an entry names.
+/// The same for what an entry names, by its parts where they are kept.
 #[cycle(visits)]
 fn count_entry<'a>(
     section: &'a Section,
@@ -72,43 +76,40 @@ fn count_entry<'a>(
     ensures count { result ≡ less (kind_visits (visits section.now.items depth) section.now.items id.item entry.now (kind_there entry.now)) left }
     ensures kept { kept.new ≡ kept.old }
 {
-    match kind_of(entry) {
-        Kind::Named | Kind::Tagged(_) | Kind::Other => Some(left),
-        Kind::Marked(_) | Kind::Qualified(_) => {
-            let typed = type_of(section, id.item, entry);
-            count(section, kept, typed, depth, left)
-        }
-        Kind::Array => {
-            let _parts = kept.keep(id, entry);
-            let typed = type_of(section, id.item, entry);
-            count(section, kept, typed, depth, left)
-        }
-        Kind::Function => count_function(section, kept, id, entry, depth, left),
+    if let Kind::Named | Kind::Tagged(_) | Kind::Other = kind_of(entry) {
+        return Some(left);
+    }
+    match kept.keep(id, entry, left < KEPT_FROM) {
+        Some(parts) => count_each(section, kept, &parts.types, depth, left),
+        None => count_kind(section, kept, id.item, entry, depth, left),
     }
 }
 
-/// The same for a function, by its parts where it has many children.
+/// The same for what an entry of this item names, by its children.
 #[cycle(visits)]
-fn count_function<'a>(
+fn count_kind<'a>(
     section: &'a Section,
     kept: &mut Kept<'a>,
-    id: EntryId,
-    function: &EntryRef<'a>,
+    item: usize,
+    entry: &EntryRef<'a>,
     depth: u8,
     left: u16,
 ) -> Option<u16>
     requires kept { kept.old ≡ section.now }
-    requires there { entry_there section.now.items id ≡ Some function.now }
-    requires kind { kind_there function.now ≡ Function }
-    ensures count { result ≡ less (kind_visits (visits section.now.items depth) section.now.items id.item function.now (kind_there function.now)) left }
+    requires known { IsSome (unit_at section.now.items item) }
+    ensures count { result ≡ less (kind_visits (visits section.now.items depth) section.now.items item entry.now (kind_there entry.now)) left }
     ensures kept { kept.new ≡ kept.old }
 {
-    match kept.keep(id, function) {
-        Some(parts) => count_each(section, kept, &parts.types, depth, left),
-        None => {
-            let typed = type_of(section, id.item, function);
+    match kind_of(entry) {
+        Kind::Named | Kind::Tagged(_) | Kind::Other => Some(left),
+        Kind::Marked(_) | Kind::Qualified(_) | Kind::Array => {
+            let typed = type_of(section, item, entry);
+            count(section, kept, typed, depth, left)
+        }
+        Kind::Function => {
+            let typed = type_of(section, item, entry);
             let rest = count(section, kept, typed, depth, left)?;
-            count_parameters(section, kept, id.item, function, depth, rest)
+            count_parameters(section, kept, item, entry, depth, rest)
         }
     }
 }

@@ -43,13 +43,13 @@ count-returns-clause-count t c =
     let sum : c.args.left ≡ 1 + c.in_ok-rest.rest = omega (arith, c.in_ok-rest.ensures) in
     c.count_type.ensures.count ∙ sym (visits_taken c.args.section.now.items c.args.depth c.args.typed _ c.args.left c.in_ok-rest.rest deep sum refl)
 
-pub count_function-returns-in-Some-clause-count : goal.count_function-returns-in-Some-clause-count
-count_function-returns-in-Some-clause-count t c =
+pub count_entry-returns-in-Some-clause-count : goal.count_entry-returns-in-Some-clause-count
+count_entry-returns-in-Some-clause-count t c =
     let items = c.args.section.now.items in
     let id = c.args.id in
     let one : Typed → ℕ = visits items c.args.depth in
     let are : ArePartsOf items id.item (entry items id) c.in-Some.parts.value = rw (← c.requires.kept) c.in-Some.ensures.parts in
-    c.count_each.ensures.count ∙ ap (λ (n : ℕ). less n c.args.left) (ap (visits_of one) (c.deref-in-Some.ensures.value ∙ ap (λ (p : Parts). p.types.items) c.deref.ensures) ∙ kept_visits items id c.args.function.now c.in-Some.parts.value c.requires.there are one)
+    c.count_each.ensures.count ∙ ap (λ (n : ℕ). less n c.args.left) (ap (visits_of one) (c.deref-in-Some.ensures.value ∙ ap (λ (p : Parts). p.types.items) c.deref.ensures) ∙ kept_visits items id c.args.entry.now c.in-Some.parts.value c.requires.there are one)
 
 pub count_each-returns-in_err-rest-clause-count : goal.count_each-returns-in_err-rest-clause-count
 count_each-returns-in_err-rest-clause-count t c =

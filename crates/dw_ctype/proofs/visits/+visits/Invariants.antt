@@ -18,8 +18,8 @@ decreases-count_entry l = 5 * l.depth + 3
 abbrev pub decreases-count_parameters : goal.decreases-count_parameters
 decreases-count_parameters l = 5 * l.depth + 1
 
-abbrev pub decreases-count_function : goal.decreases-count_function
-decreases-count_function l = 5 * l.depth + 2
+abbrev pub decreases-count_kind : goal.decreases-count_kind
+decreases-count_kind l = 5 * l.depth + 2
 
 abbrev pub decreases-count_each : goal.decreases-count_each
 decreases-count_each l = 5 * l.depth + 1
