@@ -9,9 +9,8 @@ use Rattle.dw_section.specs.declared.id.EntryId.{EntryId}
 use Rattle.dw_ctype.specs.declared.left.Before.{Before}
 use Rattle.dw_ctype.specs.declared.typed.Typed.{Typed}
 use Rattle.dw_ctype.specs.declared.typed.Typed.TheVariants.{Entry}
-use Rattle.dw_ctype.specs.Chain.{IsChain, IsChainFrom}
 use Rattle.dw_ctype.specs.InOrder.{cut, type_cut, kind_cut}
-use Rattle.dw_ctype.specs.Types.{Source, kind_of}
+use Rattle.dw_ctype.specs.Types.{kind_of}
 use Rattle.dw_ctype.proofs.Levels.{cut_next}
 
 pub ok_then : {X E : Type 0} {P Q : X → Type 0} (r : Result X E) → ((x : X) → P x → Q x) → IfOk r P → IfOk r Q

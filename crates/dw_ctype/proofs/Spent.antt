@@ -1,16 +1,12 @@
 -- Taking one number and then another.
-use Rattle.std.proofs.Common.{◌≡◌, ◌≢◌, ◌+◌, ◌-◌, ◌≤◌, ◌<◌, ℕ, zero, suc, Bool, true, false, List, ◌∷◌, Option, Some, None, IfSome, refl, sym, ap, ◌∙◌, arith}
+use Rattle.std.proofs.Common.{◌≡◌, ◌≢◌, ◌+◌, ◌-◌, ◌≤◌, ◌<◌, ℕ, zero, suc, Bool, true, false, List, ◌∷◌, Some, None, refl, sym, ap, ◌∙◌, arith}
 use Rattle.std.specs.Prelude.{nat_le}
 use Rattle.std.proofs.lemmas.Bool.{leb-true, leb-false, le-leb, lt-leb, eq-eqb, ne_eqb}
-use Rattle.std.proofs.lemmas.Option.{IfSome_then}
 use Rattle.dw_tree.specs.Lent.{EntryAt}
 use Rattle.dw_section.specs.Item.{Item}
-use Rattle.dw_section.specs.Lookup.{entry}
-use Rattle.dw_section.specs.declared.id.EntryId.{EntryId}
 use Rattle.dw_ctype.specs.declared.typed.Typed.{Typed}
-use Rattle.dw_ctype.specs.declared.typed.Typed.TheVariants.{Entry}
-use Rattle.dw_ctype.specs.Types.{tag, kind_of}
-use Rattle.dw_ctype.specs.Visits.{less, visits, type_visits, entry_visits, kind_visits, parameter_visits}
+use Rattle.dw_ctype.specs.Types.{tag}
+use Rattle.dw_ctype.specs.Visits.{less, visits, type_visits, parameter_visits}
 
 pub less_in : (n left : ℕ) → n ≤ left → less n left ≡ Some (left - n)
 less_in n left h = rw (le-leb n left h) refl

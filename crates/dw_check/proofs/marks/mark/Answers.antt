@@ -1,4 +1,4 @@
-use Rattle.std.proofs.Common.{◌≡◌, ◌∙◌, [], Bool, eqb, Vec}
+use Rattle.std.proofs.Common.{◌∙◌, [], Bool, eqb, Vec}
 use Rattle.std.specs.declared.alloc.Global.{Global}
 use Rattle.indexmap.proofs.CallerLemmas.{insert_entry-new}
 use Rattle.dw_abbrev.specs.Table.{declared}

@@ -1,5 +1,4 @@
-use Rattle.std.proofs.Common.{◌≡◌, ◌∙◌, ◌<◌, Bool, None, Some, sym, subst, arith}
-use Rattle.std.specs.Prelude.{IfOk}
+use Rattle.std.proofs.Common.{◌≡◌, ◌∙◌, ◌<◌, None, Some, sym, arith}
 use Rattle.dw_section.specs.Lookup.{entry}
 use Rattle.dw_ctype.specs.declared.kind.Kind.TheVariants.{Marked, Qualified}
 use Rattle.dw_ctype.specs.Chain.{IsChain, IsChainFrom}

@@ -1,6 +1,6 @@
-use Rattle.std.proofs.Common.{◌≡◌, ◌+◌, suc, length, ap, sym, arith}
+use Rattle.std.proofs.Common.{◌≡◌, suc, length, ap, sym, arith}
 use Rattle.std.proofs.lemmas.Bool.{le-leb, lt-leb}
-use Rattle.dw_tree.specs.Lent.{EntryAt, children_of}
+use Rattle.dw_tree.specs.Lent.{children_of}
 use Rattle.dw_ctype.proofs.parts.has_many.Goals as goal
 
 pub returns-then-left-eq0 : goal.returns-then-left-eq0

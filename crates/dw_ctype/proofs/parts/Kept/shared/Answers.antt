@@ -1,4 +1,4 @@
-use Rattle.std.proofs.Common.{◌≡◌, ◌∙◌, Some, sym, subst}
+use Rattle.std.proofs.Common.{◌≡◌, Some, sym, subst}
 use Rattle.dw_section.specs.Section.{WholeSection}
 use Rattle.dw_section.specs.Lookup.{entry}
 use Rattle.dw_section.specs.declared.id.EntryId.{EntryId}
