@@ -123,6 +123,10 @@ def leb16():
     return rows(b"\2" + (b"\x80" * 15 + b"\0") * 1000, 600, *names(1000, 0x0F))
 
 
+def fixed():
+    return rows(b"\2" + bytes(15), 300_000, (0x2000, 0x0B), (0x2001, 0x05), (0x2002, 0x06), (0x2003, 0x07))
+
+
 def indirect():
     return rows(b"\2" + b"\x0b\x07" * 8, 100_000, *names(8, 0x16))
 
@@ -177,6 +181,7 @@ MADE = {
     "textflags": textflags,
     "leb16": leb16,
     "numbers": numbers,
+    "fixed": fixed,
     "indirect": indirect,
     "blocks": blocks,
     "texts": texts,
