@@ -17,7 +17,8 @@ use Rattle.dw_ctype.specs.declared.typed.Typed.{Typed}
 use Rattle.dw_ctype.specs.InOrder.{is_parameter, parameter_text, to_come}
 use Rattle.dw_ctype.specs.Parts.{ArePartsOf, parameter_types, kind_types, types_of, visits_of, is_shown, shown_among, shown_of}
 use Rattle.dw_ctype.specs.Types.{tag, kind_of, type_of, behind_commas, dimension, dimensions_of, parameter_texts}
-use Rattle.dw_ctype.specs.Visits.{less, kind_visits, parameter_visits}
+use Rattle.dw_ctype.specs.declared.typed.Typed.TheVariants.{Entry}
+use Rattle.dw_ctype.specs.Visits.{less, type_visits, kind_visits, parameter_visits}
 use Rattle.dw_ctype.proofs.Spent.{less_stops, less_then}
 
 -- ---- what is kept under an id
@@ -141,6 +142,14 @@ module _ (items : List Item) (id : EntryId) (e : EntryAt) (parts : Parts) (there
 
   pub kept_dimensions : kind_of e ≡ Array → dimensions_of parts.shown.items ≡ dimensions_of (children_of e)
   kept_dimensions is = ap dimensions_of ((parts_there items id e parts there are).1 ∙ ap (λ (k : Kind). shown_among k (children_of e)) is) ∙ dimensions_shown (children_of e)
+
+-- the visits of a type of which parts are kept
+pub type_visited : (items : List Item) (t : Typed) (id : EntryId) (parts : Parts) (visits : Typed → ℕ) → t ≡ Entry id → ArePartsOf items id.item (entry items id) parts → visits_of visits parts.types.items ≡ type_visits visits items t
+type_visited items t id parts visits is = by (entry items id) refl
+  where
+    by : (o : Option EntryAt) → entry items id ≡ o → ArePartsOf items id.item o parts → visits_of visits parts.types.items ≡ type_visits visits items t
+    by None there are = absurd are
+    by (Some e) there are = ap (visits_of visits) are.0 ∙ kind_visited items id.item visits e (kind_of e) ∙ rw (is, there) refl
 
 -- what is to come of parameters is what the first entry adds, and what the others do
 pub come_split : (text : EntryAt → List ℕ) (prototyped some : Bool) (e : EntryAt) (es all : List EntryAt) → all ≡ e ∷ es

@@ -78,6 +78,19 @@ impl<'a> Kept<'a> {
         }
     }
 
+    /// The parts of an entry, if they are kept, to be held while others are kept.
+    pub(crate) fn found(&self, id: EntryId) -> Option<Rc<Parts<'a>>>
+        ensures { IfSome result (λ p. ArePartsOf self.now.items id.item (entry_there self.now.items id) p.value) }
+    {
+        match self.parts.get(&id) {
+            Some(parts) => match parts.clone() {
+                Ok(shared) => Some(shared),
+                Err(_) => None,
+            },
+            None => None,
+        }
+    }
+
     /// The parts of an entry that has many children, or where there are many visits of any entry, which are kept from then
     /// on. None of others, and where the memory for the parts is refused: they aren't kept then.
     pub(crate) fn keep(

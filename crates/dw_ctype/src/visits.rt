@@ -39,7 +39,7 @@ pub(crate) fn count<'a>(
     count_type(section, kept, typed, depth - 1, rest)
 }
 
-/// The same for what a type names, whose texts are one level deeper.
+/// The same for what a type names, whose texts are one level deeper. An entry isn't looked up where its parts are found.
 #[cycle(visits)]
 fn count_type<'a>(
     section: &'a Section,
@@ -55,6 +55,11 @@ fn count_type<'a>(
     let Typed::Entry(id) = typed else {
         return Some(left);
     };
+    if left < KEPT_FROM {
+        if let Some(parts) = kept.found(id) {
+            return count_each(section, kept, &parts.types, depth, left);
+        }
+    }
     match section.entry(id) {
         Some(entry) => count_entry(section, kept, id, &entry, depth, left),
         None => Some(left),

@@ -6,7 +6,7 @@ use Rattle.dw_ctype.specs.declared.parts.Parts.{Parts}
 use Rattle.dw_ctype.specs.Parts.{ArePartsOf, visits_of}
 use Rattle.dw_ctype.specs.Types.{type_of}
 use Rattle.dw_ctype.specs.Visits.{less, visits, parameter_visits}
-use Rattle.dw_ctype.proofs.Gathered.{kept_visits, none_left, type_counted, type_stops}
+use Rattle.dw_ctype.proofs.Gathered.{kept_visits, none_left, type_counted, type_stops, type_visited}
 use Rattle.dw_ctype.proofs.Spent.{less_in, less_then, less_stops, visits_taken, parameter_first, parameter_passed}
 use Rattle.dw_ctype.proofs.visits.+visits.Goals as goal
 
@@ -42,6 +42,14 @@ count-returns-clause-count t c =
     let deep : 0 < c.args.depth = omega (arith, c.if-depth-eq0.false) in
     let sum : c.args.left ≡ 1 + c.in_ok-rest.rest = omega (arith, c.in_ok-rest.ensures) in
     c.count_type.ensures.count ∙ sym (visits_taken c.args.section.now.items c.args.depth c.args.typed _ c.args.left c.in_ok-rest.rest deep sum refl)
+
+pub count_type-returns-in-Some-clause-count : goal.count_type-returns-in-Some-clause-count
+count_type-returns-in-Some-clause-count t c =
+    let items = c.args.section.now.items in
+    let id = c.in-Entry.id in
+    let one : Typed → ℕ = visits items c.args.depth in
+    let are : ArePartsOf items id.item (entry items id) c.in-Some.parts.value = rw (← c.requires) c.in-Some.ensures in
+    c.count_each.ensures.count ∙ ap (λ (n : ℕ). less n c.args.left) (ap (visits_of one) (c.deref-in-Some.ensures.value ∙ ap (λ (p : Parts). p.types.items) c.deref.ensures) ∙ type_visited items c.args.typed id c.in-Some.parts.value one c.in-Entry.is are)
 
 pub count_entry-returns-in-Some-clause-count : goal.count_entry-returns-in-Some-clause-count
 count_entry-returns-in-Some-clause-count t c =
