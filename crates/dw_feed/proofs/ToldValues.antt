@@ -20,6 +20,7 @@ use Rattle.dw_abbrev.specs.Table.{Pair}
 use Rattle.dw_abbrev.specs.Prefix as prefix
 use Rattle.dw_tree.specs.Steps.{ArePlain, SpellsFirst}
 use Rattle.dw_feed.specs.FirstValues.{FirstsAreTold}
+use Rattle.dw_feed.specs.PartialValues.{shape_of_indirect}
 use Rattle.dw_feed.specs.PlainValues.{told, told_size, PlainAt, plain_there, cut_short}
 
 -- ---- the size of one
@@ -63,6 +64,13 @@ pub told_present : (k : Ctx) (p : Pair) → shape p.form.value k.address_size k.
 told_present k p e = ap (told p.constant) e ∙ by p.constant
   where
     by : (c : Option Signed) → told c (Some shapes.Present) ≡ Some 0
+    by None = refl
+    by (Some x) = refl
+
+pub told_indirect : (k : Ctx) (p : Pair) → p.form.value ≡ 0x16 → None ≡ told_size k p
+told_indirect k p e = sym (ap (told p.constant) (ap (λ (n : ℕ). shape n k.address_size k.format) e ∙ shape_of_indirect k.address_size k.format) ∙ by p.constant)
+  where
+    by : (c : Option Signed) → told c (Some shapes.Indirect) ≡ None
     by None = refl
     by (Some x) = refl
 

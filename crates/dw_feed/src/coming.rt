@@ -288,6 +288,10 @@ impl Coming {
     fn told(&self, pair: &Pair) -> Option<usize>
         ensures { result ≡ told_size (context self.now) (pair_of pair.now) }
     {
+        // The form of an indirect one doesn't, and its values go this way often.
+        if pair.form.value == DW_FORM_INDIRECT {
+            return None;
+        }
         told_size(self.draft.header().context(), pair)
     }
 
