@@ -18,7 +18,7 @@ use std::marker::Model;
 use std::rc::Rc;
 
 /// The most children that are looked at again at each visit: to keep what is needed of so few is dearer.
-const FEW_CHILDREN: u8 = 8;
+const FEW_CHILDREN: u8 = 32;
 
 /// What the text of an entry needs.
 #[derive(Drop)]
@@ -129,7 +129,7 @@ impl<'a> Kept<'a> {
 
 /// Whether an entry has more children than are looked at again at each visit.
 fn has_many(entry: &EntryRef<'_>) -> bool
-    ensures { result ≡ nat_le 9 (length (children_of entry.now)) }
+    ensures { result ≡ nat_le 33 (length (children_of entry.now)) }
 {
     let mut left = FEW_CHILDREN;
     for _child in entry.children() {
