@@ -22,7 +22,7 @@ pub fn append_calls(alloc: Global, unit: &Unit, answer: &mut String) -> Result<(
 }
 
 /// How many bytes a writer has that takes so many calls whole and fails at the next, and whether the unit was written.
-fn written_by(alloc: Global, unit: &Unit, calls: u64) -> (usize, bool) {
+pub fn written_by(alloc: Global, unit: &Unit, calls: u64) -> (usize, bool) {
     let device = Stepped::failing(Vec::new(alloc), usize::MAX, calls, ErrorKind::Other);
     let mut writer = Watched::new(device);
     let is_whole = write_unit(unit, &mut writer).is_ok();

@@ -9,13 +9,17 @@ mod ask;
 mod build;
 mod calls;
 mod entries;
+mod judged;
+mod made;
 mod put;
 mod reading;
+mod rule;
 mod show;
 mod steps;
 mod unit;
 mod values;
 
+use crate::judged::judge_calls;
 use case_file::{case_of, is_answered};
 use std::alloc::{AllocError, Global};
 use std::rt::Files;
@@ -39,7 +43,7 @@ fn main(rt: HostRuntime) -> io::Result<()> {
     for file in FILES {
         judge_file(&rt, file)?;
     }
-    Ok(())
+    judge_calls(&rt)
 }
 
 fn judge_file(rt: &(impl AllocGlobal + Files + Print), file: &str) -> io::Result<()> {
