@@ -248,6 +248,12 @@ def build(folder, crate):
     return ran.seconds
 
 
+def count_with_room(one, count):
+    """How many clones of this size there may be, this one among them: they take half of the room on the disk at the most."""
+    size = sum(os.lstat(os.path.join(at, it)).st_size for at, _, names in os.walk(one) for it in names)
+    return max(1, min(count, 1 + shutil.disk_usage(one).free // 2 // max(size, 1)))
+
+
 def copy_of(one, other):
     """Copies a clone whole, in which nothing runs."""
     ran = run(["cp", "-a", one, other], os.path.dirname(one))

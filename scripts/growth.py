@@ -7,7 +7,7 @@ PROGRAM is the built `dwarf` (crates/dwarf/out/dwarf). Units are made that grow 
 nesting, in attributes of a declaration, in declarations, and in the length of a text, each in four sizes, of which
 the next is twice the last. Valgrind counts the instructions of each run. Printed are the bytes of the largest
 section, the instructions that it takes for each of its bytes, and how many times as much the last doubling adds as
-the one before it. Linear growth gives 2. The status is 1 where a run fails or that number isn't between 1.8
+the one before it. Linear growth gives 2. The status is 1 where a run fails or that number isn't between 1.4
 and 2.2, or valgrind isn't there, else 0.
 """
 
@@ -115,7 +115,7 @@ def main(program):
                     continue
                 size, each, factor = got
                 print(f"| {way.__name__} | `{command}` | {size:,} | {each:.0f} | {factor:.2f} |")
-                well = well and 1.8 <= factor <= 2.2
+                well = well and 1.4 <= factor <= 2.2
     return 0 if well else 1
 
 

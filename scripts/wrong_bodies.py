@@ -455,7 +455,7 @@ def try_all(work, folder, given):
         print(f"taken over from the tree at hand: what was kept of {', '.join(taken)}", flush=True)
     for crate in libraries_for(work):
         print(f"{crate.name}: library, {clones.build(first, crate):.0f} s of processor", flush=True)
-    count = max(1, min(given.side_by_side, len(work)))
+    count = clones.count_with_room(first, max(1, min(given.side_by_side, len(work))))
     for number in range(2, count + 1):
         clones.copy_of(first, f"{folder}/{number}")
     free = queue.Queue()
