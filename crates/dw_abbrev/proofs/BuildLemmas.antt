@@ -43,8 +43,8 @@ no_zero width none = by (is_width width) refl
     by true e = let h : false ≡ true = none (zero_holds width e) in absurd cc
     by false e = refl
 
-pub zero_fits : (u : Uleb) → IsZero (uleb_of u) → uleb.Fits (zero_of u.width)
-zero_fits u e = subst (λ (v : Unsigned). uleb.Fits v) (zero_is (uleb_of u) e) (uleb_fits (uleb_of u) u.fits)
+pub zero_fits : (u : Uleb) → IsZero (uleb_of u) → UlebFits (zero_of u.width)
+zero_fits u e = subst (λ (v : Unsigned). UlebFits v) (zero_is (uleb_of u) e) u.fits
 
 pub least_zero : uleb.Fits (zero_of 1)
 least_zero = uleb_fits (zero_of 1) (zero_holds 1 refl)
@@ -86,9 +86,9 @@ constant_fits false form None e h = tt
 constant_fits true form (Some s) e h = sleb_fits (sleb_of s) s.fits
 constant_fits false form (Some s) e h = absurd cc
 
-pairs_fit : (before : List Item) (ps : List RustPair) (n f : Uleb) → IsZero (uleb_of n) → IsZero (uleb_of f) → ArePairs (map pair_of ps) → length before + length ps ≤ 1024
-    → ItemsFit pair_head is_end pair_rest before (map pair_parts (map pair_of ps)) (zero_of n.width, zero_of f.width)
-pairs_fit before [] n f zn zf h le = ((((zero_fits n zn, zero_fits f zf), refl), refl), refl)
+pairs_fit : (before : List Item) (ps : List RustPair) (n f : ℕ) → UlebFits (zero_of n) → UlebFits (zero_of f) → ArePairs (map pair_of ps) → length before + length ps ≤ 1024
+    → ItemsFit pair_head is_end pair_rest before (map pair_parts (map pair_of ps)) (zero_of n, zero_of f)
+pairs_fit before [] n f zn zf h le = ((((uleb_fits (zero_of n) zn, uleb_fits (zero_of f) zf), refl), refl), refl)
 pairs_fit before (p ∷ ps) n f zn zf h le =
     let w = is_whole (pair_of p) h.0 in
     let few : nat_lt (length before) 1024 ≡ true = lt-ltb (length before) 1024 (omega (arith, le)) in
@@ -101,8 +101,8 @@ flag_fits : (b : Bool) → (judged (fixed Little 1) bad_flag).Fits (if b then 1 
 flag_fits true = (omega arith, refl)
 flag_fits false = (omega arith, refl)
 
-pub declaration_fits : (code tag : Uleb) (children : Bool) (ps : List RustPair) (n f : Uleb) → IsZero (uleb_of n) → IsZero (uleb_of f) → is_null (uleb_of code) ≡ false → ArePairs (map pair_of ps) → length ps ≤ 1024
-    → DeclarationFits (record { code = uleb_of code; tag = uleb_of tag; children = children; pairs = map pair_of ps; name_zero = n.width; form_zero = f.width })
+pub declaration_fits : (code tag : Uleb) (children : Bool) (ps : List RustPair) (n f : ℕ) → UlebFits (zero_of n) → UlebFits (zero_of f) → is_null (uleb_of code) ≡ false → ArePairs (map pair_of ps) → length ps ≤ 1024
+    → DeclarationFits (record { code = uleb_of code; tag = uleb_of tag; children = children; pairs = map pair_of ps; name_zero = n; form_zero = f })
 declaration_fits code tag children ps n f zn zf some h le = record {
   code = uleb_fits (uleb_of code) code.fits;
   some = some;
@@ -155,7 +155,7 @@ no_declarations = ((least_zero, refl), refl)
 
 pub table_ended : (ds : List Declaration) (u : Uleb) → IsZero (uleb_of u) → table.Fits (ended ds 1) → table.Fits (ended ds u.width)
 unfolding table
-table_ended ds u e h = items_ended [] (map declaration_parts ds) 1 u.width (zero_fits u e) h
+table_ended ds u e h = items_ended [] (map declaration_parts ds) 1 u.width (uleb_fits (zero_of u.width) (zero_fits u e)) h
 
 pub table_added : (es : List (ℕ × Declaration)) (d : Declaration) → AreKeyed es → is_some (declared_in (decls_in es) d.code.value) ≡ false → DeclarationFits d
     → table.Fits (ended (decls_in es) 1) → table.Fits (ended (decls_in (es ++ (d.code.value, d) ∷ [])) 1)

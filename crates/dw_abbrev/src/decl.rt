@@ -11,7 +11,7 @@ ghost use Rattle.dw_abbrev.specs.PairView.{pair_of, pair_from};
 ghost use Rattle.dw_abbrev.specs.Prefix.{IsPrefix};
 ghost use Rattle.dw_abbrev.specs.Place.{Gives, IsErrorAt};
 
-use crate::fields::{flag_at, uleb_at, write_flag, write_uleb, zero};
+use crate::fields::{flag_at, kept_zero, uleb_at, write_flag, write_uleb, zero};
 use crate::pair::{MOST_PAIRS, Pair, misfit, pairs_at, write_pairs};
 use crate::prefix::FixedPrefix;
 use crate::refusal::TableRefusal;
@@ -27,15 +27,18 @@ pub struct Decl {
     code: Uleb,
     tag: Uleb,
     children: bool,
+    /// In how many bytes each of the two zeros behind the pairs is written: their numbers, of sixteen bytes each, would be a
+    /// third of what a declaration takes.
+    name_zero: u8,
+    form_zero: u8,
     pairs: Vec<Pair>,
     /// That of its entries' values, kept since each entry asks for it.
     prefix: FixedPrefix,
-    name_zero: Uleb,
-    form_zero: Uleb,
 }
 
 impl Model for Decl {
-    ghost use Rattle.dw_abbrev.specs.Table.{Declaration, IsZero};
+    ghost use Rattle.dw_leb.specs.Number.{UlebFits};
+    ghost use Rattle.dw_abbrev.specs.Table.{Declaration, zero_of};
 
     ghost Value = { Declaration };
 
@@ -46,9 +49,9 @@ impl Model for Decl {
     ghost use Rattle.dw_abbrev.specs.Prefix.{IsPrefix};
     ghost use Rattle.dw_abbrev.specs.Table.{is_null};
 
-    ghost view = { λ d. record { code = uleb_of d.code; tag = uleb_of d.tag; children = d.children; pairs = map pair_of d.pairs.items; name_zero = d.name_zero.width; form_zero = d.form_zero.width } };
+    ghost view = { λ d. record { code = uleb_of d.code; tag = uleb_of d.tag; children = d.children; pairs = map pair_of d.pairs.items; name_zero = d.name_zero; form_zero = d.form_zero } };
 
-    ghost invariant = { λ d. record { name_zero : IsZero (uleb_of d.name_zero); form_zero : IsZero (uleb_of d.form_zero); some : is_null (uleb_of d.code) ≡ false; pairs : ArePairs (map pair_of d.pairs.items); prefix : IsPrefix (map pair_of d.pairs.items) d.prefix } };
+    ghost invariant = { λ d. record { name_zero : UlebFits (zero_of d.name_zero); form_zero : UlebFits (zero_of d.form_zero); some : is_null (uleb_of d.code) ≡ false; pairs : ArePairs (map pair_of d.pairs.items); prefix : IsPrefix (map pair_of d.pairs.items) d.prefix } };
 }
 
 /// What is written, without what is kept of it.
@@ -59,8 +62,8 @@ impl fmt::Debug for Decl {
             .field("tag", &self.tag)
             .field("children", &self.children)
             .field("pairs", &self.pairs)
-            .field("name_zero", &self.name_zero)
-            .field("form_zero", &self.form_zero)
+            .field("name_zero", &kept_zero(self.name_zero))
+            .field("form_zero", &kept_zero(self.form_zero))
             .finish()
     }
 }
@@ -89,10 +92,10 @@ impl Decl {
             code,
             tag,
             children,
+            name_zero: name_zero.width,
+            form_zero: form_zero.width,
             pairs: Vec::new(alloc),
             prefix: FixedPrefix::empty(),
-            name_zero,
-            form_zero,
         })
     }
 
@@ -168,7 +171,7 @@ impl Decl {
     pub fn zeros(&self) -> (u8, u8)
         ensures { result ≡ (self.now.name_zero, self.now.form_zero) }
     {
-        (self.name_zero.width, self.form_zero.width)
+        (self.name_zero, self.form_zero)
     }
 
     /// Whether the declaration has more pairs than a table takes. Without that it fits one.
@@ -207,8 +210,8 @@ impl Decl {
         ensures written { Wrote (W.contents (inner_of writer.old)) (W.contents (inner_of writer.new)) (zeros_bytes self.now) result }
         ensures fault { fault_of writer.new ≡ writer_fault result }
     {
-        write_uleb(writer, self.name_zero)?;
-        write_uleb(writer, self.form_zero)
+        write_uleb(writer, kept_zero(self.name_zero))?;
+        write_uleb(writer, kept_zero(self.form_zero))
     }
 }
 
@@ -234,10 +237,10 @@ pub(crate) fn decl_at(
         code,
         tag,
         children,
+        name_zero: pairs.name_zero.width,
+        form_zero: pairs.form_zero.width,
         pairs: pairs.list,
         prefix,
-        name_zero: pairs.name_zero,
-        form_zero: pairs.form_zero,
     };
     Ok((decl, next))
 }

@@ -2,7 +2,7 @@
 //! written. Only the section's end bounds a table.
 ghost use Rattle.std.specs.Prelude.{◌≡◌, ◌<◌, ◌≤◌, length, None, IfOk, IfErr, IfSome, OnOk};
 ghost use Rattle.std.specs.Result.{result_err};
-ghost use Rattle.dw_leb.specs.Number.{uleb, sleb};
+ghost use Rattle.dw_leb.specs.Number.{UlebFits, uleb, sleb};
 ghost use Rattle.dw_leb.specs.View.{uleb_of, sleb_of};
 ghost use Rattle.dw_leb.specs.Watch.{inner_of, fault_of, writer_fault, Wrote};
 ghost use Rattle.dw_abbrev.specs.Table.{zero_of};
@@ -41,6 +41,18 @@ pub(crate) fn zero(width: u8) -> Result<Uleb, TableRefusal>
     match Uleb::with_width(0, width) {
         Some(number) => Ok(number),
         None => Err(TableRefusal::BadWidth),
+    }
+}
+
+/// The zero of which only the count of its bytes was kept.
+#[inline(always)]
+pub(crate) fn kept_zero(count: u8) -> Uleb
+    requires { UlebFits (zero_of count) }
+    ensures { uleb_of result ≡ zero_of count }
+{
+    match Uleb::with_width(0, count) {
+        Some(zero) => zero,
+        None => unreachable!(),
     }
 }
 
