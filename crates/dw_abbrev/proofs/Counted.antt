@@ -1,5 +1,5 @@
 -- A value more is counted by what its form tells.
-use Rattle.std.proofs.Common.{◌≡◌, ℕ, ◌+◌, Bool, true, false, List, [], ◌∷◌, ◌++◌, length, Option, Some, None, refl, sym, ap, ◌∙◌}
+use Rattle.std.proofs.Common.{◌≡◌, ℕ, ◌+◌, Bool, true, false, List, [], ◌∷◌, ◌++◌, length, Option, Some, None, refl}
 use Rattle.std.specs.Prelude.{is_some, not, ◌==◌, ◌||◌, ◌&&◌, if◌then◌else◌}
 use Rattle.dw_leb.specs.Number.{Unsigned, Signed}
 use Rattle.dw_form.specs.declared.size.FormSize.TheVariants.{Bytes}

@@ -1,5 +1,5 @@
 -- What the forms of the standard tell of the sizes of their values, as it stands in tables.
-use Rattle.std.proofs.Common.{◌≡◌, ℕ, zero, suc, ◌+◌, ◌<◌, ◌≤◌, ◌==◌, Bool, true, false, List, [], ◌∷◌, length, refl, ap, ◌∙◌, arith}
+use Rattle.std.proofs.Common.{◌≡◌, ℕ, zero, suc, ◌+◌, ◌<◌, ◌≤◌, ◌==◌, true, List, [], ◌∷◌, length, refl, ap, ◌∙◌, arith}
 use Rattle.std.specs.Prelude.{slice_index_or, nat_lt, is_some, not}
 use Rattle.std.proofs.lemmas.Bool.{ltb-true}
 use mir.Val.{bool_byte}

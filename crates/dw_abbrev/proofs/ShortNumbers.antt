@@ -1,11 +1,10 @@
 -- Numbers of one byte and of two.
 use Rattle.std.proofs.Common.{◌≡◌, ℕ, zero, suc, ◌+◌, ◌-◌, ◌*◌, ◌<◌, ◌≤◌, ◌^◌, Bool, true, false, List, [], ◌∷◌, length, take, drop, min, Option, Some, None, refl, sym, ap, subst, ◌∙◌, arith}
-use Rattle.std.specs.Prelude.{nat_lt, not, ◌==◌}
+use Rattle.std.specs.Prelude.{not, ◌==◌}
 use Rattle.std.proofs.lemmas.Bool.{lt-ltb, le-ltb}
 use Rattle.std.proofs.lemmas.List.{length-drop, take_all}
-use Rattle.std.proofs.Math.Nat.{min-eq_left}
 use Rattle.dw_leb.specs.Number.{Unsigned, above_u64}
-use Rattle.dw_leb.specs.Reader.{Outcome, Reader, mapped, judged_outcome, refused_if}
+use Rattle.dw_leb.specs.Reader.{Reader, mapped, judged_outcome, refused_if}
 use Rattle.dw_leb.specs.Decide.{found}
 use Rattle.dw_leb.specs.declared.errors.Reason.{Reason}
 use Rattle.dw_leb.specs.ReadNumber.{undigits, uleb_from, groups_of, groups_outcome, read_uleb}

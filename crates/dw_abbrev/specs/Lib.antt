@@ -4,6 +4,7 @@ pub mod DecideTable
 pub mod FewPairs
 pub mod Place
 pub mod PairView
+pub mod PairTaken
 pub mod TableView
 pub mod TableErrors
 pub mod Spelling

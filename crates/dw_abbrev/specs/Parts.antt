@@ -1,11 +1,9 @@
 -- What a value adds to the size of its entry, where its form tells it.
-use Rattle.std.specs.Prelude.{◌≡◌, ◌==◌, if◌then◌else◌, ℕ, Option, Some, None, is_some, Bool, true, false}
-use Rattle.std.proofs.Common.{refl}
+use Rattle.std.specs.Prelude.{◌==◌, if◌then◌else◌, ℕ, Option, Some, None}
 use Rattle.dw_form.specs.declared.size.FormSize.{FormSize}
-use Rattle.dw_form.specs.declared.size.FormSize.TheVariants.{Bytes, Address, Offset}
+use Rattle.dw_form.specs.declared.size.FormSize.TheVariants.{Bytes}
 use Rattle.dw_form.specs.FormSize.{told_form}
-use Rattle.dw_abbrev.specs.Table.{Pair}
-use Rattle.dw_abbrev.specs.Prefix.{told, bytes_in, addresses_in, offsets_in}
+use Rattle.dw_abbrev.specs.Prefix.{bytes_in, addresses_in, offsets_in}
 
 -- what the form of a pair tells, where a pair has a constant exactly under form 0x21
 abbrev pub told_by : ℕ → Option FormSize

@@ -1,8 +1,8 @@
 -- The values at the front of an entry whose sizes their forms tell (section 7.5.6).
-use Rattle.std.specs.Prelude.{◌≡◌, ◌≤◌, ◌⊎◌, ℕ, zero, suc, ◌+◌, ◌*◌, List, [], ◌∷◌, ◌++◌, length, take, slice_get, Option, Some, None, is_some, ◌==◌, ◌&&◌, if◌then◌else◌, Bool, true, false}
+use Rattle.std.specs.Prelude.{◌≡◌, ◌≤◌, ◌⊎◌, ℕ, zero, suc, ◌+◌, ◌*◌, List, [], ◌∷◌, ◌++◌, length, take, slice_get, Option, Some, None, is_some, ◌==◌, ◌&&◌, if◌then◌else◌}
 use Rattle.std.proofs.Common.{refl, sym, ap, subst, ◌∙◌, arith, length-append}
 use Rattle.std.proofs.lemmas.List.{take-append-le, take_all}
-use Rattle.dw_leb.specs.Number.{Signed, offset_size}
+use Rattle.dw_leb.specs.Number.{offset_size}
 use Rattle.dw_form.specs.declared.shape.Ctx.{Ctx}
 use Rattle.dw_form.specs.declared.size.FormSize.{FormSize}
 use Rattle.dw_form.specs.declared.size.FormSize.TheVariants.{Bytes, Address, Offset}

@@ -231,15 +231,16 @@ pub(crate) fn decl_at(
 {
     let (tag, behind_tag) = uleb_at(abbreviations, at)?;
     let (children, behind_flag) = flag_at(abbreviations, behind_tag)?;
-    let (pairs, next) = pairs_at(alloc, abbreviations, behind_flag)?;
-    let prefix = FixedPrefix::of(pairs.list.as_slice());
+    let mut pairs = Vec::new(alloc);
+    let (zeros, next) = pairs_at(&mut pairs, abbreviations, behind_flag)?;
+    let prefix = FixedPrefix::of(pairs.as_slice());
     let decl = Decl {
         code,
         tag,
         children,
-        name_zero: pairs.name_zero.width,
-        form_zero: pairs.form_zero.width,
-        pairs: pairs.list,
+        name_zero: zeros.name_zero.width,
+        form_zero: zeros.form_zero.width,
+        pairs,
         prefix,
     };
     Ok((decl, next))

@@ -1,5 +1,5 @@
 //! Attribute specifications: the pairs of name and form (section 7.5.3).
-ghost use Rattle.std.specs.Prelude.{◌≡◌, ◌<◌, ◌≤◌, true, false, length, None, IfOk, IfErr, IfSome, OnOk, map, option_map};
+ghost use Rattle.std.specs.Prelude.{◌≡◌, ◌<◌, ◌≤◌, true, false, [], length, None, IfOk, IfErr, IfSome, OnOk, map, option_map};
 ghost use Rattle.dw_leb.specs.View.{uleb_of, sleb_of};
 ghost use Rattle.dw_leb.specs.Watch.{inner_of, fault_of, writer_fault, Wrote};
 ghost use Rattle.dw_abbrev.specs.Spelling.{pair_bytes, pairs_bytes};
@@ -7,6 +7,7 @@ ghost use Rattle.dw_abbrev.specs.Table.{is_end as ends_pairs, refused_pair};
 ghost use Rattle.dw_leb.specs.ReadNumber.{read_uleb};
 ghost use Rattle.dw_abbrev.specs.ReadTable.{read_names, read_constant, read_pairs};
 ghost use Rattle.dw_abbrev.specs.PairView.{pair_of, pairs_of};
+ghost use Rattle.dw_abbrev.specs.PairTaken.{HasConstant};
 ghost use Rattle.dw_abbrev.specs.Place.{Gives, IsErrorAt};
 ghost use Rattle.dw_abbrev.specs.Build.{constant_belongs, pair_refusal, ArePairs};
 
@@ -14,7 +15,6 @@ use crate::fields::{fault, sleb_at, uleb_at, write_sleb, write_uleb};
 use crate::refusal::TableRefusal;
 use dw_leb::constants::form::DW_FORM_IMPLICIT_CONST;
 use dw_leb::{ReadError, Reason, Sleb, Uleb, Watched, WriteError};
-use std::alloc::Global;
 use std::io::Write;
 
 /// The most pairs of a declaration.
@@ -44,24 +44,21 @@ pub(crate) fn misfit(pair: Pair) -> Option<TableRefusal>
     None
 }
 
-/// The pairs of a declaration, and the two zeros that end them.
-#[derive(Drop)]
-pub(crate) struct Pairs {
-    pub(crate) list: Vec<Pair>,
+/// The two zeros that end the pairs of a declaration.
+#[derive(Clone, Copy)]
+pub(crate) struct Zeros {
     pub(crate) name_zero: Uleb,
     pub(crate) form_zero: Uleb,
 }
 
-impl Pairs {
-    /// These pairs, which this name and this form end.
+impl Zeros {
+    /// This name and this form, both 0.
     #[inline(always)]
-    fn ended(list: Vec<Pair>, name: Uleb, form: Uleb) -> Pairs
-        ensures list { result.list.items ≡ list.items }
+    fn of(name: Uleb, form: Uleb) -> Zeros
         ensures name_zero { result.name_zero ≡ name }
         ensures form_zero { result.form_zero ≡ form }
     {
-        Pairs {
-            list,
+        Zeros {
             name_zero: name,
             form_zero: form,
         }
@@ -166,58 +163,69 @@ fn constant_at(
     Ok((Some(constant), next))
 }
 
-/// The pairs at `at`, and where what follows begins. The vector grows by one pair at a time, each
-/// judged before.
+/// The pairs at `at` go to the list, which has none, and the result is the zeros behind them and where what follows
+/// begins. The list grows by one pair at a time, each judged before. (It is the caller's, since a result that holds a vector is
+/// copied byte by byte.)
 pub(crate) fn pairs_at(
-    alloc: Global,
+    list: &mut Vec<Pair>,
     abbreviations: &[u8],
     at: usize,
-) -> Result<(Pairs, usize), ReadError>
-    requires { at ≤ length abbreviations.now }
-    ensures ok { IfOk result (λ x. Gives read_pairs abbreviations.now at (pairs_of x.0) x.1) }
+) -> Result<(Zeros, usize), ReadError>
+    requires none { list.old.items ≡ [] }
+    requires within { at ≤ length abbreviations.now }
+    ensures ok { IfOk result (λ x. Gives read_pairs abbreviations.now at (pairs_of list.new.items x.0) x.1) }
     ensures forward { IfOk result (λ x. (at < x.1) × (x.1 ≤ length abbreviations.now)) }
     ensures zeros { IfOk result (λ x. (x.0.name_zero.value ≡ 0) × (x.0.form_zero.value ≡ 0)) }
-    ensures pairs { IfOk result (λ x. ArePairs (map pair_of x.0.list.items)) }
+    ensures pairs { OnOk result (ArePairs (map pair_of list.new.items)) }
     ensures err { IfErr result (λ e. IsErrorAt read_pairs abbreviations.now at e) }
 {
-    let mut list = Vec::new(alloc);
     let mut here = at;
     loop {
-        if let Some(((name, form), next)) = small_names_at(abbreviations, here, list.len()) {
+        if let Some(((name, form), behind)) = small_names_at(abbreviations, here, list.len()) {
             if is_end(name, form) {
-                return Ok((Pairs::ended(list, name, form), next));
+                return Ok((Zeros::of(name, form), behind));
             }
-            if form.value != DW_FORM_IMPLICIT_CONST {
-                list.push(Pair {
-                    name,
-                    form,
-                    constant: None,
-                })?;
-                here = next;
-                continue;
-            }
-            let (constant, behind) = constant_at(abbreviations, next, name, form)?;
-            list.push(Pair {
-                name,
-                form,
-                constant,
-            })?;
-            here = behind;
+            here = take_pair(list, abbreviations, behind, name, form)?;
             continue;
         }
         let ((name, form), behind) = names_at(abbreviations, here, list.len())?;
         if is_end(name, form) {
-            return Ok((Pairs::ended(list, name, form), behind));
+            return Ok((Zeros::of(name, form), behind));
         }
-        let (constant, next) = constant_at(abbreviations, behind, name, form)?;
-        let pair = Pair {
+        here = take_pair(list, abbreviations, behind, name, form)?;
+    }
+}
+
+/// The pair of a name and a form goes to the list, behind the others, with the constant that stands at `at` where it has one.
+/// The result is where what follows begins.
+#[inline(always)]
+fn take_pair(
+    list: &mut Vec<Pair>,
+    abbreviations: &[u8],
+    at: usize,
+    name: Uleb,
+    form: Uleb,
+) -> Result<usize, ReadError>
+    requires { at ≤ length abbreviations.now }
+    ensures ok { IfOk result (λ next. HasConstant abbreviations.now at name form next list.old.items list.new.items) }
+    ensures forward { IfOk result (λ next. (at ≤ next) × (next ≤ length abbreviations.now)) }
+    ensures err { IfErr result (λ e. IsErrorAt (read_constant (uleb_of name, uleb_of form)) abbreviations.now at e) }
+{
+    if form.value != DW_FORM_IMPLICIT_CONST {
+        list.push(Pair {
             name,
             form,
-            constant,
-        };
-        list.push(pair)?;
-        here = next;
+            constant: None,
+        })?;
+        return Ok(at);
     }
+    let (constant, next) = constant_at(abbreviations, at, name, form)?;
+    list.push(Pair {
+        name,
+        form,
+        constant,
+    })?;
+    Ok(next)
 }
 
 /// Writes pairs, one behind the other.

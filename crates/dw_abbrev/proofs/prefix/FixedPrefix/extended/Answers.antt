@@ -1,4 +1,4 @@
-use Rattle.std.proofs.Common.{◌≡◌, ◌+◌, ◌<◌, ◌≤◌, suc, length, None, inl, inr, refl, ◌∙◌, arith, rules}
+use Rattle.std.proofs.Common.{◌≡◌, None, inl, inr, refl, ◌∙◌, arith, rules}
 use Rattle.dw_abbrev.specs.PairView.{pair_of}
 use Rattle.dw_abbrev.specs.Parts.{told_by}
 use Rattle.dw_abbrev.specs.Prefix.{prefix_kept, prefix_stops}
