@@ -28,8 +28,9 @@ const MOST_VISITS: u16 = 1024;
 
 /// Appends the text of a type with a name, as a declaration would be written in C: of the type of a variable,
 /// a formal parameter or a member, and else of the entry itself. `strings` are the texts that names are in.
-/// The vector grows by its own allocator. `alloc` keeps what is needed of the children of functions and arrays while
-/// the text is made, so that each visit needn't look for it; where it has no memory the answer is the same.
+/// The vector grows by its own allocator. While the text is made, `alloc` keeps what is needed of entries with more than 32
+/// children, and from the 65th visit on of all, so that later visits needn't look for it; where it has no memory the answer is the
+/// same.
 ///
 /// Errors: `NoEntry` exactly where no entry begins at the id; `TypeTooBig` exactly where there is one, and its
 /// text needs more than 1,024 visits of types (it is refused before anything is appended); `NoMemory` only

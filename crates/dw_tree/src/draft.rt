@@ -30,8 +30,8 @@ use std::rc::Rc;
 /// A tree of entries that grows at one open place: below the entry that was begun last and isn't
 /// closed yet, or at the root's (section 2.3).
 ///
-/// What a call's `requires` asks for its caller has tested. So the calls answer only that memory was
-/// refused, and the draft holds then what it held.
+/// What a call's `requires` asks for its caller has tested. So an error says only that memory was
+/// refused, and the draft then holds what it held.
 #[derive(Debug, Drop)]
 pub struct TreeDraft {
     context: Ctx,

@@ -105,7 +105,7 @@ impl<'a> EntryRef<'a> {
     pub fn attr(&self, name: u64) -> Option<AttrRef<'a>>
         ensures { option_map attr_of result ≡ first_named name (attributes_of self.now) }
     {
-        // Nothing is decoded but the value that is asked for.
+        // Of the values before the one that is asked for only the ends are looked for.
         let mut attrs = self.attrs();
         if !attrs.has_name(name) {
             return None;

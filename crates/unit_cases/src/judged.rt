@@ -1,7 +1,7 @@
 //! Made units, each of which goes out by the calls that the rule says.
 //!
 //! A unit has a row before the one in question, that one twice, a null and a row of three bytes between. The row has its
-//! size on both sides of each bound, or as many values as a search may have for its own, and a code of one byte, two or three.
+//! size on both sides of each bound, or 30 to 33 or 1,024 values, and a code of one byte, two or three.
 use crate::calls::written_by;
 use crate::made::{append_table, append_unit};
 use crate::rule::{Kind, MadeRow, Values, append_ends};
@@ -12,15 +12,16 @@ use std::alloc::{AllocError, Global};
 use std::io;
 
 /// The sizes of the row in question.
-const SIZES: [usize; 12] = [31, 32, 33, 34, 127, 128, 129, 511, 512, 513, 514, 1025];
+const SIZES: [usize; 13] = [31, 32, 33, 34, 127, 128, 129, 135, 511, 512, 513, 514, 1025];
 
 /// How many values the row before it has, of one byte each.
-const FILLS: [usize; 4] = [0, 100, 380, 381];
+const FILLS: [usize; 5] = [0, 100, 380, 381, 382];
 
 /// The kinds of values of a row, one behind the other.
 #[derive(Clone, Copy)]
 pub enum Shape {
     Told,
+    Numbers,
     NumbersBetween,
     TextBehind,
     TextBefore,
@@ -32,6 +33,7 @@ impl Shape {
     fn name(self) -> &'static str {
         match self {
             Shape::Told => "told sizes",
+            Shape::Numbers => "numbers",
             Shape::NumbersBetween => "numbers between",
             Shape::TextBehind => "a text behind",
             Shape::TextBefore => "a text before",
@@ -45,6 +47,7 @@ impl Shape {
         let none = Values::Told(0);
         match self {
             Shape::Told => [Values::Told(size), none, none],
+            Shape::Numbers => [Values::Numbers(size / 2), Values::Told(size % 2), none],
             Shape::NumbersBetween => [
                 Values::Told(size.saturating_sub(8)),
                 Values::Numbers(2),
@@ -74,6 +77,7 @@ impl Shape {
 pub fn judge_calls(rt: &(impl AllocGlobal + Print)) -> io::Result<()> {
     for shape in [
         Shape::Told,
+        Shape::Numbers,
         Shape::NumbersBetween,
         Shape::TextBehind,
         Shape::TextBefore,
@@ -87,7 +91,7 @@ pub fn judge_calls(rt: &(impl AllocGlobal + Print)) -> io::Result<()> {
 
 fn judge_shape(rt: &(impl AllocGlobal + Print), shape: Shape) -> io::Result<()> {
     let mut calls = 0usize;
-    for index in 0..144usize {
+    for index in 0..195usize {
         match calls_of(rt.alloc(), &rows_of(shape, index))? {
             Ok(count) => calls = calls.saturating_add(count),
             Err(call) => {
@@ -98,15 +102,15 @@ fn judge_shape(rt: &(impl AllocGlobal + Print), shape: Shape) -> io::Result<()> 
             }
         }
     }
-    println!(rt; "calls, {}: 144 units, {calls} calls, same", shape.name())
+    println!(rt; "calls, {}: 195 units, {calls} calls, same", shape.name())
 }
 
 /// The rows of a unit by its number.
 fn rows_of(shape: Shape, index: usize) -> [MadeRow; 8] {
-    let fill = FILLS[index % 4];
-    let size = SIZES[index / 4 % 12];
-    let width = index / 48 % 3 + 1;
-    let null = (index / 4).wrapping_add(index) % 2 + 1;
+    let fill = FILLS[index % 5];
+    let size = SIZES[index / 5 % 13];
+    let width = index / 65 % 3 + 1;
+    let null = (index / 5).wrapping_add(index) % 2 + 1;
     let row = made(Kind::Leaf, width, shape.values(size.saturating_sub(width)));
     [
         bare(Kind::Branch, 1),
