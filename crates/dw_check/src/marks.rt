@@ -43,20 +43,7 @@ pub(crate) fn mark(
 pub(crate) fn kept_marks(kept: &Marks, code: u64) -> Option<&Vec<bool>>
     ensures { option_copied result ≡ get nat_eq kept.now code }
 {
-    match numbered(kept, code) {
-        Some(marks) => Some(marks),
-        None => kept.get(&code),
-    }
-}
-
-/// The marks that are kept of a code, where the codes that were kept before it are 1, 2 and so on: some compilers number the codes
-/// of a unit as its entries need them. They are found without a look-up by hash.
-#[inline(always)]
-fn numbered(kept: &Marks, code: u64) -> Option<&Vec<bool>>
-    ensures { IfSome result (λ marks. get nat_eq kept.now code ≡ Some marks.now) }
-{
-    let (key, marks) = kept.get_index(code.checked_sub(1)? as usize)?;
-    if *key == code { Some(marks) } else { None }
+    kept.get(&code)
 }
 
 /// The marks of a code of this table.

@@ -182,24 +182,6 @@ impl Coming {
         requires between { partial_in self.old.place.unfinished ≡ None }
         ensures { TakesOn self.old b.now self.new result.now }
     {
-        // Most entries have all their values by now.
-        if self.draft.is_unfinished() {
-            self.each_value(table, b)
-        } else {
-            b
-        }
-    }
-
-    /// The same, where there may be some.
-    #[inline(always)]
-    fn each_value<'a>(&mut self, table: &Table, b: &'a [u8]) -> &'a [u8]
-        requires over { table.now ≡ self.old.table }
-        requires stands { Keeps self.old }
-        requires has { HasPart self.old }
-        requires none_kept { NoneKept self.old }
-        requires between { partial_in self.old.place.unfinished ≡ None }
-        ensures { TakesOn self.old b.now self.new result.now }
-    {
         if self.draft.depth() == 0 {
             return b;
         }

@@ -26,13 +26,7 @@ const PART: usize = 8;
 const CHUNK: usize = 65_536;
 
 /// The most where the unit has no more: a larger piece of the stack would cost more than the unit.
-const TINY: usize = 256;
-
-/// The same of a larger unit.
 const SMALL: usize = 1024;
-
-/// The same of one that is larger still.
-const MIDDLE: usize = 4096;
 
 /// The unit of version 5 at the front of what the reader has left, in whatever pieces its bytes come. At `Ok`
 /// exactly the unit's bytes were taken.
@@ -194,16 +188,8 @@ fn body_from<R: Read>(
     ensures fault { fault_of reader.new ≡ reader_fault result }
 {
     let size = behind_header(header, unit_length);
-    if size <= TINY as u64 {
-        let mut chunk = [0u8; TINY];
-        return body_through(alloc, header, unit_length, table, reader, &mut chunk);
-    }
     if size <= SMALL as u64 {
         let mut chunk = [0u8; SMALL];
-        return body_through(alloc, header, unit_length, table, reader, &mut chunk);
-    }
-    if size <= MIDDLE as u64 {
-        let mut chunk = [0u8; MIDDLE];
         return body_through(alloc, header, unit_length, table, reader, &mut chunk);
     }
     let mut chunk = [0u8; CHUNK];

@@ -4,7 +4,7 @@ use Rattle.dw_tree.specs.Steps.{partial_in}
 use Rattle.dw_feed.specs.BodyFeed.{pairs_left}
 use Rattle.dw_feed.specs.EntrySteps.{NoneKept, TakesOn}
 use Rattle.dw_feed.specs.FeedInvariant.{context, frames_of, left}
-use Rattle.dw_feed.proofs.coming.Coming.each_value.Given as goal
+use Rattle.dw_feed.proofs.coming.Coming.values.Given as goal
 
 -- the values before this pair's are taken
 abbrev pub invariant-loop-pair : goal.invariant-loop-pair

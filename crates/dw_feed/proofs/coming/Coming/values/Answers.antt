@@ -4,7 +4,7 @@ use Rattle.dw_feed.specs.BodyFeed.{PartialUnit}
 use Rattle.dw_feed.specs.EntrySteps.{TakesOn}
 use Rattle.dw_feed.specs.FieldSteps.{keeps_stands}
 use Rattle.dw_feed.proofs.EntryLemmas.{none_part_of, on_keeps, on_with, size_within, left_with, none_kept_with, free_with, inside_with, context_with, pairs_with, next_is}
-use Rattle.dw_feed.proofs.coming.Coming.each_value.Goals as goal
+use Rattle.dw_feed.proofs.coming.Coming.values.Goals as goal
 
 pub next_value-requires-clause-next : goal.next_value-requires-clause-next
 next_value-requires-clause-next c =
