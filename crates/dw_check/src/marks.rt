@@ -1,6 +1,6 @@
 //! Which attributes of an entry have the name of an earlier one, and which are to be looked at at all. Its declaration tells
 //! that, once for all entries of its code.
-ghost use Rattle.std.specs.Prelude.{◌≡◌, [], nat_eq, map, option_copied, IfOk, IfSome, IsSome, None, Some, OnOk};
+ghost use Rattle.std.specs.Prelude.{◌≡◌, [], nat_eq, map, option_copied, IfOk, IsSome, None, OnOk};
 ghost use Rattle.indexmap.specs.IndexMap.{get};
 ghost use Rattle.dw_abbrev.specs.PairView.{pair_of};
 ghost use Rattle.dw_abbrev.specs.Table.{declared};
