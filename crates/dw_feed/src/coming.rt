@@ -306,10 +306,10 @@ impl Coming {
     {
         if pair.form.value == DW_FORM_INDIRECT && self.named.is_none() {
             self.named_form(pair, b)
-        } else if self.pending.is_empty() {
+        } else if self.named.is_none() && self.pending.is_empty() {
             self.own_value(pair, b)
         } else {
-            // With these bytes it was tried when they came.
+            // With what is there of it it was tried when that came.
             self.rest_of_value(pair, b)
         }
     }
