@@ -90,6 +90,8 @@ class Edit:
     clause: str = ""
     # What is checked: the keys of the proofs, by the names of the functions.
     functions: dict = field(default_factory=dict)
+    # The keys of the functions in which it stands, as this script names them: rattle's names, in `functions`, may be others.
+    within: set = field(default_factory=set)
     is_alone: bool = False
     kind: str = ""
     what: str = ""
@@ -99,6 +101,10 @@ class Edit:
 
     def set(self, kind, what=""):
         self.kind, self.what = kind, what
+
+    def keys(self):
+        """The proofs of what it changes."""
+        return self.within.union(self.functions.values())
 
 
 # ---- where an edit stands
@@ -208,6 +214,7 @@ def find_functions(edit, named):
         at = text.find(old)
         around = [it for it in functions_in(crate, path, text) if it.begin <= at and at + len(old) <= it.end] if path.endswith(".rt") else []
         edit.functions |= {it.name: it.key for it in around[-1:]}
+        edit.within |= {it.key for it in around[-1:]}
         edit.is_alone = edit.is_alone or not around
     if named:
         keys = {it.name: it.key for path in sources(crate) for it in functions_in(crate, path, text_of(crate, path))}
@@ -224,8 +231,8 @@ def plan(crate, edits):
     rounds = []
     for edit in edits:
         for others in rounds:
-            taken = {key for it in others for key in it.functions.values()}
-            is_free = taken.isdisjoint(edit.functions.values()) and not applied(crate, [*others, edit])[1]
+            taken = set().union(*(it.keys() for it in others))
+            is_free = taken.isdisjoint(edit.keys()) and not applied(crate, [*others, edit])[1]
             if is_free and not edit.is_alone and not others[0].is_alone:
                 others.append(edit)
                 break
@@ -339,7 +346,7 @@ def judge_all(crate, edits, said):
     for edit in edits:
         judge(edit, said, refused)
     # Where a function that no edit changes has a refused goal of its own, an edit reaches further than its body.
-    changed = {key for it in edits for key in it.functions.values()}
+    changed = set().union(*(it.keys() for it in edits))
     if {key for key, goals in refused.items() if any(goals.values())} - changed and len(edits) > 1:
         return halves(edits)
     return [[it] for it in edits if it.kind == UNCLEAR]
