@@ -215,6 +215,7 @@ impl Coming {
     {
         match plain_size(context, pair, bytes, lim) {
             PlainSize::Whole(size) => self.next_plain(pair, bytes, size),
+            PlainSize::NoBytes => self.next_plain(pair, bytes, 0),
             PlainSize::Cut => None,
             PlainSize::Untold => self.next_read(context, pair, bytes, lim),
         }

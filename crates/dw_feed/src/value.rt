@@ -57,7 +57,9 @@ pub(crate) fn told_size(context: Ctx, pair: &Pair) -> Option<usize>
 pub(crate) enum PlainSize {
     /// It is no text or block, and stands whole at the front, with so many bytes.
     Whole(usize),
-    /// It is none, and doesn't stand whole there, or is refused.
+    /// It has no bytes: it is a flag that is present, or a constant of its declaration.
+    NoBytes,
+    /// It is no text or block, and doesn't stand whole there, or is refused.
     Cut,
     /// Its form doesn't tell.
     Untold,
@@ -79,9 +81,9 @@ pub(crate) fn plain_size(context: Ctx, pair: &Pair, b: &[u8], lim: u64) -> Plain
                 PlainSize::Cut
             }
         }
-        Some(Shape::Present) => PlainSize::Whole(0),
+        Some(Shape::Present) => PlainSize::NoBytes,
         Some(Shape::Implicit) => match pair.constant {
-            Some(_) => PlainSize::Whole(0),
+            Some(_) => PlainSize::NoBytes,
             None => PlainSize::Untold,
         },
         Some(Shape::Uleb) => match number(b, lim) {

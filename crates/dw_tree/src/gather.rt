@@ -1,5 +1,5 @@
 //! Rows that are gathered, and written together.
-ghost use Rattle.std.specs.Prelude.{◌≡◌, ◌≤◌, ◌∷◌, ◌++◌, length, take, IsTrue, IsFalse, IfSome, map};
+ghost use Rattle.std.specs.Prelude.{◌≡◌, ◌≤◌, ◌-◌, ◌∷◌, ◌++◌, length, take, drop, IsTrue, IsFalse, IfSome, map};
 ghost use Rattle.dw_leb.specs.Number.{uleb};
 ghost use Rattle.dw_abbrev.specs.PairView.{pair_of};
 ghost use Rattle.dw_form.specs.Form.{IsContext};
@@ -131,26 +131,57 @@ fn put_values(
     ensures kept { Grown gathered.old.items gathered.new.items }
 {
     let (told, others) = told_front(ctx, decl);
-    let mut left = others;
     let mut run = heads;
-    let mut near = front_within(heads, most.saturating_sub(gathered.len()));
-    let mut size = told;
-    if size > near.len() {
-        return None;
+    let (mut size, mut left) = whole_values(ctx, others, run, told, room(most, gathered), pool);
+    while let Some((pair, others)) = left.split_first() {
+        put_bytes(front(run, size), most, gathered)?;
+        run = put_one(ctx, pair, behind(run, size), pool, most, gathered)?;
+        (size, left) = whole_values(ctx, others, run, 0, room(most, gathered), pool);
+    }
+    put_bytes(front(run, size), most, gathered)
+}
+
+/// Where the values without content that begin at `size` end, and the pairs of those behind them. What ends behind the first
+/// `room` bytes of the run isn't looked at.
+#[inline(always)]
+fn whole_values<'a>(
+    ctx: Ctx,
+    pairs: &'a [Pair],
+    run: &[u8],
+    size: usize,
+    room: usize,
+    _pool: &[u8],
+) -> (usize, &'a [Pair])
+    requires context { IsContext ctx }
+    requires here { Here ctx (map pair_of pairs.now) (drop size run.now) _pool.now }
+    requires within { size ≤ length run.now }
+    ensures joined { take size run.now ++ run_bytes ctx (map pair_of pairs.now) (drop size run.now) _pool.now ≡ take result.0 run.now ++ run_bytes ctx (map pair_of result.1.now) (drop result.0 run.now) _pool.now }
+    ensures here { Here ctx (map pair_of result.1.now) (drop result.0 run.now) _pool.now }
+    ensures within { result.0 ≤ length run.now }
+    ensures fewer { length result.1.now ≤ length pairs.now }
+{
+    let near = front_within(run, room);
+    let mut left = pairs;
+    let mut end = size;
+    if end > near.len() {
+        return (size, pairs);
     }
     while let Some((pair, others)) = left.split_first() {
-        match whole_end(ctx, pair.form.value, near, size) {
-            Some(end) => size = end,
-            None => {
-                put_bytes(front(run, size), most, gathered)?;
-                run = put_one(ctx, pair, behind(run, size), pool, most, gathered)?;
-                near = front_within(run, most.saturating_sub(gathered.len()));
-                size = 0;
-            }
+        match whole_end(ctx, pair.form.value, near, end) {
+            Some(next) => end = next,
+            None => return (end, left),
         }
         left = others;
     }
-    put_bytes(front(run, size), most, gathered)
+    (end, left)
+}
+
+/// How many bytes more there may be among the first `most`.
+#[inline(always)]
+fn room(most: usize, gathered: &Gathered) -> usize
+    ensures { result ≡ most - length gathered.now.items }
+{
+    most.saturating_sub(gathered.len())
 }
 
 /// As many bytes as there are, and at most so many.
@@ -213,7 +244,7 @@ fn put_bytes(bytes: &[u8], most: usize, gathered: &mut Gathered) -> Option<()>
     ensures put { IfSome result (λ x. gathered.new.items ≡ gathered.old.items ++ bytes.now) }
     ensures kept { Grown gathered.old.items gathered.new.items }
 {
-    if most.saturating_sub(gathered.len()) < bytes.len() {
+    if room(most, gathered) < bytes.len() {
         return None;
     }
     gathered.try_extend_from_slice(bytes).ok()

@@ -1,8 +1,6 @@
 use Rattle.std.proofs.Common.{◌≡◌, ◌∙◌, ◌++◌, List, ℕ, take, drop, map, sym, ap, append-nil, rules, length, []}
-use Rattle.dw_abbrev.specs.Table.{Pair}
 use Rattle.dw_abbrev.specs.PairView.{pair_of}
 use Rattle.dw_abbrev.specs.declared.pair.Pair.{Pair as RustPair}
-use Rattle.dw_tree.specs.RowHeads.{run_bytes}
 use Rattle.dw_tree.proofs.RunSteps.{none_left, no_items}
 use Rattle.dw_tree.proofs.ToldRuns.{begins}
 use Rattle.dw_tree.proofs.gather.plain_run.Goals as goal

@@ -11,9 +11,7 @@ invariant-loop-pair l =
       put : l.fn.gathered.items ++ run_bytes l.ctx l.decl.pairs l.heads l.pool ≡ l.gathered.items ++ (take l.size l.run ++ run_bytes l.ctx (map pair_of l.left) (drop l.size l.run) l.pool);
       kept : Grown l.fn.gathered.items l.gathered.items;
       here : Here l.ctx (map pair_of l.left) (drop l.size l.run) l.pool;
-      near : l.near ≡ take (length l.near) l.run;
-      short : length l.near ≤ length l.run;
-      within : l.size ≤ length l.near;
+      within : l.size ≤ length l.run;
     }
 
 abbrev pub decreases-loop-pair : goal.decreases-loop-pair
