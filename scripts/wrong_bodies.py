@@ -6,10 +6,11 @@ Usage: scripts/wrong_bodies.py [NAME..] [--must-fail] [--edit EDIT] [--from-noth
 
 A wrong body is a file crates/NAME/wrong/*.edit (with --must-fail crates/NAME/must-fail/*.edit too): lines `file: src/a.rt`, and then
 pairs `old: TEXT` and `new: TEXT`, where TEXT stands in that file exactly once. Where no body holds the text, a line `fn: a::T::f ..` names
-what is checked. A line `clause: GOAL` names a goal that has to be among the refused ones.
+what is checked, all whose proofs the edit can change; without one it is tried alone, over the whole crate. A line `clause: GOAL` names a goal that
+has to be among the refused ones.
 
 The goals of a function stand on the contracts of what it calls, and not on the bodies. So a round changes the bodies of many functions, at
-most one each, and one `rt check` tells what is refused of each function. What changes no body is tried alone. An edit passes where a goal of
+most one each, and one `rt check` tells what is refused of each function. An edit passes where a goal of
 its own function is refused. It fails where the function is proved (NOT REFUSED); where only a callee is refused, or nothing is told (NOT
 TRIED); where its proof file just names what the edit took away, or another goal than `clause:` is refused (WEAK); and where it
 can't be applied or compiled (BAD EDIT). A line is printed for each, with the function and the goals.
@@ -52,8 +53,8 @@ ONLY_NAMES = re.compile(r"has no field|is not in scope|has no `|was not admitted
 # The front end refuses a text, or the prover can't read it.
 UNREAD = re.compile(r"(?m)^(?:.*\berror\[|(?:\./)?(?:src|specs)/\S+:\d+:\d+: error: (?:(?!`[^`]*`: )|.*(?:is not in scope|has no field|is no name))).*$")
 
-# So few edits are tried without a library of their crate.
-FEW = 5
+# So few rounds are tried without a library of their crate, where no other crate needs it.
+FEW_ROUNDS = 2
 
 REFUSED, WEAK, ACCEPTED, BAD, UNCLEAR = "refused", "WEAK", "NOT REFUSED", "BAD EDIT", "NOT TRIED"
 
@@ -219,6 +220,7 @@ def find_functions(edit, named):
     if named:
         keys = {it.name: it.key for path in sources(crate) for it in functions_in(crate, path, text_of(crate, path))}
         edit.functions = {it: keys.get(it, it) for it in named}
+        edit.is_alone = False
     elif edit.is_alone:
         edit.functions = {}
 
@@ -488,9 +490,10 @@ def try_all(work, folder, given):
 
 
 def libraries_for(work):
-    """The crates whose libraries are built first: those below, and those of many edits, whose rounds then begin over what that kept."""
+    """The crates whose libraries are built first: those below, and those of many rounds, which then begin over what that kept."""
     below = [it for one in work for it in one.crate.below]
-    return [it for it in clones.with_all_below([it.crate for it in work]) if it in below or any(one.crate is it and len(one.to_try()) > FEW for one in work)]
+    of_many = [one.crate for one in work if len(plan(one.edits[0].crate, one.to_try())) > FEW_ROUNDS]
+    return [it for it in clones.with_all_below([it.crate for it in work]) if it in below or it in of_many]
 
 
 def main():

@@ -135,15 +135,26 @@ fn add_all(
         "debug-builder",
     ];
     allow(input, &words)?;
+    add_words(alloc, input, builder, text)?;
+    match clause(input, "add-each") {
+        Some(words) => add_each(alloc, words, builder, text),
+        None => Ok(()),
+    }
+}
+
+/// Adds the declarations that the case spells one by one.
+fn add_words(
+    alloc: Global,
+    input: &str,
+    builder: &mut TableBuilder,
+    text: &mut String,
+) -> Result<(), CaseError> {
     for clause in input.split(", ") {
         if let Some(words) = clause.strip_prefix("add ") {
             add(decl_with_pairs(alloc, words)?, builder, text)?;
         }
     }
-    match clause(input, "add-each") {
-        Some(words) => add_each(alloc, words, builder, text),
-        None => Ok(()),
-    }
+    Ok(())
 }
 
 /// `1 0x11 no 1 1 with 3 of 3 8`: a declaration with three pairs.
@@ -152,10 +163,16 @@ fn decl_with_pairs(alloc: Global, words: &str) -> Result<Decl, CaseError> {
     let (count, pair) = pairs.split_once(" of ").ok_or(CaseError::NoSuchCase)?;
     let count = number_of(count)?;
     let mut decl = decl_of(alloc, head)?;
-    for _ in 0..count {
-        put(&mut decl, pair)?;
-    }
+    put_often(&mut decl, pair, count)?;
     Ok(decl)
+}
+
+/// Puts the same pair so often.
+fn put_often(decl: &mut Decl, pair: &str, count: u64) -> Result<(), CaseError> {
+    for _ in 0..count {
+        put(decl, pair)?;
+    }
+    Ok(())
 }
 
 /// Adds a declaration, or says why it is handed back.

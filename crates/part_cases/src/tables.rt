@@ -55,9 +55,19 @@ fn read(alloc: Global, input: &str, section: &[u8], text: &mut String) -> Result
 /// Each table for which one keeper of tables is asked.
 fn ask_all(alloc: Global, input: &str, section: &[u8], text: &mut String) -> Result<(), CaseError> {
     let mut tables = Tables::new(alloc, section);
+    ask_each(alloc, input, section, &mut tables, text)
+}
+
+fn ask_each(
+    alloc: Global,
+    input: &str,
+    section: &[u8],
+    tables: &mut Tables<'_>,
+    text: &mut String,
+) -> Result<(), CaseError> {
     for word in words(input, "at")?.split_whitespace() {
         separate(" | ", text)?;
-        ask(alloc, input, section, number_of(word)?, &mut tables, text)?;
+        ask(alloc, input, section, number_of(word)?, tables, text)?;
     }
     Ok(())
 }
@@ -83,17 +93,33 @@ fn ask_anew(
     section: &[u8],
     text: &mut String,
 ) -> Result<(), CaseError> {
-    let mut tables = Tables::new(alloc, section);
+    let times = number(input, "times")?;
+    let offsets = words(input, "at")?;
+    let count = count_anew(
+        alloc,
+        offsets,
+        times,
+        section,
+        &mut Tables::new(alloc, section),
+    )?;
+    Ok(write!(text, "{count} as read anew")?)
+}
+
+fn count_anew(
+    alloc: Global,
+    offsets: &str,
+    times: u64,
+    section: &[u8],
+    tables: &mut Tables<'_>,
+) -> Result<u64, CaseError> {
     let mut count = 0u64;
-    for _ in 0..number(input, "times")? {
-        for word in words(input, "at")?.split_whitespace() {
-            if is_as_anew(alloc, section, number_of(word)?, &mut tables)? {
-                count = count.saturating_add(1);
-            }
+    for _ in 0..times {
+        for word in offsets.split_whitespace() {
+            let is_alike = is_as_anew(alloc, section, number_of(word)?, tables)?;
+            count = count.saturating_add(u64::from(is_alike));
         }
     }
-    write!(text, "{count} as read anew")?;
-    Ok(())
+    Ok(count)
 }
 
 /// Whether the table there is the one that is read anew, or refused as that is.

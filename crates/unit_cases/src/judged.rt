@@ -4,9 +4,9 @@
 //! size on both sides of each bound, or 30 to 33 or 1,024 values, and a code of one byte, two or three.
 use crate::calls::written_by;
 use crate::made::{append_table, append_unit};
+use crate::reading::{Input, read};
 use crate::rule::{Kind, MadeRow, Values, append_ends};
-use dw_abbrev::Tables;
-use dw_leb::{Order, ReadError};
+use dw_leb::Order;
 use dw_unit::{Unit, Versions};
 use std::alloc::{AllocError, Global};
 use std::io;
@@ -144,22 +144,16 @@ fn calls_of(alloc: Global, rows: &[MadeRow]) -> Result<Result<usize, usize>, All
     append_unit(rows, &mut bytes)?;
     let mut ends = Vec::new(alloc);
     append_ends(rows, &mut ends)?;
-    Ok(match read(alloc, section.as_slice(), bytes.as_slice()) {
-        Ok(unit) => compared(alloc, &unit, ends.as_slice()),
+    let input = Input {
+        order: Order::Little,
+        versions: Versions::Five,
+        section: section.as_slice(),
+        bytes: bytes.as_slice(),
+    };
+    Ok(match read(alloc, input) {
+        Ok((unit, _)) => compared(alloc, &unit, ends.as_slice()),
         Err(_) => Err(0),
     })
-}
-
-fn read(alloc: Global, section: &[u8], bytes: &[u8]) -> Result<Unit, ReadError> {
-    let mut tables = Tables::new(alloc, section);
-    let (unit, _) = dw_feed::read_unit_as(
-        alloc,
-        Order::Little,
-        Versions::Five,
-        &mut tables,
-        bytes,
-    )?;
-    Ok(unit)
 }
 
 /// A writer that takes so many calls whole and fails at the next has as many bytes as the rule says, until it fails at none.

@@ -1,8 +1,9 @@
 //! A unit that is read from bytes, and what is so of every one.
 use crate::agree::{from_a_reader, recursively};
+use crate::show::{append_error, append_fault};
 use crate::unit::append_said;
 use dw_abbrev::Tables;
-use dw_leb::{Fault, Order, ReadError, SectionId, Watched, WriteError};
+use dw_leb::{Order, ReadError, SectionId, Watched, WriteError};
 use dw_unit::{Unit, Versions, read_header_as, write_unit};
 use std::alloc::{AllocError, Global};
 
@@ -31,7 +32,8 @@ pub fn append_read(
     }
 }
 
-fn read(alloc: Global, input: Input<'_>) -> Result<(Unit, usize), ReadError> {
+/// The unit at the front of the input, and how many bytes it has.
+pub fn read(alloc: Global, input: Input<'_>) -> Result<(Unit, usize), ReadError> {
     let mut tables = Tables::new(alloc, input.section);
     dw_feed::read_unit_as(alloc, input.order, input.versions, &mut tables, input.bytes)
 }
@@ -57,22 +59,6 @@ fn append_refusal(
     append_error(error, answer)?;
     append_head_fault(input, error, answer)?;
     append_agreement(alloc, input, Err(error), answer)
-}
-
-/// Appends a fault as `REASON at OFFSET of SECTION`.
-fn append_error(error: ReadError, answer: &mut String) -> Result<(), AllocError> {
-    match error {
-        ReadError::Fault(fault) => append_fault(fault, answer),
-        error => write!(answer, "{error}"),
-    }
-}
-
-fn append_fault(fault: Fault, answer: &mut String) -> Result<(), AllocError> {
-    let section = match fault.section {
-        SectionId::Info => "info",
-        SectionId::Abbrev => "abbrev",
-    };
-    write!(answer, "{} at {} of {section}", fault.reason, fault.offset)
 }
 
 /// Says where a unit breaks what is so of each one: it has the size that its reader tells, is written as it was, and

@@ -2,7 +2,8 @@
 //! compile unit of this unit_length in the 32-bit format. It is answered for each piece with the count of its bytes that
 //! were taken and what was said, and with the fault at the end of the input. `held body of ..` is answered with what the
 //! feed holds after each piece too.
-use crate::input::{Input, Setting, feed_behind, front, is_written_as};
+use crate::feeds::input::{Input, Setting, feed_behind};
+use crate::reading::{front, is_written_as};
 use crate::show::{append_end, append_fault, separate};
 use case_file::append_named;
 use dw_feed::{BodyFeed, Progress};

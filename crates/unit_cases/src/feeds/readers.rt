@@ -4,7 +4,7 @@
 ghost use Rattle.std.specs.Prelude.{◌≡◌, None};
 ghost use Rattle.dw_leb.specs.Watch.{fault_of};
 
-use crate::input::{Input, Outcome, Setting};
+use crate::feeds::input::{Input, Outcome, Setting};
 use crate::show::append_error;
 use dw_abbrev::Tables;
 use dw_feed::read_unit_from_as;

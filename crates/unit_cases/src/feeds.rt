@@ -10,8 +10,7 @@
 //! - `fronts over TABLE: BYTES` and `changes over TABLE: BYTES`, as `agree` says.
 //!
 //! Before an input may stand `big`, else the byte order is little, and then `four`, by which units of version 4 are
-//! read too. Each line that differs is printed, and for each file how many cases it has.
-#![tactic(auto)]
+//! read too.
 
 mod agree;
 mod bodies;
@@ -20,18 +19,14 @@ mod heads;
 mod input;
 mod over;
 mod readers;
-mod show;
 
-use case_file::{case_of, is_answered};
 use dw_leb::Order;
 use dw_unit::Versions;
 use input::Setting;
 use std::alloc::{AllocError, Global};
-use std::rt::Files;
-use std::{fs, io};
 
-/// The files of cases, one for each topic.
-const FILES: [&str; 8] = [
+/// The files of their cases, one for each topic.
+pub const FILES: [&str; 8] = [
     "heads",
     "wants",
     "bodies",
@@ -42,36 +37,8 @@ const FILES: [&str; 8] = [
     "printed",
 ];
 
-fn main(rt: HostRuntime) -> io::Result<()> {
-    for file in FILES {
-        judge_file(&rt, file)?;
-    }
-    Ok(())
-}
-
-fn judge_file(rt: &(impl AllocGlobal + Files + Print), file: &str) -> io::Result<()> {
-    let text = fs::read_to_string(rt, file)?;
-    let count = judge_cases(rt, file, text.as_str())?;
-    println!(rt; "{file}: {count} cases")
-}
-
-/// Judges each case of a file, and answers how many there are.
-fn judge_cases(rt: &(impl AllocGlobal + Print), file: &str, text: &str) -> io::Result<u64> {
-    let mut answer = String::new(rt.alloc());
-    let mut count = 0u64;
-    for (index, line) in text.lines().enumerate() {
-        if let Some(case) = case_of(line) {
-            answer.clear();
-            append_answer(rt.alloc(), text, case.input, &mut answer)?;
-            is_answered(rt, file, index.saturating_add(1), case, answer.as_str())?;
-            count = count.saturating_add(1);
-        }
-    }
-    Ok(count)
-}
-
 /// Appends the answer to an input, in a file that may give names to bytes.
-fn append_answer(
+pub fn append_answer(
     alloc: Global,
     file: &str,
     input: &str,

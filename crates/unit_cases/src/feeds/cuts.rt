@@ -1,7 +1,7 @@
 //! A unit that is pushed in every way as two pieces behind its header, and byte by byte: `cuts over TABLE: BYTES`, answered
 //! with what comes of it in one piece, and how many cuts there are. All have to come to the same, after the same bytes.
-use crate::input::{Input, Outcome, behind_header, feed_behind};
-use crate::readers::append_outcome;
+use crate::feeds::input::{Input, Outcome, behind_header, feed_behind};
+use crate::feeds::readers::append_outcome;
 use dw_feed::{BodyFeed, Progress};
 use dw_leb::{Fault, ReadError};
 use std::alloc::{AllocError, Global};

@@ -1,9 +1,9 @@
 //! Questions over a section of abbreviation tables.
-use crate::agree::{append_changes, append_fronts};
-use crate::bodies::append_body;
-use crate::cuts::append_cuts;
-use crate::input::{Input, Setting};
-use crate::readers::append_read;
+use crate::feeds::agree::{append_changes, append_fronts};
+use crate::feeds::bodies::append_body;
+use crate::feeds::cuts::append_cuts;
+use crate::feeds::input::{Input, Setting};
+use crate::feeds::readers::append_read;
 use case_file::append_named;
 use std::alloc::{AllocError, Global};
 

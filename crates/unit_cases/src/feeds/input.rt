@@ -1,8 +1,9 @@
 //! Bytes over a section of tables, how they are read, and what came of it.
+use crate::reading::{front, is_written_as};
 use dw_abbrev::Tables;
 use dw_feed::BodyFeed;
-use dw_leb::{Order, ReadError, Watched, WriteError};
-use dw_unit::{Unit, Versions, read_header_as, write_unit};
+use dw_leb::{Order, ReadError};
+use dw_unit::{Unit, Versions, read_header_as};
 use std::alloc::Global;
 
 /// How bytes are read.
@@ -40,25 +41,6 @@ impl Outcome {
             Outcome::Otherwise
         }
     }
-}
-
-/// The first so many bytes, and all where there are fewer.
-pub fn front(bytes: &[u8], size: usize) -> &[u8] {
-    bytes.get(..size).unwrap_or(bytes)
-}
-
-/// Whether the unit is written as these bytes.
-pub fn is_written_as(alloc: Global, unit: &Unit, bytes: &[u8]) -> bool {
-    match written(alloc, unit) {
-        Ok(found) => found.as_slice() == bytes,
-        Err(_) => false,
-    }
-}
-
-fn written(alloc: Global, unit: &Unit) -> Result<Vec<u8>, WriteError> {
-    let mut writer = Watched::new(Vec::new(alloc));
-    write_unit(unit, &mut writer)?;
-    Ok(writer.into_inner())
 }
 
 /// A feed of the unit whose header is at the front of the input.

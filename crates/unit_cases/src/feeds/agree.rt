@@ -5,9 +5,10 @@
 //!
 //! The readers are one of bytes at hand, one that recurses, one over a reader that gives a byte a call, and a feed in
 //! pieces of one byte and in one piece.
-use crate::cuts::{at_once, is_pushed, pushed};
-use crate::input::{Input, Outcome, Setting, front};
-use crate::readers::read_by;
+use crate::feeds::cuts::{at_once, is_pushed, pushed};
+use crate::feeds::input::{Input, Outcome, Setting};
+use crate::feeds::readers::read_by;
+use crate::reading::front;
 use dw_abbrev::Tables;
 use std::alloc::{AllocError, Global};
 

@@ -6,7 +6,7 @@
 //!   something else was said than `more`, what was said to one more byte, and the fault at the end;
 //! - `head printed: PIECE | PIECE | ..`, answered for each piece as `head` is, and with the feed as `Debug` prints it;
 //! - `wants behind: BYTES`, answered with the count of bytes that a feed wants then.
-use crate::input::Setting;
+use crate::feeds::input::Setting;
 use crate::show::{append_end, append_fault, separate};
 use case_file::append_named;
 use dw_feed::{HeadFeed, Progress};

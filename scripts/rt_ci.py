@@ -1,0 +1,99 @@
+#!/usr/bin/env python3
+"""Runs `rt ci`, unless it has passed over this very tree on this machine.
+
+Usage: scripts/rt_ci.py [--anew] [--cache FOLDER]
+
+Some kits prove all anew at each `rt ci`, an hour or more of processor. So that it passed is kept, by a sum of all that it reads: the files in
+crates/, crates.txt, HANDLES, each file elsewhere that it would refuse or read, and the line of `rt version`. It isn't run again where that sum was
+kept and the programs that it left are there, byte for byte, since other steps of the gate run them. --anew runs it in any case. The last
+line is that of `rt ci`, `N passed, M failed`, and so is the status.
+"""
+
+import argparse
+import hashlib
+import json
+import os
+import subprocess
+import sys
+
+import clones
+
+# What `rt ci` reads, or refuses where no crate has it, wherever it lies.
+READ_ANYWHERE = (".rt", ".antt", ".edit", ".bazel")
+
+
+def is_read(path):
+    return path.startswith("crates/") or path in ("crates.txt", "HANDLES") or path.endswith(READ_ANYWHERE)
+
+
+def sum_of_tree():
+    """A sum of all that `rt ci` reads."""
+    listed = clones.git(["ls-files", "-z", "--cached", "--others", "--exclude-standard"], clones.TOP)
+    found = hashlib.sha256(clones.version().encode())
+    for path in sorted(filter(is_read, set(listed.split("\0")))):
+        whole = os.path.join(clones.TOP, path)
+        if os.path.isfile(whole):
+            found.update(f"{path} {sum_of_file(whole)}\n".encode())
+    return found.hexdigest()
+
+
+def sum_of_file(path):
+    with open(path, "rb") as file:
+        return hashlib.sha256(file.read()).hexdigest()
+
+
+def programs():
+    """The sums of the programs that stand in the tree, by their paths."""
+    found = {}
+    for name, crate in clones.crates_in(clones.TOP).items():
+        path = f"crates/{name}/out/{name}"
+        if os.path.isfile(f"{crate.path(clones.TOP)}/src/main.rt"):
+            whole = os.path.join(clones.TOP, path)
+            found[path] = sum_of_file(whole) if os.path.isfile(whole) else ""
+    return found
+
+
+def kept_in(place):
+    """The last line of a run that passed over this tree and left the programs that stand there."""
+    try:
+        kept = json.loads(clones.text_of(place))
+        return kept["verdict"] if kept["programs"] == programs() else ""
+    except (OSError, ValueError, KeyError):
+        return ""
+
+
+def run_anew(place):
+    """Runs `rt ci`, whose lines go through, keeps that it passed, and returns its status."""
+    last = ""
+    ran = subprocess.Popen(["rt", "ci"], cwd=clones.TOP, stdin=subprocess.DEVNULL, stdout=subprocess.PIPE, stderr=subprocess.STDOUT, text=True, errors="replace")
+    with ran:
+        try:
+            for line in ran.stdout:
+                print(line, end="", flush=True)
+                last = line.strip() or last
+        except BaseException:
+            ran.terminate()
+            raise
+    # (what changed while it ran isn't judged)
+    if ran.returncode == 0 and place.endswith(sum_of_tree()) and all(programs().values()):
+        os.makedirs(os.path.dirname(place), exist_ok=True)
+        with open(place, "w", encoding="utf-8") as file:
+            json.dump({"verdict": last, "programs": programs()}, file)
+    return ran.returncode
+
+
+def main():
+    ask = argparse.ArgumentParser(description=__doc__, formatter_class=argparse.RawDescriptionHelpFormatter)
+    ask.add_argument("--anew", action="store_true", help="run it in any case")
+    ask.add_argument("--cache", default=f"{os.environ.get('XDG_CACHE_HOME') or os.path.expanduser('~/.cache')}/rt_ci")
+    given = ask.parse_args()
+    place = f"{given.cache}/{sum_of_tree()}"
+    verdict = "" if given.anew else kept_in(place)
+    if not verdict:
+        return run_anew(place)
+    print(f"rt ci: it has passed over this tree on this machine\n{verdict}")
+    return 0
+
+
+if __name__ == "__main__":
+    clones.ended_well("rt_ci.py", main)
