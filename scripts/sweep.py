@@ -1,0 +1,108 @@
+#!/usr/bin/env python3
+"""Hands changed sections to the program and to an independent reader (scripts/reference.py), and compares what they answer.
+
+Usage: scripts/sweep.py PROGRAM [COUNT [SEED]]
+
+PROGRAM is the built `dwarf` (crates/dwarf/out/dwarf). The sections of each case in `cases/` that has at most 300 bytes of .debug_info, and those
+of texts, are changed COUNT times (10 by default): cut off, or with a byte changed, put in or taken out in one of them. Over each, `show`, `check`
+and `copy`, `find` by a name, and `type` and `set` at an entry or beside one have to write the same, say the same on standard error and end with the
+same status. Each difference is printed with its bytes. The last line is `N runs, M differ`, and the status is 0 where none does.
+"""
+
+import glob
+import os
+import random
+import subprocess
+import sys
+import tempfile
+
+import reference
+from case_reader import FILES, TOP, Reader
+
+MOST = 300
+
+
+def inputs():
+    """The files of the cases, each once, by their contents."""
+    found = {}
+    for name in sorted(glob.glob(os.path.join(TOP, "cases", "*"))):
+        with open(name, encoding="utf-8") as file:
+            for case in Reader(os.path.relpath(name, TOP), file.read()).cases:
+                if "abbrev" in case.files and len(case.files.get("info", b"")) in range(1, MOST):
+                    found.setdefault(tuple(sorted(case.files.items())), b"--big" in case.words)
+    return [(dict(files), is_big) for files, is_big in found.items()]
+
+
+def changed(files, chance):
+    """The files, one of which is cut off or has a byte changed, put in or taken out."""
+    name = chance.choice([it for it in files if files[it]] or ["info"])
+    content = files[name]
+    at = chance.randrange(len(content) + 1)
+    byte = bytes([chance.randrange(256)])
+    how = chance.choice([b"", byte + content[at + 1 :], byte + content[at + 1 :], byte + content[at:], content[at + 1 :]])
+    return {**files, name: content[:at] + how}
+
+
+def commands(section, chance):
+    """What is asked of a section, which is None where it faults."""
+    entries = [entry for unit in section.units() for entry in unit.entries] if section else []
+    entry = chance.choice(entries) if entries else None
+    offset = entry.offset + chance.choice([0, 0, 0, 1]) if entry else chance.randrange(40)
+    name = chance.choice([it.name for it in entry.values] or [1]) if entry else 3
+    yield from (["show"], ["check"], ["copy"], ["find", chance.choice("abx")], ["type", str(offset)])
+    yield ["set", str(offset), str(name), str(chance.choice([0, 1, offset, 127, 128, 255, 256, 2**32, 2**64]))] + chance.choice([[], [], ["--minus"]])
+
+
+def answered(files, is_big, is_four, words):
+    """What the independent reader writes and says, and its status."""
+    flags = {it for it in words if it == "--minus"}
+    others = reference.judged_words(words[0], [it for it in words[1:] if it not in flags])
+    try:
+        section = reference.read_section(files["info"], files["abbrev"], is_big, (4, 5) if is_four else (5,), files)
+        output, status = reference.answer(words[0], section, others, flags)
+        return output, b"", status
+    except reference.Fault as fault:
+        return b"", f"fault {fault}\n".encode(), 1
+    except reference.Refused as why:
+        return b"", f"refused {why}\n".encode(), 1
+
+
+def ran(program, files, is_big, is_four, words):
+    with tempfile.TemporaryDirectory() as room:
+        options = ["--big"] * is_big + ["--v4"] * is_four
+        for name in FILES:
+            if name in files:
+                options += [f"--{name}", name]
+                with open(os.path.join(room, name), "wb") as file:
+                    file.write(files[name])
+        said = subprocess.run([program, *words, *options], cwd=room, stdin=subprocess.DEVNULL, capture_output=True)
+    return said.stdout, said.stderr, said.returncode
+
+
+def read(files, is_big, is_four):
+    try:
+        return reference.read_section(files["info"], files["abbrev"], is_big, (4, 5) if is_four else (5,), files)
+    except reference.Fault:
+        return None
+
+
+def main(program, count="10", seed="1"):
+    sys.setrecursionlimit(100_000)
+    program, chance = os.path.abspath(program), random.Random(int(seed))
+    runs = differ = 0
+    for files, is_big in inputs():
+        for _ in range(int(count)):
+            new, is_four = changed(files, chance), chance.random() < 0.3
+            for words in commands(read(new, is_big, is_four), chance):
+                want, got = answered(new, is_big, is_four, words), ran(program, new, is_big, is_four, words)
+                runs += 1
+                if want != got:
+                    differ += 1
+                    print(f"{' '.join(words)}{' --big' * is_big}{' --v4' * is_four}", *(f"{name} {it.hex()}" for name, it in new.items()), sep="\n  ")
+                    print(f"  wanted {want}\n  came   {got}")
+    print(f"{runs} runs, {differ} differ")
+    return 1 if differ or not runs else 0
+
+
+if __name__ == "__main__":
+    sys.exit(main(*sys.argv[1:]) if len(sys.argv) > 1 else __doc__)
