@@ -1,12 +1,14 @@
 #!/usr/bin/env python3
-"""Hands changed sections to the program and to an independent reader (scripts/reference.py), and compares what they answer.
+"""Hands sections to the program and to an independent reader (scripts/reference.py), and compares what they answer.
 
 Usage: scripts/sweep.py PROGRAM [COUNT [SEED]]
 
-PROGRAM is the built `dwarf` (crates/dwarf/out/dwarf). The sections of each case in `cases/` that has at most 300 bytes of .debug_info, and those
-of texts, are changed COUNT times (10 by default): cut off, or with a byte changed, put in or taken out in one of them. Over each, `show`, `check`
-and `copy`, `find` by a name, and `type` and `set` at an entry or beside one have to write the same, say the same on standard error and end with the
-same status. Each difference is printed with its bytes. The last line is `N runs, M differ`, and the status is 0 where none does.
+PROGRAM is the built `dwarf` (crates/dwarf/out/dwarf). Handed over are, in turn, COUNT times (10,000 by default): a section that is made at random by
+the grammar (scripts/made.py); the same changed; and the sections of a case in `cases/` changed, of those that have at most 300 bytes of
+.debug_info. Changed is one of the files: cut off, or with a byte changed, put in or taken out. Over each, `show`, `check` and `copy`, `find` by a
+name, and `type` and `set` at an entry or beside one have to write the same, say the same on standard error and end with the same status; a
+section that is made has no fault. Each difference is printed with its bytes. The last line is `N sections, N runs, M differ`, and the status is
+0 where none does.
 """
 
 import glob
@@ -18,6 +20,7 @@ import tempfile
 
 import reference
 from case_reader import FILES, TOP, Reader
+from made import Maker
 
 MOST = 300
 
@@ -86,21 +89,32 @@ def read(files, is_big, is_four):
         return None
 
 
-def main(program, count="10", seed="1"):
+def sections(count, chance):
+    """Sections, and whether they are big-endian, are of version 4 too, and have no fault."""
+    of_cases = inputs()
+    for turn in range(count):
+        if turn % 3 == 2:
+            files, is_big = chance.choice(of_cases)
+            yield changed(files, chance), is_big, chance.random() < 0.3, False
+        else:
+            files, is_big, is_four = Maker(chance).section()
+            yield (files, is_big, is_four, True) if turn % 3 == 0 else (changed(files, chance), is_big, is_four, False)
+
+
+def main(program, count="10000", seed="1"):
     sys.setrecursionlimit(100_000)
     program, chance = os.path.abspath(program), random.Random(int(seed))
     runs = differ = 0
-    for files, is_big in inputs():
-        for _ in range(int(count)):
-            new, is_four = changed(files, chance), chance.random() < 0.3
-            for words in commands(read(new, is_big, is_four), chance):
-                want, got = answered(new, is_big, is_four, words), ran(program, new, is_big, is_four, words)
-                runs += 1
-                if want != got:
-                    differ += 1
-                    print(f"{' '.join(words)}{' --big' * is_big}{' --v4' * is_four}", *(f"{name} {it.hex()}" for name, it in new.items()), sep="\n  ")
-                    print(f"  wanted {want}\n  came   {got}")
-    print(f"{runs} runs, {differ} differ")
+    for files, is_big, is_four, is_valid in sections(int(count), chance):
+        section = read(files, is_big, is_four)
+        for words in commands(section, chance):
+            want, got = answered(files, is_big, is_four, words), ran(program, files, is_big, is_four, words)
+            runs += 1
+            if want != got or is_valid and not section:
+                differ += 1
+                print(f"{' '.join(words)}{' --big' * is_big}{' --v4' * is_four}", *(f"{name} {it.hex()}" for name, it in files.items()), sep="\n  ")
+                print(f"  wanted {want}\n  came   {got}")
+    print(f"{count} sections, {runs} runs, {differ} differ")
     return 1 if differ or not runs else 0
 
 

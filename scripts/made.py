@@ -1,0 +1,152 @@
+"""Sections of debugging entries made at random by the grammar (chapter 7 of the DWARF 5 standard): valid ones, of every form, kind, format and
+order, with numbers that are longer than they need be. scripts/sweep.py hands them to the program."""
+
+from reference import ADDRESS, ATTRIBUTES, BY_SIGNATURE, COUNTED, FIXED, IMPLICIT, IN_SECTION, IN_UNIT, INDIRECT, OFFSET, PRESENT, SLEB, STRING, STRX, TAGS, ULEB
+
+FORMS = (*FIXED, *ULEB, *SLEB, *COUNTED, STRING, PRESENT, IMPLICIT, INDIRECT)
+STRING_BASE = 0x72
+KINDS = {"compile": 1, "type": 2, "partial": 3, "skeleton": 4}
+
+# Attributes that mean something to a command stand more often.
+NAMES = (0x03, 0x03, 0x03, 0x49, 0x49, 0x01, 0x37, 0x2F, 0x27, 0x72, *ATTRIBUTES)
+TYPES = (0x0F, 0x10, 0x26, 0x35, 0x01, 0x21, 0x15, 0x05, 0x18, 0x24, 0x16, 0x34, 0x2E, 0x0D, *TAGS)
+
+
+class Maker:
+    """Makes one section. `chance` is a random.Random."""
+
+    def __init__(self, chance):
+        self.chance = chance
+        self.big, self.four = chance.random() < 0.4, chance.random() < 0.4
+        self.strings = b"".join(self.text() + b"\0" for _ in range(3)) + self.chance.choice([b"", b"no end"])
+        self.info, self.tables, self.decls = b"", b"", []
+
+    def section(self):
+        """The files of the program, and whether they are big-endian and of version 4 too."""
+        for _ in range(self.chance.randint(1, 3)):
+            self.add_table()
+        for _ in range(self.chance.randint(1, 4)):
+            self.info += self.other() if self.chance.random() < 0.2 else self.unit()
+        files = {"info": self.info, "abbrev": self.tables, "str": self.strings, "line-str": self.strings[::-1] + b"\0"}
+        files["str-offsets"] = bytes(8) + b"".join(self.fixed(self.chance.randrange(len(self.strings) + 3), 4) for _ in range(5))
+        return files, self.big, self.four
+
+    # ---- numbers and texts
+
+    def fixed(self, value, size):
+        return (value % 256**size).to_bytes(size, "big" if self.big else "little")
+
+    def leb(self, value, signed=False):
+        """A number, sometimes longer than it need be."""
+        groups = [value & 0x7F]
+        while not (-64 <= value < 64 if signed else value < 128):
+            value >>= 7
+            groups.append(value & 0x7F)
+        longer = min(self.chance.choice([0] * 9 + [1, 2, 15]), 16 - len(groups))
+        groups += [0x7F if signed and value < 0 else 0] * longer
+        return bytes([*(it | 0x80 for it in groups[:-1]), groups[-1]])
+
+    def number(self):
+        return self.chance.choice([0, 1, 2, 127, 128, 2**32 - 1, 2**63, 2**64 - 1, self.chance.randrange(300)])
+
+    def text(self):
+        return bytes(self.chance.choice(b'ab"\\\x01\xff') for _ in range(self.chance.randrange(4)))
+
+    # ---- tables
+
+    def add_table(self):
+        offset, decls = len(self.tables), {}
+        for code in self.chance.sample([1, 2, 3, 4, 200, 70_000, 2**64 - 1], self.chance.randint(1, 5)):
+            pairs = [self.pair() for _ in range(self.chance.randrange(5))]
+            if self.chance.random() < 0.4:
+                pairs.insert(0, (STRING_BASE, 0x17, 0))
+            decls[code] = self.chance.random() < 0.5, pairs
+            self.tables += self.leb(code) + self.leb(self.chance.choice([*TYPES, 0x4081])) + bytes([decls[code][0]])
+            for name, form, constant in pairs:
+                self.tables += self.leb(name) + self.leb(form) + (self.leb(constant, signed=True) if form == IMPLICIT else b"")
+            self.tables += self.leb(0) + self.leb(0)
+        self.tables += self.leb(0)
+        self.decls.append((offset, decls))
+
+    def pair(self):
+        form = self.chance.choice([*FORMS, *IN_UNIT, *STRX, STRING])
+        return self.chance.choice([*NAMES, 0x2001]), form, self.chance.choice([-1, 0, 1, -(2**63), 2**63 - 1])
+
+    # ---- items
+
+    def other(self):
+        """An item of a version or a type that isn't read."""
+        rest = self.chance.choice([b"", self.fixed(2, 2), self.fixed(5, 2) + b"\x07", self.fixed(6, 2) + self.text()])
+        return self.fixed(len(rest), 4) + rest if self.chance.random() < 0.7 else b"\xff" * 4 + self.fixed(len(rest), 8) + rest
+
+    def unit(self):
+        wide, size = (True, 8) if self.chance.random() < 0.3 else (False, 4)
+        offset, decls = self.chance.choice(self.decls)
+        header, address = self.header(offset, size)
+        start = (12 if wide else 4) + len(header)
+        body, offsets, places = self.tree(decls, start, address, size)
+        body += b"".join(self.leb(0) for _ in range(self.chance.choice([0, 0, 0, 1, 3])))
+        whole = bytearray((b"\xff" * 4 if wide else b"") + self.fixed(len(header) + len(body), size) + header + body)
+        for at, width, is_leb, is_global in places:
+            target = self.chance.choice(offsets) if self.chance.random() < 0.8 else self.chance.randrange(len(whole) + 5)
+            target += len(self.info) if is_global else 0
+            whole[at : at + width] = self.padded(target, width) if is_leb else self.fixed(target, width)
+        return bytes(whole)
+
+    def padded(self, value, width):
+        return bytes([value >> 7 * i & 0x7F | (0x80 if i < width - 1 else 0) for i in range(width)])
+
+    def header(self, offset, size):
+        """The fields behind the initial length, and the size of an address."""
+        address = self.chance.choice([1, 2, 4, 8, 8, 3])
+        if self.four and self.chance.random() < 0.4:
+            return self.fixed(4, 2) + self.fixed(offset, size) + bytes([address]), address
+        kind = self.chance.choice(list(KINDS))
+        header = self.fixed(5, 2) + bytes([KINDS[kind], address]) + self.fixed(offset, size)
+        if kind == "type":
+            header += self.fixed(self.chance.randrange(3), 8) + self.fixed(self.chance.randrange(20, 40), size)
+        return header + (self.fixed(self.number(), 8) if kind == "skeleton" else b""), address
+
+    def tree(self, decls, start, address, size):
+        """The bytes of a tree, the offsets of its entries, and the places of numbers that are to refer to one: where, how wide, whether in
+        LEB128, and whether from the front of the section."""
+        body, offsets, places, open_entries = b"", [], [], 0
+        while True:
+            code = self.chance.choice(list(decls))
+            has_children, pairs = decls[code]
+            if offsets and (self.chance.random() < 0.4 or open_entries > 4):
+                body += self.leb(0)
+                open_entries -= 1
+            else:
+                offsets.append(start + len(body))
+                body += self.leb(code)
+                for name, form, _ in pairs:
+                    at = start + len(body)
+                    value = self.value(form, address, size, name)
+                    body += value
+                    if form in IN_UNIT or form == IN_SECTION:
+                        places.append((at, len(value), form == 0x15, form == IN_SECTION))
+                open_entries += has_children
+            if not open_entries:
+                return body, offsets, places
+
+    def value(self, form, address, size, name):
+        if form == INDIRECT:
+            inner = self.chance.choice([it for it in FORMS if it not in (INDIRECT, IMPLICIT)])
+            return self.leb(inner) + self.value(inner, address, size, name)
+        if form in FIXED:
+            width = {ADDRESS: address, OFFSET: size}.get(FIXED[form], FIXED[form])
+            if name == STRING_BASE or form == BY_SIGNATURE:
+                return self.fixed(8 if name == STRING_BASE else self.chance.randrange(4), width)
+            few = 6 if form in STRX else len(self.strings) + 2 if FIXED[form] == OFFSET else None
+            return self.fixed(self.chance.randrange(few) if few else self.number(), width)
+        if form == 0x15:
+            return self.padded(0, self.chance.randint(2, 4))
+        if form in ULEB:
+            return self.leb(self.chance.randrange(6) if form in STRX else self.number())
+        if form in SLEB:
+            return self.leb(self.chance.choice([-1, 0, 63, 64, -64, -65, -(2**63), 2**63 - 1]), signed=True)
+        if form in COUNTED:
+            content = self.text()
+            return (self.fixed(len(content), COUNTED[form]) if COUNTED[form] else self.leb(len(content))) + content
+        return self.text().replace(b"\0", b"") + b"\0" if form == STRING else b""
