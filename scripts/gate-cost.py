@@ -25,8 +25,9 @@ import time
 
 import clones
 
-# The minutes of processor that the library of dw_leb took on the machine by which the budget is set.
-YARDSTICK = 1.25
+# The minutes of processor that the library of dw_leb took on the machine by which the budget is set: its check took 1.25, and where that
+# takes 1.79, all of `rt lib` takes 2.16.
+YARDSTICK = 1.51
 
 STEP = re.compile(r"gate: (.*): ([0-9.]+) \+ ([0-9.]+) s of processor, ([0-9.]+) s by the clock")
 LIBRARY = re.compile(r"(\w+): library, ([0-9]+) s of processor")
