@@ -4,8 +4,8 @@
 Usage: scripts/reference.py SUBCOMMAND --info FILE --abbrev FILE [--str FILE] [--line-str FILE] [--str-offsets FILE] [--big] [--v4] WORD..
 
 It takes the words of `dwarf` and writes what `dwarf` has to write, with the same lines on standard error and the same status; only the
-texts about words that aren't taken are its own. It is written from docs/definitions.md and the standard, and shares nothing with the
-sources of the program: so `scripts/cases.py scripts/reference.py cases/show ..` tries it by the cases of the program, and whoever writes a
+texts about words that aren't taken are its own. It follows the definitions in words (docs/definitions.md) and the standard, and shares nothing with
+the sources of the program: so `scripts/cases.py scripts/reference.py cases/show ..` tries it by the cases of the program, and whoever writes a
 reader of their own can compare with it. As a module it has `read_section`, `resolve`, `text_of`, `findings`, `type_text` and `set_number`.
 """
 
