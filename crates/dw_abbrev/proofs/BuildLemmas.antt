@@ -146,12 +146,43 @@ items_added before (y ∷ ys) x w fit some rest b n h =
     let p = neither (x.0.value == y.0.value) (is_among x.0.value ys) n in
     (h.0, items_added (before ++ y ∷ []) ys x w fit some rest (among_push x.0.value before y b p.0) p.1 h.1)
 
+-- one more item before all others
+items_led : (x : Unsigned × Described) (before xs : List (Unsigned × Described)) (w : ℕ) → is_null x.0 ≡ false → is_among x.0.value xs ≡ false → AreItems before xs w → AreItems (x ∷ before) xs w
+items_led x before [] w some new h = ((h.0.0, rw (turned x.0.value 0 some, unrepeated (is_among 0 before) h.0.1) refl), refl)
+items_led x before (y ∷ ys) w some new h =
+    let p = neither (x.0.value == y.0.value) (is_among x.0.value ys) new in (
+      ((h.0.0.0, rw (turned x.0.value y.0.value p.0, unrepeated (is_among y.0.value before) h.0.0.1) refl), h.0.1, h.0.2),
+      items_led x (before ++ y ∷ []) ys w some p.1 h.1,
+    )
+
+not_among : (ds : List Declaration) (code : ℕ) → declared_in ds code ≡ None → is_among code (map declaration_parts ds) ≡ false
+not_among [] code e = refl
+not_among (d ∷ ds) code e = by (code == d.code.value) refl e (not_among ds code)
+  where
+    by : (v : Bool) → (code == d.code.value) ≡ v → (if v then Some d else declared_in ds code) ≡ None → (declared_in ds code ≡ None → is_among code (map declaration_parts ds) ≡ false)
+        → (code == d.code.value) || is_among code (map declaration_parts ds) ≡ false
+    by true is f rest = absurd cc
+    by false is f rest = rw (is, rest f) refl
+
+-- one more declaration before all others
+pub table_led : (d : Declaration) (t : Table) → DeclarationFits d → declared_in t.declarations d.code.value ≡ None → table.Fits t → table.Fits (record { declarations = d ∷ t.declarations; last_zero = t.last_zero })
+unfolding table
+table_led d t fit new h = (
+  ((fit.code, refl), fit.some, fit.rest),
+  items_led (declaration_parts d) [] (map declaration_parts t.declarations) t.last_zero fit.some (not_among t.declarations d.code.value new) h,
+)
+
 abbrev pub ended : List Declaration → ℕ → Table
 ended ds width = record { declarations = ds; last_zero = width }
 
 pub no_declarations : table.Fits (ended [] 1)
 unfolding table
 no_declarations = ((least_zero, refl), refl)
+
+-- a table without declarations, whatever the width of its zero
+pub nothing_fits : (width : ℕ) → uleb.Fits (zero_of width) → table.Fits (ended [] width)
+unfolding table
+nothing_fits width fit = ((fit, refl), refl)
 
 pub table_ended : (ds : List Declaration) (u : Uleb) → IsZero (uleb_of u) → table.Fits (ended ds 1) → table.Fits (ended ds u.width)
 unfolding table

@@ -3,6 +3,7 @@ use Rattle.std.proofs.Common.{◌≡◌, ℕ, Bool, true, false, cond, eqb, List
 use Rattle.std.proofs.lemmas.Bool.{eqb-true}
 use Rattle.std.specs.List.{AllByRecursion}
 use Rattle.std.specs.Map.{lookup}
+use Rattle.indexmap.specs.IndexMap.{insert_entry}
 
 module _ {X V : Type 0} (value : X → V) (P : ℕ → V → Type 0) where
   -- what a look-up finds stands there
@@ -16,6 +17,11 @@ module _ {X V : Type 0} (value : X → V) (P : ℕ → V → Type 0) where
           subst (λ (y : X). P k (value y)) same (subst (λ (n : ℕ). P n (value e.1)) (sym (eqb-true k e.0 is)) h.0)
       by false is f rest = rest f
 
-  pub kept_more : (es : List (ℕ × X)) (k : ℕ) (x : X) → AllByRecursion (λ e. P e.0 (value e.1)) es → P k (value x) → AllByRecursion (λ e. P e.0 (value e.1)) (es ++ (k, x) ∷ [])
-  kept_more [] k x h p = (p, tt)
-  kept_more (e ∷ es) k x h p = (h.0, kept_more es k x h.1 p)
+  -- and what is put there in its place, or behind all others, too
+  pub kept_put : (es : List (ℕ × X)) (k : ℕ) (x : X) → AllByRecursion (λ e. P e.0 (value e.1)) es → P k (value x) → AllByRecursion (λ e. P e.0 (value e.1)) (insert_entry eqb es k x)
+  kept_put [] k x h p = (p, tt)
+  kept_put (e ∷ es) k x h p = by (eqb k e.0) refl (kept_put es k x h.1 p)
+    where
+      by : (v : Bool) → eqb k e.0 ≡ v → AllByRecursion (λ e. P e.0 (value e.1)) (insert_entry eqb es k x) → AllByRecursion (λ e. P e.0 (value e.1)) (cond v ((e.0, x) ∷ es) (e ∷ insert_entry eqb es k x))
+      by true is rest = (subst (λ (n : ℕ). P n (value x)) (eqb-true k e.0 is) p, h.1)
+      by false is rest = (h.0, rest)

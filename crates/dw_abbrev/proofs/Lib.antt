@@ -8,3 +8,5 @@ pub mod SpellLemmas
 pub mod Kept
 pub mod BuildLemmas
 mod BuildRows
+pub mod SharedLemmas
+pub mod RunLemmas

@@ -29,7 +29,7 @@ pairs_spelled before (p ∷ ps) n f fits =
     ∙ ap (λ (s : List ℕ). pair_bytes p ++ s) (pairs_spelled (before ++ pair_parts p ∷ []) ps n f fits.1)
     ∙ sym (append_assoc (pair_bytes p) (pairs_bytes ps) (uleb.spell n ++ uleb.spell f))
 
-declaration_spelled : (d : Declaration) → described.Fits (declaration_parts d).1 → uleb.spell d.code ++ described.spell (declaration_parts d).1 ≡ declaration_bytes d
+pub declaration_spelled : (d : Declaration) → described.Fits (declaration_parts d).1 → uleb.spell d.code ++ described.spell (declaration_parts d).1 ≡ declaration_bytes d
 declaration_spelled d fits =
     let rest = pairs_bytes d.pairs ++ zeros_bytes d in
     ap (λ (s : List ℕ). uleb.spell d.code ++ (uleb.spell d.tag ++ (flag_bytes d.children ++ s))) (pairs_spelled [] d.pairs (zero_of d.name_zero) (zero_of d.form_zero) fits.1.1)

@@ -1,6 +1,6 @@
 -- The steps of reading a table.
 use Rattle.std.proofs.Common.{◌≡◌, ◌-◌, ◌<◌, ◌≤◌, ℕ, Bool, true, false, cond, eqb, List, [], ◌∷◌, ◌++◌, length, drop, Option, Some, None, is_some, refl, sym, ap, subst, ◌∙◌, arith, inl, inr}
-use Rattle.std.specs.Prelude.{◌⊎◌, Result, Ok, Err, IfOk, IfErr, map, ◌||◌, if◌then◌else◌}
+use Rattle.std.specs.Prelude.{◌⊎◌, Result, Ok, Err, IfOk, IfSome, IfErr, map, ◌||◌, if◌then◌else◌}
 use Rattle.std.specs.Map.{lookup}
 use Rattle.std.proofs.lemmas.List.{map-append}
 use Rattle.dw_leb.specs.declared.errors.Reason.TheVariants.{DuplicateCode}
@@ -17,7 +17,7 @@ use Rattle.dw_abbrev.specs.ReadTable.{read_code, read_described, read_declaratio
 use Rattle.dw_abbrev.specs.DecideTable.{declarations_back, AreBytes-drop, table_decides}
 use Rattle.dw_abbrev.specs.Laws.{one_table_at, no_break_at}
 use Rattle.dw_abbrev.specs.TableView.{decls_in, AreKeyed}
-use Rattle.dw_abbrev.specs.TableErrors.{IsTableError, Declares, IsFault, refused_memory}
+use Rattle.dw_abbrev.specs.TableErrors.{IsScan, IsTableError, Declares, IsFault, refused_memory}
 use Rattle.dw_abbrev.specs.Place.{Gives, IsErrorAt, fault_at, checked_refuses, checked_passes, made_fails, made_gives, ReadTo, nothing_yet, one_item, items_end, head_fails, body_fails}
 
 -- ---- look-ups by code
@@ -148,6 +148,17 @@ pub only_that : (abbreviations : List ℕ) (offset : ℕ) (r : Result Table Read
     → (t : Table) → TableAt abbreviations offset t → IfOk r (λ x. x ≡ t) × IfErr r (λ e. e ≡ refused_memory)
 only_that abbreviations offset (Ok x) h k t at = (one_table_at abbreviations offset x t h at, tt)
 only_that abbreviations offset (Err e) h k t at = (tt, only_memory abbreviations offset t e at k)
+
+-- the same where a table may also be met
+pub some_there : (abbreviations : List ℕ) (offset : ℕ) → AreBytes abbreviations → offset < length abbreviations → (o : Option Table) → IfSome o (λ t. IsScan abbreviations offset t) → IfSome o (λ t. TableAt abbreviations offset t)
+some_there abbreviations offset fit lt None h = tt
+some_there abbreviations offset fit lt (Some t) h = table_at abbreviations offset fit lt t h.0 h.1
+
+pub only_that_one : (abbreviations : List ℕ) (offset : ℕ) (r : Result (Option Table) ReadError) → IfOk r (λ o. IfSome o (λ x. TableAt abbreviations offset x)) → IfErr r (λ e. IsTableError abbreviations offset e)
+    → (t : Table) → TableAt abbreviations offset t → IfOk r (λ o. IfSome o (λ x. x ≡ t)) × IfErr r (λ e. e ≡ refused_memory)
+only_that_one abbreviations offset (Ok (Some x)) h k t at = (one_table_at abbreviations offset x t h at, tt)
+only_that_one abbreviations offset (Ok None) h k t at = (tt, tt)
+only_that_one abbreviations offset (Err e) h k t at = (tt, only_memory abbreviations offset t e at k)
 
 pub no_memory : (e : ReadError) → IsFault e → e ≡ refused_memory → ⊥
 no_memory e h same = subst (λ (x : ReadError). IsFault x) same h

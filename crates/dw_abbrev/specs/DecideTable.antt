@@ -42,7 +42,7 @@ pairs_decides = repeated_decides pair_head is_end pair_rest (λ before. checked 
     (λ x. optional_decides (x.1.value == 0x21) sleb read_sleb sleb_decides)
     (λ before h fits. omega (arith, uleb_some h.0 fits.0.0.0, length-append (uleb.spell h.0) (uleb.spell h.1)))
 
-described_decides : Decides described read_described
+pub described_decides : Decides described read_described
 described_decides = then_decides _ _ _ _ uleb_decides (λ _. then_decides _ _ _ _ (judged_decides (fixed Little 1) (read_fixed Little 1) bad_flag (fixed_decides Little 1)) (λ _. pairs_decides))
 
 abbrev pub code_head : List (Unsigned × Described) → Part Unsigned

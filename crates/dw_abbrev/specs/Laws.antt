@@ -58,7 +58,7 @@ some_bytes before (x ∷ xs) end h =
     let rest = some_bytes (before ++ x ∷ []) xs end h.1 in
     omega (arith, rest, length-append (item_bytes code_head is_null (λ _. described) before x) (items_bytes code_head is_null (λ _. described) (before ++ x ∷ []) xs end))
 
-table_some : (t : Table) → table.Fits t → 0 < length (table.spell t)
+pub table_some : (t : Table) → table.Fits t → 0 < length (table.spell t)
 unfolding table
 table_some t h = some_bytes [] (map declaration_parts t.declarations) (zero_of t.last_zero) h
 

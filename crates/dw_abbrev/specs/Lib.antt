@@ -10,5 +10,6 @@ pub mod TableErrors
 pub mod Spelling
 pub mod Build
 pub mod Prefix
+pub mod Runs
 pub mod Parts
 pub mod Laws

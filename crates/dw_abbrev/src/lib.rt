@@ -4,11 +4,14 @@
 mod builder;
 mod decl;
 mod fields;
+mod known;
 pub mod laws;
 mod pair;
 mod parts;
 mod prefix;
 mod refusal;
+mod run;
+mod shared;
 mod table;
 mod tables;
 

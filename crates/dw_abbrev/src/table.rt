@@ -1,11 +1,10 @@
 //! Abbreviation tables (section 7.5.3).
-ghost use Rattle.std.specs.Prelude.{◌≡◌, ◌<◌, ◌≤◌, ◌∷◌, ◌++◌, [], length, map, nat_eq, None, Some, IfOk, IfSome, IfErr, OnOk, OnErr, option_copied};
+ghost use Rattle.std.specs.Prelude.{◌≡◌, ◌<◌, ◌≤◌, ◌∷◌, ◌++◌, [], length, map, nat_eq, None, Some, IfOk, IfSome, IfNone, IfErr, OnOk, OnErr, IsTrue, option_copied};
 ghost use Rattle.indexmap.specs.IndexMap.{get};
 ghost use Rattle.dw_leb.specs.View.{uleb_of};
 ghost use Rattle.dw_leb.specs.Watch.{inner_of, fault_of, writer_fault, Wrote};
-ghost use Rattle.dw_abbrev.specs.Spelling.{declarations_bytes};
 ghost use Rattle.dw_abbrev.specs.Table.{Table as Spelled, table as part, declared, declaration_parts, IsZero, TableAt};
-ghost use Rattle.dw_abbrev.specs.TableView.{decls_in, AreKeyed};
+ghost use Rattle.dw_abbrev.specs.TableView.{decls_in, joined, with_shared, AreKeyed};
 ghost use Rattle.dw_abbrev.specs.FewPairs.{FewPairs};
 ghost use Rattle.dw_abbrev.specs.TableErrors.{IsScan, IsTableError, Declares, IsFault, refused_memory};
 ghost use Rattle.dw_abbrev.specs.Place.{Gives, IsErrorAt};
@@ -13,16 +12,22 @@ ghost use Rattle.dw_abbrev.specs.ReadTable.{read_code, read_table};
 
 use crate::decl::{Decl, decl_at};
 use crate::fields::{fault, uleb_at, write_uleb};
+use crate::known::KnownOffsets;
+use crate::shared::{SharedRun, find_shared, share_all, write_decls, write_shared};
 use dw_leb::{Fault, ReadError, Reason, SectionId, Uleb, Watched, WriteError};
 use indexmap::IndexMap;
-use std::alloc::Global;
+use std::alloc::{AllocError, Global};
+use std::fmt;
 use std::io::Write;
 use std::marker::Model;
 
 /// An abbreviation table: declarations of distinct codes, and the zero that ends them.
-#[derive(Debug, Drop)]
+#[derive(Drop)]
 pub struct Table {
+    /// Those that are its own.
     decls: IndexMap<u64, Decl>,
+    /// Those behind them that other tables of the section have too. Few tables have any.
+    shared: Vec<SharedRun>,
     last_zero: Uleb,
 }
 
@@ -33,11 +38,43 @@ impl Model for Table {
 
     ghost use Rattle.dw_leb.specs.View.{uleb_of};
     ghost use Rattle.dw_abbrev.specs.Table.{table, IsZero};
-    ghost use Rattle.dw_abbrev.specs.TableView.{decls_in, AreKeyed};
+    ghost use Rattle.dw_abbrev.specs.TableView.{decls_in, with_shared, AreKeyed};
 
-    ghost view = { λ t. record { declarations = decls_in t.decls.entries; last_zero = t.last_zero.width } };
+    ghost view = { λ t. record { declarations = with_shared (decls_in t.decls.entries) t.shared.items; last_zero = t.last_zero.width } };
 
-    ghost invariant = { λ t. record { keyed : AreKeyed t.decls.entries; zero : IsZero (uleb_of t.last_zero); fits : table.Fits (record { declarations = decls_in t.decls.entries; last_zero = t.last_zero.width }) } };
+    ghost invariant = { λ t. record { keyed : AreKeyed t.decls.entries; zero : IsZero (uleb_of t.last_zero); fits : table.Fits (record { declarations = with_shared (decls_in t.decls.entries) t.shared.items; last_zero = t.last_zero.width }) } };
+}
+
+/// What is written, whether the table has it alone or not.
+impl fmt::Debug for Table {
+    fn fmt<W: fmt::Write>(&self, f: &mut fmt::Formatter<W>) -> fmt::Result {
+        f.debug_struct("Table")
+            .field("decls", &Declarations { table: self })
+            .field("last_zero", &self.last_zero)
+            .finish()
+    }
+}
+
+/// The declarations of a table, for `Debug`.
+#[derive(Drop)]
+struct Declarations<'t> {
+    table: &'t Table,
+}
+
+impl<'t> fmt::Debug for Declarations<'t> {
+    fn fmt<W: fmt::Write>(&self, f: &mut fmt::Formatter<W>) -> fmt::Result {
+        let table: &Table = self.table;
+        let mut out = f.debug_map();
+        for (code, decl) in &table.decls {
+            out.entry(code, decl);
+        }
+        for run in table.shared.as_slice() {
+            if let Some(entries) = run.entries() {
+                out.entries(entries.iter());
+            }
+        }
+        out.finish()
+    }
 }
 
 impl Table {
@@ -57,6 +94,32 @@ impl Table {
         ensures broken { IfErr result (λ e. IsTableError abbreviations.now offset e) }
         ensures memory { IfErr result (λ e. e ≡ refused_memory → Declares abbreviations.now offset) }
     {
+        match Table::read_unknown(
+            alloc,
+            abbreviations,
+            offset,
+            &mut KnownOffsets::none(alloc),
+        ) {
+            Ok(Some(table)) => Ok(table),
+            Ok(None) => unreachable!(),
+            Err(e) => Err(e),
+        }
+    }
+
+    /// The same where no declaration of the table is known yet, all of which are known then. None where one is: there another table was read.
+    pub(crate) fn read_unknown(
+        alloc: Global,
+        abbreviations: &[u8],
+        offset: u64,
+        known: &mut KnownOffsets,
+    ) -> Result<Option<Table>, ReadError>
+        ensures found { IfOk result (λ o. IfSome o (λ t. TableAt abbreviations.now offset t)) }
+        ensures only { (t : Spelled) → TableAt abbreviations.now offset t → IfOk result (λ o. IfSome o (λ x. x ≡ t)) × IfErr result (λ e. e ≡ refused_memory) }
+        ensures broken { IfErr result (λ e. IsTableError abbreviations.now offset e) }
+        ensures memory { IfErr result (λ e. e ≡ refused_memory → Declares abbreviations.now offset) }
+        ensures met { IfOk result (λ o. IfNone o (IsTrue known.old.keeps)) }
+        ensures inside { OnOk result (offset < length abbreviations.now) }
+    {
         if offset >= abbreviations.len() as u64 {
             return Err(ReadError::Fault(Fault {
                 section: SectionId::Abbrev,
@@ -64,25 +127,36 @@ impl Table {
                 reason: Reason::AbbrevOffset,
             }));
         }
-        Table::scan(alloc, abbreviations, offset as usize)
+        Table::scan(alloc, abbreviations, offset as usize, known)
     }
 
-    fn scan(alloc: Global, abbreviations: &[u8], at: usize) -> Result<Table, ReadError>
+    fn scan(
+        alloc: Global,
+        abbreviations: &[u8],
+        at: usize,
+        known: &mut KnownOffsets,
+    ) -> Result<Option<Table>, ReadError>
         requires { at ≤ length abbreviations.now }
-        ensures ok { IfOk result (λ t. IsScan abbreviations.now at t) }
+        ensures ok { IfOk result (λ o. IfSome o (λ t. IsScan abbreviations.now at t)) }
+        ensures met { IfOk result (λ o. IfNone o (IsTrue known.old.keeps)) }
         ensures err { IfErr result (λ e. IsErrorAt read_table abbreviations.now at e) }
         ensures memory { IfErr result (λ e. e ≡ refused_memory → Declares abbreviations.now at) }
     {
         let mut decls = IndexMap::new(alloc);
         let mut here = at;
         loop {
+            if known.has(here) {
+                return Ok(None);
+            }
             let (code, behind) = code_at(&decls, abbreviations, here)?;
             if code.value == 0 {
-                return Ok(Table {
+                return Ok(Some(Table {
                     decls,
+                    shared: Vec::new(alloc),
                     last_zero: code,
-                });
+                }));
             }
+            known.note(here)?;
             let (decl, next) = decl_at(alloc, abbreviations, behind, code)?;
             match keep(&mut decls, decl) {
                 Ok(_) => here = next,
@@ -98,7 +172,45 @@ impl Table {
         requires fits { part.Fits (record { declarations = decls_in decls.entries; last_zero = last_zero.width }) }
         ensures { result ≡ record { declarations = decls_in decls.entries; last_zero = last_zero.width } }
     {
-        Table { decls, last_zero }
+        let shared = Vec::new(*decls.allocator());
+        Table {
+            decls,
+            shared,
+            last_zero,
+        }
+    }
+
+    /// A table of declarations that others have too, and of the zero that ends them.
+    pub(crate) fn of_shared(alloc: Global, shared: Vec<SharedRun>, last_zero: Uleb) -> Table
+        requires zero { IsZero (uleb_of last_zero) }
+        requires fits { part.Fits (record { declarations = joined shared.items; last_zero = last_zero.width }) }
+        ensures { result ≡ record { declarations = joined shared.items; last_zero = last_zero.width } }
+    {
+        Table {
+            decls: IndexMap::new(alloc),
+            shared,
+            last_zero,
+        }
+    }
+
+    /// How many declarations the first of the runs has that the table shares, if it shares any.
+    pub(crate) fn first_shared(&self) -> usize {
+        match self.shared.as_slice().first() {
+            Some(run) => run.count(),
+            None => 0,
+        }
+    }
+
+    /// What the table shares, once more, and the zero behind it, if it has no declarations of its own.
+    pub(crate) fn shared_runs(&self) -> Result<Option<(Vec<SharedRun>, Uleb)>, AllocError>
+        ensures { IfOk result (λ o. IfSome o (λ x. (self.now ≡ record { declarations = joined x.0.items; last_zero = x.1.width }) × IsZero (uleb_of x.1))) }
+    {
+        if !self.decls.is_empty() {
+            return Ok(None);
+        }
+        let mut runs = Vec::new(*self.decls.allocator());
+        share_all(&mut runs, self.shared.as_slice())?;
+        Ok(Some((runs, self.last_zero)))
     }
 
     /// The declaration of a code.
@@ -109,7 +221,18 @@ impl Table {
     {
         match numbered(&self.decls, code) {
             Some(decl) => Some(decl),
-            None => self.decls.get(&code),
+            None => self.search(code),
+        }
+    }
+
+    /// The same by the code's hash, and then among what is shared.
+    #[inline(always)]
+    fn search(&self, code: u64) -> Option<&Decl>
+        ensures { option_copied result ≡ declared self.now code }
+    {
+        match self.decls.get(&code) {
+            Some(decl) => Some(decl),
+            None => find_shared(self.shared.as_slice(), code),
         }
     }
 
@@ -131,7 +254,8 @@ impl Table {
         ensures fits { part.Fits self.now }
         ensures fault { fault_of writer.new ≡ writer_fault result }
     {
-        write_decls(writer, &self.decls)?;
+        write_decls(writer, self.decls.as_slice())?;
+        write_shared(writer, self.shared.as_slice())?;
         write_uleb(writer, self.last_zero)
     }
 }
@@ -178,19 +302,4 @@ pub(crate) fn keep(decls: &mut IndexMap<u64, Decl>, decl: Decl) -> Result<(), De
         Ok(_) => Ok(()),
         Err(refused) => Err(refused.value.1),
     }
-}
-
-/// Writes declarations, one behind the other.
-fn write_decls<W: Write>(
-    writer: &mut Watched<W>,
-    decls: &IndexMap<u64, Decl>,
-) -> Result<(), WriteError>
-    requires { fault_of writer.old ≡ None }
-    ensures written { Wrote (W.contents (inner_of writer.old)) (W.contents (inner_of writer.new)) (declarations_bytes (decls_in decls.now.entries)) result }
-    ensures fault { fault_of writer.new ≡ writer_fault result }
-{
-    for decl in decls.values() {
-        decl.write(writer)?;
-    }
-    Ok(())
 }

@@ -1,21 +1,34 @@
 //! The tables of a section, read at need and shared.
-ghost use Rattle.std.specs.Prelude.{◌≡◌, ◌<◌, length, IfOk, IfErr};
-ghost use Rattle.dw_abbrev.specs.Table.{Table as Spelled, TableAt};
+ghost use Rattle.std.specs.Prelude.{◌≡◌, ◌<◌, ◌++◌, drop, length, IfOk, IfErr};
+ghost use Rattle.dw_leb.specs.View.{uleb_of};
+ghost use Rattle.dw_abbrev.specs.Table.{Table as Spelled, IsZero, TableAt};
+ghost use Rattle.dw_abbrev.specs.TableView.{decls_in, joined, AreKeyed};
 ghost use Rattle.dw_abbrev.specs.TableErrors.{IsTableError, refused_memory};
+ghost use Rattle.dw_abbrev.specs.Runs.{StandTogether, IsJoined};
 
+use crate::decl::Decl;
+use crate::known::KnownOffsets;
+use crate::run::{JoinedRun, Run};
+use crate::shared::{SharedRun, share_all};
 use crate::table::Table;
-use dw_leb::ReadError;
+use dw_leb::{ReadError, Uleb};
 use indexmap::IndexMap;
-use std::alloc::Global;
+use std::alloc::{AllocError, Global};
 use std::marker::Model;
 use std::rc::Rc;
 
 /// The tables of a section `.debug_abbrev`, each read when it is first asked for and kept by its
-/// offset.
+/// offset. Where tables have declarations in common, what they take grows with what each adds, and not with what it repeats.
+///
+/// Two tables that meet at the beginning of a declaration are the same from there on. Those of compilers never meet: each is read for itself.
+/// Where one meets what was read before (`known`), its declarations are read into a run, up to a table that is kept and shares
+/// at least twice as many in its first run. The table is the run and what that one shares, and from then on the run's other declarations begin
+/// such tables too, so that later ones meet them.
 #[derive(Debug, Drop)]
 pub struct Tables<'a> {
     alloc: Global,
     abbreviations: &'a [u8],
+    known: KnownOffsets,
     kept: IndexMap<u64, Rc<Table>>,
 }
 
@@ -39,6 +52,7 @@ impl<'a> Tables<'a> {
         Tables {
             alloc,
             abbreviations,
+            known: KnownOffsets::new(alloc),
             kept: IndexMap::new(alloc),
         }
     }
@@ -56,10 +70,125 @@ impl<'a> Tables<'a> {
         if let Some(table) = self.kept.get(&offset) {
             return Ok(table.clone()?);
         }
-        let read = Table::read(self.alloc, self.abbreviations, offset)?;
-        let table = Rc::new(self.alloc, read)?;
+        let read = Table::read_unknown(self.alloc, self.abbreviations, offset, &mut self.known)?;
+        match read {
+            Some(table) => self.keep(offset, table),
+            None => self.get_shared(offset),
+        }
+    }
+
+    /// The table at `offset`, which meets others: what it shares is kept, unless it breaks.
+    fn get_shared(&mut self, offset: u64) -> Result<Rc<Table>, ReadError>
+        requires { offset < length self.old }
+        ensures found { IfOk result (λ t. TableAt self.old offset t.value) }
+        ensures only { (t : Spelled) → TableAt self.old offset t → IfOk result (λ x. x.value ≡ t) × IfErr result (λ e. e ≡ refused_memory) }
+        ensures broken { IfErr result (λ e. IsTableError self.old offset e) }
+        ensures abbreviations { self.new ≡ self.old }
+    {
+        self.share(offset)?;
+        match self.kept.get(&offset) {
+            Some(table) => Ok(table.clone()?),
+            None => {
+                let table = Table::read(self.alloc, self.abbreviations, offset)?;
+                self.keep(offset, table)
+            }
+        }
+    }
+
+    /// Keeps a table under its offset.
+    fn keep(&mut self, offset: u64, table: Table) -> Result<Rc<Table>, ReadError>
+        requires { TableAt self.old offset table }
+        ensures found { IfOk result (λ t. t.value ≡ table) }
+        ensures memory { IfErr result (λ e. e ≡ refused_memory) }
+        ensures abbreviations { self.new ≡ self.old }
+    {
+        let table = Rc::new(self.alloc, table)?;
         let shared = table.clone()?;
         self.kept.insert(offset, table)?;
         Ok(shared)
+    }
+
+    /// Keeps the table at `offset`, which meets others, and those that begin with its declarations, by what they share. Where the table
+    /// breaks nothing is kept.
+    fn share(&mut self, offset: u64) -> Result<(), AllocError>
+        requires { offset < length self.old }
+        ensures { self.new ≡ self.old }
+    {
+        match JoinedRun::read(self.alloc, self.abbreviations, &self.kept, offset as usize)? {
+            Some(joined) => self.keep_all(joined),
+            None => Ok(()),
+        }
+    }
+
+    /// Keeps the tables that begin with the declarations of a run.
+    fn keep_all(&mut self, joined: JoinedRun) -> Result<(), AllocError>
+        requires { IsJoined self.old joined }
+        ensures { self.new ≡ self.old }
+    {
+        let JoinedRun {
+            run: Run { decls, starts },
+            rest,
+            last_zero,
+        } = joined;
+        let decls = Rc::new(self.alloc, decls)?;
+        self.keep_each(starts.as_slice(), &decls, rest.as_slice(), last_zero)
+    }
+
+    /// The same, where the declarations begin at `starts`.
+    fn keep_each(
+        &mut self,
+        starts: &[u64],
+        run: &Rc<IndexMap<u64, Decl>>,
+        rest: &[SharedRun],
+        last_zero: Uleb,
+    ) -> Result<(), AllocError>
+        requires keyed { AreKeyed run.now.value.entries }
+        requires zero { IsZero (uleb_of last_zero) }
+        requires stand { StandTogether self.old starts.now (decls_in run.now.value.entries) (record { declarations = joined rest.now; last_zero = last_zero.width }) }
+        ensures { self.new ≡ self.old }
+    {
+        let mut left = starts;
+        let mut from = 0;
+        while let Some((start, others)) = left.split_first() {
+            self.keep_from(*start, run, from, rest, last_zero)?;
+            left = others;
+            from += 1;
+        }
+        Ok(())
+    }
+
+    /// Keeps the table that begins at `start` with the run's declaration of the index `from`, unless what is kept there shares more than half
+    /// as much in its first run.
+    fn keep_from(
+        &mut self,
+        start: u64,
+        run: &Rc<IndexMap<u64, Decl>>,
+        from: usize,
+        rest: &[SharedRun],
+        last_zero: Uleb,
+    ) -> Result<(), AllocError>
+        requires keyed { AreKeyed run.now.value.entries }
+        requires zero { IsZero (uleb_of last_zero) }
+        requires stands { TableAt self.old start (record { declarations = decls_in (drop from run.now.value.entries) ++ joined rest.now; last_zero = last_zero.width }) }
+        ensures { self.new ≡ self.old }
+    {
+        let first = SharedRun::new(run.clone()?, from);
+        if self.first_shared_at(start) > first.count() / 2 {
+            return Ok(());
+        }
+        let mut runs = Vec::new(self.alloc);
+        runs.push(first)?;
+        share_all(&mut runs, rest)?;
+        let table = Rc::new(self.alloc, Table::of_shared(self.alloc, runs, last_zero))?;
+        self.kept.insert(start, table)?;
+        Ok(())
+    }
+
+    /// How many declarations the first shared run has of the table that is kept of `start`, if there is one.
+    fn first_shared_at(&self, start: u64) -> usize {
+        match self.kept.get(&start) {
+            Some(table) => table.first_shared(),
+            None => 0,
+        }
     }
 }

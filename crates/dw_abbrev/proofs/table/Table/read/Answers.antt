@@ -1,28 +1,7 @@
-use Rattle.std.proofs.Common.{arith}
-use Rattle.std.proofs.lemmas.Result.{IfOk-weaker, IfErr-weaker}
-use Rattle.dw_leb.specs.Field.{are_bytes}
-use Rattle.dw_abbrev.specs.Table.{TableAt}
-use Rattle.dw_abbrev.specs.TableErrors.{IsScan, IsTableError}
-use Rattle.dw_abbrev.specs.Place.{IsErrorAt}
-use Rattle.dw_abbrev.specs.ReadTable.{read_table}
-use Rattle.dw_abbrev.proofs.TableLemmas.{table_at, table_tells, only_that}
+use Rattle.std.proofs.Common.{◌≡◌, Option, subst}
+use Rattle.std.specs.Prelude.{IfSome}
+use Rattle.dw_abbrev.specs.Table.{Table}
 use Rattle.dw_abbrev.proofs.table.Table.read.Goals as goal
 
-pub returns-clause-found : goal.returns-clause-found
-returns-clause-found c =
-    IfOk-weaker c.scan.result (λ t. IsScan c.args.abbreviations.now c.args.offset t) (λ t. TableAt c.args.abbreviations.now c.args.offset t)
-    (λ t h. table_at c.args.abbreviations.now c.args.offset (are_bytes c.args.abbreviations.now (λ k. omega (arith, c.type_inv.abbreviations k))) c.if-offset-abbreviations.false t h.0 h.1) c.scan.ensures.ok
-
-pub returns-clause-broken : goal.returns-clause-broken
-returns-clause-broken c =
-    IfErr-weaker c.scan.result (λ e. IsErrorAt read_table c.args.abbreviations.now c.args.offset e) (λ e. IsTableError c.args.abbreviations.now c.args.offset e)
-    (λ e h. table_tells c.args.abbreviations.now c.args.offset (are_bytes c.args.abbreviations.now (λ k. omega (arith, c.type_inv.abbreviations k))) c.if-offset-abbreviations.false e h) c.scan.ensures.err
-
-pub returns-clause-only : goal.returns-clause-only
-returns-clause-only c =
-    let fit = are_bytes c.args.abbreviations.now (λ k. omega (arith, c.type_inv.abbreviations k)) in
-    only_that c.args.abbreviations.now c.args.offset c.scan.result
-    (IfOk-weaker c.scan.result (λ t. IsScan c.args.abbreviations.now c.args.offset t) (λ t. TableAt c.args.abbreviations.now c.args.offset t)
-    (λ t h. table_at c.args.abbreviations.now c.args.offset fit c.if-offset-abbreviations.false t h.0 h.1) c.scan.ensures.ok)
-    (IfErr-weaker c.scan.result (λ e. IsErrorAt read_table c.args.abbreviations.now c.args.offset e) (λ e. IsTableError c.args.abbreviations.now c.args.offset e)
-    (λ e h. table_tells c.args.abbreviations.now c.args.offset fit c.if-offset-abbreviations.false e h) c.scan.ensures.err)
+pub returns-in-Ok-Some-clause-only : goal.returns-in-Ok-Some-clause-only
+returns-in-Ok-Some-clause-only c t at = (subst (λ (o : Option Table). IfSome o (λ x. x ≡ t)) c.in-Ok-Some.field-0-is (c.in-Ok-Some.ensures.only t at).0, tt)

@@ -1,11 +1,10 @@
-use Rattle.std.proofs.Common.{◌≡◌, ℕ, List, sym, subst, ◌∙◌, eqb, nat_eq, None, rules}
-use Rattle.indexmap.specs.IndexMap.{get}
+use Rattle.std.proofs.Common.{◌≡◌, ℕ, List, Option, sym, subst, ◌∙◌}
+use Rattle.std.specs.Prelude.{IfSome}
 use Rattle.std.specs.Rc.{rc_value}
-use Rattle.std.proofs.lemmas.Result.{err_from_is_err_and}
-use Rattle.indexmap.proofs.CallerLemmas.{insert_entry-new}
+use Rattle.std.proofs.lemmas.Result.{err_from_is_err_and, IfOk-weaker}
 use Rattle.dw_abbrev.specs.Laws.{one_table_at}
 use Rattle.dw_abbrev.specs.Table.{Table, TableAt}
-use Rattle.dw_abbrev.proofs.Kept.{kept_at, kept_more}
+use Rattle.dw_abbrev.proofs.Kept.{kept_at}
 use Rattle.dw_abbrev.proofs.tables.Tables.get.Goals as goal
 
 pub returns-in-Some-clause-found : goal.returns-in-Some-clause-found
@@ -34,19 +33,13 @@ returns-in_err-read-clause-only c t at =
     let there : TableAt c.self.inside.abbreviations.now c.args.offset t = subst (λ (s : List ℕ). TableAt s c.args.offset t) (sym c.self.view_is) at in
     rw (p.1, p.2) (c.in_err-read.ensures.only t there)
 
-pub invariant_of-self-2 : goal.invariant_of-self-2
-invariant_of-self-2 c =
-    let abbreviations : List ℕ = c.self.inside.abbreviations.now in
-    let stands : TableAt abbreviations c.args.offset c.in_ok-table.table.value = subst (λ (t : Table). TableAt abbreviations c.args.offset t) (sym c.in_ok-table.ensures.ok) c.in_ok-read.ensures.found in
-    let absent : get nat_eq c.self.inside.kept c.args.offset ≡ None = search rules in
-    rw (c.in_ok-insert.ensures.entries ∙ insert_entry-new eqb c.self.inside.kept c.args.offset c.in_ok-table.table absent) (kept_more rc_value (λ o t. TableAt abbreviations o t) c.self.inside.kept.entries c.args.offset c.in_ok-table.table c.self.invariant stands)
-
-pub invariant_of-self : goal.invariant_of-self
-invariant_of-self c =
-    let same : c.insert.new.self.entries ≡ c.self.inside.kept.entries = search rules in
-    rw same c.self.invariant
-
-pub returns-clause-only : goal.returns-clause-only
-returns-clause-only c t at =
+pub returns-in-Some-read-clause-only : goal.returns-in-Some-read-clause-only
+returns-in-Some-read-clause-only c t at =
     let there : TableAt c.self.inside.abbreviations.now c.args.offset t = subst (λ (s : List ℕ). TableAt s c.args.offset t) (sym c.self.view_is) at in
-    (c.in_ok-shared.ensures.cases ∙ (c.in_ok-table.ensures.ok ∙ (c.in_ok-read.ensures.only t there).0), tt)
+    let same : c.in-Some-read.table ≡ t = subst (λ (o : Option Table). IfSome o (λ x. x ≡ t)) c.in-Some-read.is (c.in_ok-read.ensures.only t there).0 in
+    (IfOk-weaker c.keep.result (λ x. x.value ≡ c.in-Some-read.table) (λ x. x.value ≡ t) (λ x h. h ∙ same) c.keep.ensures.found, c.keep.ensures.memory)
+
+pub returns-in-None-clause-only : goal.returns-in-None-clause-only
+returns-in-None-clause-only c t at =
+    let there : TableAt c.self.inside.abbreviations.now c.args.offset t = subst (λ (s : List ℕ). TableAt s c.args.offset t) (sym c.self.view_is) at in
+    c.get_shared.ensures.only t there

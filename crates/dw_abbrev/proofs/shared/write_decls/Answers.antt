@@ -5,11 +5,11 @@ use Rattle.dw_abbrev.specs.Table.{Declaration}
 use Rattle.dw_abbrev.specs.TableView.{decls_in}
 use Rattle.dw_abbrev.specs.Spelling.{declaration_bytes, declarations_bytes}
 use Rattle.dw_leb.specs.PartlyWritten.{PartlyWritten, partly_step, partly_fails}
-use Rattle.dw_abbrev.proofs.table.write_decls.Goals as goal
+use Rattle.dw_abbrev.proofs.shared.write_decls.Goals as goal
 
 pub loop-decl-preserved : goal.loop-decl-preserved
 loop-decl-preserved g c =
-    let all : List ℕ = declarations_bytes (decls_in c.args.decls.now.entries) in
+    let all : List ℕ = declarations_bytes (decls_in c.args.decls) in
     let a : Option (List ℕ) = g.W.Write.contents (inner_of c.args.writer.now) in
     let b : Option (List ℕ) = g.W.Write.contents (inner_of c.loop-decl.writer) in
     let d : Option (List ℕ) = g.W.Write.contents (inner_of c.write.new.writer) in
@@ -22,7 +22,7 @@ loop-decl-preserved g c =
 
 pub returns-in_err-write-clause-written : goal.returns-in_err-write-clause-written
 returns-in_err-write-clause-written g c =
-    let all : List ℕ = declarations_bytes (decls_in c.args.decls.now.entries) in
+    let all : List ℕ = declarations_bytes (decls_in c.args.decls) in
     let a : Option (List ℕ) = g.W.Write.contents (inner_of c.args.writer.now) in
     let b : Option (List ℕ) = g.W.Write.contents (inner_of c.loop-decl.writer) in
     let d : Option (List ℕ) = g.W.Write.contents (inner_of c.write.new.writer) in
