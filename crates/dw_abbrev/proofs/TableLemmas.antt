@@ -144,12 +144,7 @@ only_memory abbreviations offset t (reads.Fault f) h k = absurd (no_break_at abb
 only_memory abbreviations offset t reads.NoMemory h k = refl
 only_memory abbreviations offset t (reads.Io kind) h k = absurd k
 
-pub only_that : (abbreviations : List ℕ) (offset : ℕ) (r : Result Table ReadError) → IfOk r (λ x. TableAt abbreviations offset x) → IfErr r (λ e. IsTableError abbreviations offset e)
-    → (t : Table) → TableAt abbreviations offset t → IfOk r (λ x. x ≡ t) × IfErr r (λ e. e ≡ refused_memory)
-only_that abbreviations offset (Ok x) h k t at = (one_table_at abbreviations offset x t h at, tt)
-only_that abbreviations offset (Err e) h k t at = (tt, only_memory abbreviations offset t e at k)
-
--- the same where a table may also be met
+-- where another table may be met, too
 pub some_there : (abbreviations : List ℕ) (offset : ℕ) → AreBytes abbreviations → offset < length abbreviations → (o : Option Table) → IfSome o (λ t. IsScan abbreviations offset t) → IfSome o (λ t. TableAt abbreviations offset t)
 some_there abbreviations offset fit lt None h = tt
 some_there abbreviations offset fit lt (Some t) h = table_at abbreviations offset fit lt t h.0 h.1

@@ -54,12 +54,7 @@ impl Run {
     }
 
     /// What stands at `here`, behind the run. A declaration goes to the run.
-    fn step(
-        &mut self,
-        alloc: Global,
-        abbreviations: &[u8],
-        here: usize,
-    ) -> Result<Step, AllocError>
+    fn step(&mut self, alloc: Global, abbreviations: &[u8], here: usize) -> Result<Step, AllocError>
         requires { IsRun abbreviations.now self.old here }
         ensures { IfOk result (IsStep abbreviations.now here self.old self.new) }
     {

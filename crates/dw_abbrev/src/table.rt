@@ -94,12 +94,7 @@ impl Table {
         ensures broken { IfErr result (λ e. IsTableError abbreviations.now offset e) }
         ensures memory { IfErr result (λ e. e ≡ refused_memory → Declares abbreviations.now offset) }
     {
-        match Table::read_unknown(
-            alloc,
-            abbreviations,
-            offset,
-            &mut KnownOffsets::none(alloc),
-        ) {
+        match Table::read_unknown(alloc, abbreviations, offset, &mut KnownOffsets::none(alloc)) {
             Ok(Some(table)) => Ok(table),
             Ok(None) => unreachable!(),
             Err(e) => Err(e),

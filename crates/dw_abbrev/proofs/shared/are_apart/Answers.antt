@@ -1,4 +1,3 @@
-use Rattle.std.specs.List.{AllByRecursion}
 use Rattle.dw_abbrev.specs.TableView.{joined}
 use Rattle.dw_abbrev.proofs.SharedLemmas.{apart}
 use Rattle.dw_abbrev.proofs.shared.are_apart.Goals as goal

@@ -1,4 +1,4 @@
-use Rattle.std.proofs.Common.{◌≡◌, ◌∙◌, ◌++◌, List, Option, Some, None, sym, ap}
+use Rattle.std.proofs.Common.{◌∙◌, List, sym, ap}
 use Rattle.dw_abbrev.specs.Table.{Declaration, declared_in}
 use Rattle.dw_abbrev.specs.TableView.{joined}
 use Rattle.dw_abbrev.proofs.SharedLemmas.{declared_before, declared_after, none_joined}

@@ -1,4 +1,4 @@
-use Rattle.std.proofs.Common.{◌≡◌, ◌∙◌, ◌++◌, ℕ, List, Option, subst, ap, sym}
+use Rattle.std.proofs.Common.{◌∙◌, ℕ, List, Option, subst, ap}
 use Rattle.std.proofs.lemmas.Result.{err_from_is_err_and}
 use Rattle.dw_leb.specs.Watch.{inner_of}
 use Rattle.dw_leb.specs.PartlyWritten.{PartlyWritten, partly_step, partly_fails}

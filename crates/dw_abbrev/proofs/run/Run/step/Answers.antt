@@ -1,10 +1,9 @@
-use Rattle.std.proofs.Common.{◌≡◌, ◌∙◌, ◌++◌, ◌∷◌, [], false, List, ℕ, refl, subst, sym, ap, arith}
-use Rattle.std.proofs.lemmas.Bool.{eq-eqb, ne_eqb}
+use Rattle.std.proofs.Common.{◌≡◌, false, refl, arith}
+use Rattle.std.proofs.lemmas.Bool.{ne_eqb}
 use Rattle.dw_leb.specs.View.{uleb_of}
 use Rattle.dw_leb.specs.Field.{are_bytes}
 use Rattle.dw_abbrev.specs.Table.{Declaration, is_null}
 use Rattle.dw_abbrev.specs.TableView.{decls_in}
-use Rattle.dw_abbrev.specs.Runs.{AreRows}
 use Rattle.dw_abbrev.proofs.TableLemmas.{keyed-push, decls-push}
 use Rattle.dw_abbrev.proofs.RunLemmas.{zero_stands, declaration_there, row_there, rows_pushed}
 use Rattle.dw_abbrev.proofs.run.Run.step.Goals as goal

@@ -1,6 +1,5 @@
-use Rattle.std.proofs.Common.{◌≡◌, ◌∙◌, ◌≤◌, eqb, ℕ, Option, None, Some, List, slice_get, drop, sym, ap, subst, arith}
-use Rattle.std.specs.Map.{lookup, keys_of, values_of}
-use Rattle.std.specs.List.{position}
+use Rattle.std.proofs.Common.{◌≡◌, ◌∙◌, eqb, Some, List, slice_get, drop, sym, ap, arith}
+use Rattle.std.specs.Map.{lookup, values_of}
 use Rattle.dw_abbrev.specs.Table.{Declaration, declared_in}
 use Rattle.dw_abbrev.specs.TableView.{decls_in, AreKeyed}
 use Rattle.dw_abbrev.proofs.TableLemmas.{no_value}

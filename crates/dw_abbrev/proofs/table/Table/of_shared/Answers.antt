@@ -1,4 +1,4 @@
-use Rattle.std.proofs.Common.{◌≡◌, ap, sym, subst, ◌∙◌, List}
+use Rattle.std.proofs.Common.{ap, sym, subst, List}
 use Rattle.dw_abbrev.specs.Table.{Declaration, table}
 use Rattle.dw_abbrev.proofs.SharedLemmas.{shared_alone}
 use Rattle.dw_abbrev.proofs.table.Table.of_shared.Goals as goal

@@ -1,4 +1,4 @@
-use Rattle.std.proofs.Common.{Option, arith}
+use Rattle.std.proofs.Common.{arith}
 use Rattle.std.specs.Prelude.{IfSome}
 use Rattle.std.proofs.lemmas.Result.{IfOk-weaker, IfErr-weaker}
 use Rattle.dw_leb.specs.Field.{are_bytes}

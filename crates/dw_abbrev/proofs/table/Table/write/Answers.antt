@@ -1,13 +1,12 @@
 use Rattle.dw_leb.specs.View.{uleb_of}
-use Rattle.std.proofs.Common.{◌≡◌, ◌∙◌, ◌++◌, ℕ, List, Option, sym, subst, ap}
+use Rattle.std.proofs.Common.{◌∙◌, ◌++◌, ℕ, List, Option, subst, ap}
 use Rattle.dw_leb.specs.Number.{Unsigned, uleb}
 use Rattle.dw_leb.specs.Watch.{inner_of, Wrote}
 use Rattle.dw_leb.specs.Transfers.{wrote_then, wrote_err}
 use Rattle.dw_abbrev.specs.Table.{Declaration, Table, zero_of, table}
-use Rattle.dw_abbrev.specs.TableView.{decls_in, joined, with_shared}
+use Rattle.dw_abbrev.specs.TableView.{decls_in, joined}
 use Rattle.dw_abbrev.specs.Spelling.{declarations_bytes}
 use Rattle.dw_abbrev.proofs.DeclLemmas.{zero_is}
-use Rattle.dw_abbrev.proofs.SpellLemmas.{table_spelled}
 use Rattle.dw_abbrev.proofs.SharedLemmas.{parts_bytes}
 use Rattle.dw_abbrev.proofs.table.Table.write.Goals as goal
 
