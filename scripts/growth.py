@@ -18,7 +18,8 @@ import subprocess
 import sys
 import tempfile
 
-DEEPEST = 255
+# The most levels that may stand below the root (docs/definitions.md).
+DEEPEST = 4_095
 
 
 def uleb(value):

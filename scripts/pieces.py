@@ -1,14 +1,14 @@
 #!/usr/bin/env python3
-"""Compares the reader that is pushed pieces with the one that recurses.
+"""Compares the reader of bytes at hand with a feed that is pushed pieces.
 
 Usage: scripts/pieces.py PROGRAM [ABBREV INFO]
 
 PROGRAM is the built `pieces` (crates/pieces/out/pieces). The unit of each folder of `examples` is pushed in pieces of
 several sizes, and each time written and compared with its bytes. Each front of it, and it with each byte changed in
-three ways, is read by both readers, in pieces of one byte by the one that is pushed, and they have to end alike. Over ABBREV and INFO, the sections of one unit of some
-megabytes, the instructions of both readers are counted by Valgrind: that of the recursive one, and of the pushed one by
-the size of its pieces, as a multiple of the first. The status is 1 where a unit differs, a run fails, or a multiple is
-above its bound (in one piece 1.1, in pieces of 4,096 bytes 1.2, of one byte 12), else 0.
+three ways, is read at hand and pushed in pieces of one byte, and both have to end alike. Over ABBREV and INFO, the sections of one
+unit of some megabytes, instructions are counted by Valgrind: those of the read at hand, and of the feed by the size of
+its pieces, as a multiple of the first. The status is 1 where a unit differs, a run fails, or a multiple is
+above its bound (in one piece 1.1, in pieces of 4,096 bytes 2, of one byte 20), else 0.
 """
 
 import os
@@ -20,8 +20,8 @@ import tempfile
 
 EXAMPLES = os.path.join(os.path.dirname(os.path.dirname(os.path.abspath(__file__))), "examples")
 
-# The size of the pieces, what it is called, and how many times the recursive reader's instructions it may take.
-SIZES = [(1 << 40, "one piece", 1.1), (4096, "4,096 bytes", 1.2), (1, "one byte", 12.0)]
+# The size of the pieces, what it is called, and how many times the instructions of the read at hand it may take.
+SIZES = [(1 << 40, "one piece", 1.1), (4096, "4,096 bytes", 2.0), (1, "one byte", 20.0)]
 
 
 def instructions(program, abbrev, info, size):
@@ -83,11 +83,11 @@ def compare_examples(program):
 def count_instructions(program, abbrev, info):
     if not shutil.which("valgrind"):
         sys.exit("pieces.py: valgrind isn't there")
-    recursive = instructions(program, abbrev, info, 0)
-    print(f"{os.path.getsize(info):,} bytes; the recursive reader: {recursive / 1e6:.1f} million instructions")
+    at_hand = instructions(program, abbrev, info, 0)
+    print(f"{os.path.getsize(info):,} bytes; at hand: {at_hand / 1e6:.1f} million instructions")
     well = True
     for size, name, bound in SIZES:
-        times = instructions(program, abbrev, info, size) / recursive
+        times = instructions(program, abbrev, info, size) / at_hand
         print(f"{name}: {times:.2f} times as many (at most {bound})")
         well = well and times <= bound
     return well

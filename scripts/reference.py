@@ -14,7 +14,7 @@ import sys
 from dataclasses import dataclass, field
 
 # The limits that the standard leaves open (docs/definitions.md).
-NESTING = 256
+NESTING = 4096
 MOST_PAIRS = 1024
 LEB_WIDTH = 16
 LAST_END = 2**63 - 1

@@ -16,7 +16,7 @@ use Rattle.dw_tree.specs.Tree.{Forest, nesting, unknown}
 use Rattle.dw_tree.specs.Levels.{nesting_is}
 use Rattle.dw_tree.specs.Place.{Frame}
 use Rattle.dw_unit.specs.Draft.{drafted_size, size_limit, passes_limit}
-use Rattle.dw_unit.specs.Entries.{has_room}
+use Rattle.dw_feed.specs.Room.{has_room}
 use Rattle.dw_feed.specs.PlaceRows.{draft_size}
 use Rattle.dw_feed.specs.BodyFeed.{PartialUnit, before}
 use Rattle.dw_feed.specs.BodyView.{drafted}

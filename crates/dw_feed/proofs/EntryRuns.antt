@@ -17,7 +17,7 @@ use Rattle.dw_tree.specs.Tree.{Forest, declared_pairs, unknown, nesting}
 use Rattle.dw_tree.specs.Place.{Frame, Place, UnfinishedEntry, leave}
 use Rattle.dw_tree.specs.Steps.{next_pair, partial_in, settle, ArePlain}
 use Rattle.dw_unit.specs.Draft.{begun, given, given_each, closed}
-use Rattle.dw_unit.specs.Entries.{has_room}
+use Rattle.dw_feed.specs.Room.{has_room}
 use Rattle.dw_feed.specs.BodyFeed.{PartialUnit, pairs_left, part}
 use Rattle.dw_feed.specs.BodyView.{drafted, coming}
 use Rattle.dw_feed.specs.EntrySteps.{NoneKept, NextSays, TakesOn, EntrySays}

@@ -18,7 +18,7 @@ use Rattle.dw_abbrev.specs.Table.{Pair, Declaration, Table, declared, declared_i
 use Rattle.dw_tree.specs.Tree.{Tree, Forest, none, more, declared_pairs, bad_root, bad_child, not_null, nesting}
 use Rattle.dw_tree.specs.Place.{Frame, Spot, PartialValue, UnfinishedEntry}
 use Rattle.dw_tree.specs.Steps.{next_pairs, partial_in, settled, settle_by, settle}
-use Rattle.dw_unit.specs.Entries.{has_room}
+use Rattle.dw_feed.specs.Room.{has_room}
 use Rattle.dw_feed.specs.declared.step.Step.TheVariants as steps
 use Rattle.dw_feed.specs.declared.progress.Progress.TheVariants as answers
 use Rattle.dw_feed.specs.BodyFeed.{PartialUnit, Reading, Refused, Finished, pairs_left, value_part, part}

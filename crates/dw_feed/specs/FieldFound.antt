@@ -13,7 +13,7 @@ use Rattle.dw_tree.specs.Tree.{Tree, Forest, none, more, declared_pairs, unknown
 use Rattle.dw_tree.specs.Spelling.{forest_bytes}
 use Rattle.dw_tree.specs.Place.{Frame, UnfinishedEntry, Place, leave}
 use Rattle.dw_tree.specs.Steps.{first_values, FirstsFit, FirstFits, first_bytes, next_pairs, settle}
-use Rattle.dw_unit.specs.Entries.{has_room}
+use Rattle.dw_feed.specs.Room.{has_room}
 use Rattle.dw_feed.specs.PlaceBytes.{open_bytes, place_bytes}
 use Rattle.dw_feed.specs.FieldPlace.{BeginsEntry, BeforeFits, FramesFit}
 use Rattle.dw_feed.specs.PlaceBreaks.{room_is}

@@ -15,7 +15,7 @@ use Rattle.dw_abbrev.specs.Table.{Pair, Table, is_null}
 use Rattle.dw_tree.specs.Tree.{Tree, Forest, none, more, bad_root, bad_child, not_null, nesting}
 use Rattle.dw_tree.specs.Place.{Frame, UnfinishedEntry}
 use Rattle.dw_tree.specs.Steps.{next_pairs, settle}
-use Rattle.dw_unit.specs.Entries.{has_room}
+use Rattle.dw_feed.specs.Room.{has_room}
 use Rattle.dw_feed.specs.FieldFound.{place}
 use Rattle.dw_feed.specs.FieldReader.{PlaceBehind, by_code, read_value, read_field}
 

@@ -9,7 +9,7 @@ use Rattle.dw_abbrev.specs.Table.{Pair, Table, declared, is_null}
 use Rattle.dw_tree.specs.Tree.{Tree, Forest, none, more, node_of, values, declared_pairs, declares_children, unknown, bad_root, bad_child, body, children, tree, nesting, AreNulls, MoreBreaks}
 use Rattle.dw_tree.specs.Place.{Frame, UnfinishedEntry}
 use Rattle.dw_tree.specs.Steps.{FirstsFit, next_pairs}
-use Rattle.dw_unit.specs.Entries.{has_room}
+use Rattle.dw_feed.specs.Room.{has_room}
 
 module _ (k : Ctx) (t : Table) where
   -- an entry of a chain, with room for so many levels below it

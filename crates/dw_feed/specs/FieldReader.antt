@@ -18,7 +18,7 @@ use Rattle.dw_abbrev.specs.Table.{Pair, Table, declared, is_null}
 use Rattle.dw_tree.specs.Tree.{Forest, none, more, declared_pairs, bad_root, bad_child, not_null, nesting}
 use Rattle.dw_tree.specs.Place.{Frame, Spot, UnfinishedEntry, Place, leave}
 use Rattle.dw_tree.specs.Steps.{FirstFits, first_bytes, next_pairs, settle}
-use Rattle.dw_unit.specs.Entries.{has_room}
+use Rattle.dw_feed.specs.Room.{has_room}
 use Rattle.dw_feed.specs.NextPlace.{Stands}
 use Rattle.dw_feed.specs.FieldFound.{Leads, place, root_leads, child_leads, close_leads, value_leads, pad_leads}
 use Rattle.dw_feed.specs.NextField.{nothing_of, read_next_value, read_next}

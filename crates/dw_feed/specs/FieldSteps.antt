@@ -13,7 +13,7 @@ use Rattle.dw_tree.specs.Tree.{Tree, Forest, none, more, bad_root, bad_child, no
 use Rattle.dw_tree.specs.Place.{Frame, PartialValue, UnfinishedEntry}
 use Rattle.dw_tree.specs.Steps.{given_partial, partial_in, next_pairs, settle}
 use Rattle.dw_unit.specs.Unit.{left_behind}
-use Rattle.dw_unit.specs.Entries.{has_room}
+use Rattle.dw_feed.specs.Room.{has_room}
 use Rattle.dw_leb.specs.Moments.{HasMoment, fewer_or_enough, there, returned_moment, made_moment}
 use Rattle.dw_leb.specs.NumberMoments.{leb_moment}
 use Rattle.dw_form.specs.ReadForm.{read_attribute}

@@ -1,5 +1,5 @@
 -- Bounds on what a feed holds: the entries and the bytes of texts and blocks are no more than the bytes that it took, the values at
--- most 1,024 times the entries, and at most 256 entries are nested.
+-- most 1,024 times the entries, and no more entries are nested than may be.
 use Rattle.std.proofs.Common.{◌≡◌, ℕ, zero, suc, ◌+◌, ◌-◌, ◌*◌, ◌≤◌, Bool, true, false, List, [], ◌∷◌, ◌++◌, length, Option, Some, None, refl, sym, ap, subst, arith, length-append, take}
 use Rattle.std.specs.Prelude.{IsSome, if◌then◌else◌}
 use Rattle.std.specs.List.{AllByRecursion}
@@ -22,7 +22,6 @@ use Rattle.dw_tree.specs.Place.{Frame, PartialValue, UnfinishedEntry, rows_befor
 use Rattle.dw_tree.specs.Steps.{first_values, partial_in, unfinished_bytes}
 use Rattle.dw_tree.specs.PoolBytes.{joined, held, partial_bytes, read_bytes}
 use Rattle.dw_tree.specs.DraftInvariant.{EntryFits, TokenFits}
-use Rattle.dw_tree.specs.Levels.{nesting_is}
 use Rattle.dw_tree.specs.Sizes.{values_short, rows_short}
 use Rattle.dw_feed.specs.PlaceBytes.{open_bytes}
 use Rattle.dw_feed.specs.PlaceRows.{place_rows}
@@ -187,12 +186,12 @@ module _ (g : PartialUnit) (keeps : Keeps g) where
       by fs ts None ws h m = omega (arith, m)
       by fs ts (Some r) ws h m = omega (arith, m, h.spot_fits.short, few_declared g.table few r.code.value)
 
-  pub held_nested : (held_by g).nested ≤ 256
+  pub held_nested : (held_by g).nested ≤ nesting
   held_nested = by (frames_of g) (chain_of g) g.place.unfinished g.padding keeps.stands
     where
-      by : (fs : List Frame) (ts : Forest) (o : Option UnfinishedEntry) (ws : List ℕ) → PlaceFits (context g) g.table fs ts o ws → length fs + unfinished_entries o ≤ 256
-      by fs ts None ws h = omega (arith, room_is (context g) g.table fs h.room h.frames_fit, nesting_is)
-      by fs ts (Some r) ws h = omega (arith, room_is (context g) g.table fs h.room h.frames_fit, nesting_is, h.spot_fits.deep)
+      by : (fs : List Frame) (ts : Forest) (o : Option UnfinishedEntry) (ws : List ℕ) → PlaceFits (context g) g.table fs ts o ws → length fs + unfinished_entries o ≤ nesting
+      by fs ts None ws h = omega (arith, room_is (context g) g.table fs h.room h.frames_fit)
+      by fs ts (Some r) ws h = omega (arith, room_is (context g) g.table fs h.room h.frames_fit, h.spot_fits.deep)
 
   -- the bytes of a partial value were taken of the field at the place
   partial_in_part : (o : Option PartialValue) → partial_in g.place.unfinished ≡ o → length (partial_bytes o) ≤ length (part g)

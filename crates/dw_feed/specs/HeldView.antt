@@ -1,5 +1,6 @@
 -- What a feed says that it holds, as the counts of the definitions, and their bounds.
 use Rattle.std.specs.Prelude.{ℕ, ◌*◌, ◌≤◌, List, [], length}
+use Rattle.dw_tree.specs.Tree.{nesting}
 use Rattle.dw_feed.specs.declared.held.Held.{Held}
 use Rattle.dw_feed.specs.BodyFeed.{BodyFeed, Reading, Refused, Finished, stream}
 use Rattle.dw_feed.specs.HeldCounts.{HeldCounts}
@@ -10,7 +11,7 @@ held_of h = record { pending = h.pending; nested = h.nested; entries = h.entries
 -- of a unit of which so many bytes were taken, the header's included
 pub record HeldWithin (taken : ℕ) (h : HeldCounts) : Type 0 where
   pub pending : h.pending ≤ 16
-  pub nested : h.nested ≤ 256
+  pub nested : h.nested ≤ nesting
   pub entries : h.entries ≤ taken
   pub values : h.values ≤ 1024 * h.entries
   pub pool : h.pool ≤ taken

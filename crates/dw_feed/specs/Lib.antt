@@ -12,6 +12,7 @@ pub mod PlaceBytes
 pub mod BodyFeed
 pub mod HeldCounts
 pub mod HeldSteps
+pub mod Room
 pub mod FieldPlace
 pub mod BreaksBehind
 pub mod PlaceBreaks

@@ -16,7 +16,7 @@ use Rattle.dw_abbrev.specs.Table.{Pair, Table}
 use Rattle.dw_tree.specs.Tree.{Forest, none, more, bad_root, bad_child, not_null, nesting}
 use Rattle.dw_tree.specs.Place.{Frame, UnfinishedEntry}
 use Rattle.dw_tree.specs.Steps.{next_pairs}
-use Rattle.dw_unit.specs.Entries.{has_room}
+use Rattle.dw_feed.specs.Room.{has_room}
 use Rattle.dw_leb.specs.Moments.{Moment, HasMoment, at_no_byte, returned_moment, made_moment}
 use Rattle.dw_leb.specs.NumberMoments.{leb_moment}
 use Rattle.dw_form.specs.FormMoments.{attribute_moment, attribute_has}

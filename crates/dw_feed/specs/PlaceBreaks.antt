@@ -14,7 +14,7 @@ use Rattle.dw_tree.specs.Structure.{spelled_by_structure}
 use Rattle.dw_tree.specs.Place.{Frame, UnfinishedEntry}
 use Rattle.dw_tree.specs.Steps.{first_values, FirstsFit, unfinished_bytes, next_pairs}
 use Rattle.dw_tree.specs.DecideTree.{After_split}
-use Rattle.dw_unit.specs.Entries.{has_room}
+use Rattle.dw_feed.specs.Room.{has_room}
 use Rattle.dw_unit.specs.Unit.{EntriesBreak}
 use Rattle.dw_feed.specs.BreaksBehind.{AlsoBreaks, After_map, After_nil, After_same, behind_item}
 use Rattle.dw_feed.specs.PlaceBytes.{open_bytes, place_bytes}

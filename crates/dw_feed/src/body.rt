@@ -145,7 +145,7 @@ impl BodyFeed {
 
     /// What it holds, in constant time and without memory: nothing once an answer was not `More`. The entries
     /// and the bytes of texts and blocks are no more than the bytes that were taken, those of the header
-    /// included; at most 256 entries are nested, an entry has at most 1,024 values, and the
+    /// included; at most 4,096 entries are nested, an entry has at most 1,024 values, and the
     /// nulls of the padding are no more than the bytes that were taken.
     pub fn held(&self) -> Held
         ensures exact { held_of result ≡ held self.now }

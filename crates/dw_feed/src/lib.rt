@@ -1,5 +1,5 @@
-//! Units of DWARF 5, and of DWARF 4 where a caller asks for them, from any reader, in whatever pieces
-//! their bytes come (section 7.5).
+//! Units of DWARF 5, and of DWARF 4 where a caller asks for them, read from bytes at hand and from any reader, in
+//! whatever pieces their bytes come (section 7.5).
 #![tactic(auto)]
 
 mod body;

@@ -35,7 +35,7 @@ const SMALL: usize = 1024;
 /// header is taken in parts that it wants for sure, and what follows it in pieces of at most 65,536 bytes. A
 /// fault is returned with the piece that shows it, and no later byte is asked for.
 ///
-/// A fault is the first one of all that the reader had left, as `read_unit` of `dw_unit` returns
+/// A fault is the first one of all that the reader had left, as `read_unit` returns
 /// it. So `Truncated` comes only where the reader has no more: a short read is no end, and a read
 /// of 0 bytes is. `Io` is returned exactly where the reader failed, with the kind that `fault()`
 /// then returns. `NoMemory` is returned where a growth was refused, and only where at least a byte
@@ -66,7 +66,7 @@ pub fn read_unit_from<R: Read>(
 /// The unit of one of these versions at the front of what the reader has left, in whatever pieces its
 /// bytes come, as `read_unit_from` gives it for version 5. At `Ok` exactly the unit's bytes were taken.
 ///
-/// A fault is the first one of all that the reader had left, as `read_unit_as` of `dw_unit` returns it.
+/// A fault is the first one of all that the reader had left, as `read_unit_as` returns it.
 /// `Truncated`, `Io` and `NoMemory` come, and bytes are taken, as `read_unit_from` says. Memory grows by the
 /// bytes that came, never by a length that was only announced.
 pub fn read_unit_from_as<R: Read>(

@@ -20,12 +20,12 @@ use std::rc::Rc;
 /// unit_length that it holds (section 7.5.1). What stands behind them isn't looked at. Where a unit stands
 /// at the front, it is answered, or `NoMemory`.
 ///
-/// It answers what `read_unit` of `dw_unit` answers, over a feed in place of recursion. A fault is the first
-/// one, in this order: the fields of the header; the abbreviation table (its section is `.debug_abbrev`, its
-/// offset counts from that section's first byte); the entries and the padding. In `.debug_info` the offset
-/// counts from the first byte of `b`, and is at most the count of its bytes. `NoMemory` is answered where a
-/// growth was refused, and only where a header is there and the offset of its table lies in
-/// `.debug_abbrev`. Never `Io`.
+/// A fault is the first one, in this order: the fields of the header; the abbreviation table (its
+/// section is `.debug_abbrev`, its offset counts from that section's first byte); the entries and
+/// the padding. In `.debug_info` the offset is that of the first byte of the broken field, counted
+/// from the first byte of `b`, and at most the count of its bytes. The unit_length is never compared
+/// with that count. `NoMemory` is answered where a growth was refused, and only where a header is there
+/// and the offset of its table lies in `.debug_abbrev`. Never `Io`.
 pub fn read_unit(
     alloc: Global,
     order: Order,
@@ -44,7 +44,14 @@ pub fn read_unit(
 }
 
 /// The unit of one of these versions at the front of `b`, and the count of its bytes, as `read_unit` gives
-/// them for version 5, and as `read_unit_as` of `dw_unit` answers.
+/// them for version 5. A unit of version 4 has the kind `Four`, and its values have the forms of version 5
+/// (section 7.5.6), which are those of version 4 and more. Where a unit of one of these versions stands at
+/// the front, it is answered, or `NoMemory`.
+///
+/// A fault is the first one, in the order of `read_unit`: the fields of the header, which are judged as
+/// `read_header_as` of `dw_header` says; the abbreviation table; the entries and the padding. `NoMemory` is
+/// answered where a growth was refused, and only where a header is there and the offset of its table lies
+/// in `.debug_abbrev`. Never `Io`.
 pub fn read_unit_as(
     alloc: Global,
     order: Order,

@@ -83,7 +83,7 @@ children k t (suc room) = seen as_nodes (repeated (λ _. judged uleb (bad_child 
 
 -- the most levels of a tree
 unfoldable pub nesting : ℕ
-nesting = 256
+nesting = 4096
 
 -- a tree with room for so many levels below its root
 abbrev pub tree : Ctx → Table → ℕ → Part Tree

@@ -1,9 +1,8 @@
 -- What a unit keeps when one of its numbers becomes another.
 use Rattle.std.proofs.Common.{◌≡◌, ℕ, ◌-◌, List, ◌++◌, length, sym, ap, subst, ◌∙◌, arith, length-append}
-use Rattle.dw_leb.specs.declared.order.Format.{Format}
 use Rattle.dw_leb.specs.Number.{length_field, initial_length}
 use Rattle.dw_header.specs.Header.{fields, fields_of, context_of}
-use Rattle.dw_tree.specs.Tree.{Tree, tree, nesting, nulls}
+use Rattle.dw_tree.specs.Tree.{tree, nesting, nulls}
 use Rattle.dw_tree.specs.Steps.{TreeAt}
 use Rattle.dw_tree.specs.Put.{Edit, put}
 use Rattle.dw_unit.specs.Unit.{WholeUnit, UnitFits, body_bytes, bytes_of, tree_of}

@@ -1,6 +1,4 @@
 pub mod EntryLemmas
-pub mod RootLemmas
-pub mod UnitLemmas
 pub mod UnitWritten
 mod Samples
 mod NumberRows
@@ -11,9 +9,6 @@ mod HeaderRows
 mod UnitRows
 mod EntryRows
 mod WrittenRows
-pub mod GivenValue
-pub mod Chain
-pub mod RootRead
 pub mod DraftLemmas
 pub mod EachValue
 pub mod PutValues

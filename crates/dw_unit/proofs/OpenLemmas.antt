@@ -23,11 +23,11 @@ use Rattle.dw_unit.proofs.PutValues.{the, as_many}
 
 -- ---- where it stands
 
-pub too_deep : (s : Spot) (n : ℕ) → n ≡ length s.above → n ≢ 0 → 256 ≤ n → Some TooDeep ≡ place_refusal s
-too_deep s n e some h = rw (ne_eqb (length s.above) 0 (λ z. some (e ∙ z)), le-leb nesting (length s.above) (omega (arith, nesting_is, e, h))) refl
+pub too_deep : (s : Spot) (n : ℕ) → n ≡ length s.above → n ≢ 0 → nesting ≤ n → Some TooDeep ≡ place_refusal s
+too_deep s n e some h = rw (ne_eqb (length s.above) 0 (λ z. some (e ∙ z)), le-leb nesting (length s.above) (omega (arith, e, h))) refl
 
-pub not_deep : (s : Spot) (n : ℕ) → n ≡ length s.above → n ≢ 0 → n < 256 → None ≡ place_refusal s
-not_deep s n e some h = rw (ne_eqb (length s.above) 0 (λ z. some (e ∙ z)), not_le nesting (length s.above) (omega (arith, nesting_is, e, h))) refl
+pub not_deep : (s : Spot) (n : ℕ) → n ≡ length s.above → n ≢ 0 → n < nesting → None ≡ place_refusal s
+not_deep s n e some h = rw (ne_eqb (length s.above) 0 (λ z. some (e ∙ z)), not_le nesting (length s.above) (omega (arith, e, h))) refl
 
 -- a place where an entry can stand
 pub record IsFree (s : Spot) : Type 0 where

@@ -3,10 +3,7 @@ pub mod ReadUnit
 pub mod Laws
 pub mod DecideUnit
 pub mod UnitLaws
-pub mod Outcomes
-pub mod Entries
 pub mod UnitView
-pub mod BodyView
 pub mod Draft
 pub mod EachGiven
 pub mod Build

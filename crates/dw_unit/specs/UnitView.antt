@@ -1,5 +1,5 @@
 -- The program's units, and errors of reading one, as those of the definitions.
-use Rattle.std.specs.Prelude.{◌≡◌, ◌≤◌, ◌<◌, ◌+◌, ℕ, Bool, true, false, Option, Some, None, List, length, ◌⊎◌}
+use Rattle.std.specs.Prelude.{◌≡◌, ◌≤◌, ◌<◌, ℕ, Bool, true, false, Option, Some, None, List, length, ◌⊎◌}
 use Rattle.std.proofs.Common.{refl}
 use Rattle.std.specs.Coded.{Coded, code_by, coded×, coded⊎, coded_ℕ, coded_list, coded_bool, coded_option}
 use mathlib.Core.Logic.{inl, inr}
@@ -12,8 +12,6 @@ use Rattle.dw_abbrev.specs.Table.{Table}
 use Rattle.dw_tree.specs.Tree.{Tree}
 use Rattle.dw_tree.specs.Codes.{order_code, format_code, table_code, tree_code}
 use Rattle.dw_tree.specs.Steps.{TreeAt}
-use Rattle.dw_unit.specs.declared.bad.BodyError.{BodyError}
-use Rattle.dw_unit.specs.declared.bad.BodyError.TheVariants as errors
 use Rattle.dw_header.specs.declared.kind.Kind.{Kind}
 use Rattle.dw_header.specs.declared.kind.Kind.TheVariants.{Compile, Partial, TypeUnit, Skeleton, Four}
 use Rattle.dw_header.specs.declared.versions.Versions.{Versions}
@@ -47,11 +45,6 @@ IsUnitError = IsUnitErrorUnder Five
 
 abbrev pub NamesTable : List ℕ → Order → List ℕ → Type 0
 NamesTable = NamesTableUnder Five
-
--- the error of reading a unit where its entries, which begin at a place, give this one
-abbrev pub unit_error_of : ℕ → BodyError → ReadError
-unit_error_of at (errors.Bad e) = reads.Fault (record { section = Info; offset = at + e.offset; reason = e.reason })
-unit_error_of at errors.NoMemory = reads.NoMemory
 
 -- what a unit keeps: its tree, a spelling, and its size
 pub record IsUnit (u : WholeUnit) (tree : TreeAt) (size : ℕ) : Type 0 where

@@ -53,7 +53,7 @@ impl UnitBuilder {
     /// One more entry of this code, with its values, behind those of its chain. An entry whose
     /// declaration has no children is closed at once, another one is open (sections 2.3 and 7.5.3).
     ///
-    /// Refused are, in this order: an entry behind the root (`SecondRoot`); one with more than 255
+    /// Refused are, in this order: an entry behind the root (`SecondRoot`); one with more than 4,095
     /// others around it (`TooDeep`); a code that the table doesn't declare, as that of a null
     /// (`UnknownCode`); values that don't have a spelling under the pairs of the declaration, one for
     /// each (`WrongValues`); a unit that is too long with the entry (`TooLong`); a growth for which

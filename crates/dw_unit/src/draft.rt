@@ -30,10 +30,10 @@ use std::marker::Model;
 use std::rc::Rc;
 
 /// The most levels of a unit's tree, that of the root included.
-pub(crate) const NESTING: usize = 256;
+pub(crate) const NESTING: usize = 4096;
 
-/// The most levels that the tree of a unit may have, that of the root included: the standard has no
-/// bound, and readers that recurse need one.
+/// The most levels that the tree of a unit may have, that of the root included: 4,096. The standard has no
+/// bound. With one, what a program does for each level of a hostile input is bounded too.
 #[tactic(auto, unfolding(dw_tree::specs::Tree::nesting))]
 pub fn most_levels() -> usize
     ensures { result ≡ nesting }

@@ -22,7 +22,7 @@ pub enum Refusal {
     /// An entry is still open.
     #[error("Open")]
     Open,
-    /// The entry would have more than 255 others around it.
+    /// The entry would have more than 4,095 others around it.
     #[error("TooDeep")]
     TooDeep,
     /// The unit's length would reach 0xfffffff0 in the 32-bit format, or the unit would pass

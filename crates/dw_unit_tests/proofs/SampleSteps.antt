@@ -1,8 +1,9 @@
 -- The steps of the tests, over their tables.
-use Rattle.std.proofs.Common.{◌≡◌, ◌≢◌, ℕ, zero, suc, ◌+◌, ◌<◌, ◌≤◌, List, [], ◌∷◌, length, refl, sym, ap, arith, None, add-one}
+use Rattle.std.proofs.Common.{◌≡◌, ◌≢◌, ℕ, zero, suc, ◌+◌, ◌-◌, ◌<◌, ◌≤◌, List, [], ◌∷◌, length, refl, sym, ap, subst, ◌∙◌, arith, None, add-one}
 use Rattle.std.specs.Prelude.{IsSome, IfSome}
 use Rattle.dw_form.specs.Form.{attribute, shaped, shape}
-use Rattle.dw_tree.specs.Tree.{Forest, nesting}
+use Rattle.dw_tree.specs.Tree.{Forest, branch, none, more, nesting}
+use Rattle.dw_tree.specs.Levels.{nesting_is}
 use Rattle.dw_tree.specs.Place.{Frame, Spot, nowhere, enter, leave_from}
 use Rattle.dw_tree.specs.Steps.{Growing, begun_at, with_value, partial_in, partial_attribute, started, extended, ended, closed_at, NextFits, IsPlainNext, next_bytes, next_front, finished}
 use Rattle.dw_unit_tests.specs.Samples.{two_codes, bare_code, little, wide, a_name, a_size, with_name, with_size}
@@ -65,6 +66,8 @@ module _ (g : Growing) (context : g.context ≡ little) (table : g.table ≡ two
 
 -- ---- entries that are each the only child of the one before
 
+-- `nesting` stands for its number here: a check would compute with a numeral level by level.
+
 abbrev pub down : ℕ → Spot
 down zero = nowhere
 down (suc n) = enter (wide 1 1) [] (down n)
@@ -76,25 +79,59 @@ pub depth_is : (n : ℕ) → length (down n).above ≡ n
 depth_is zero = refl
 depth_is (suc n) = ap suc (depth_is n)
 
-pub has_room : (n : ℕ) → n < 256 → length (down n).above < nesting
-unfolding nesting
-has_room n h = omega (arith, h, depth_is n)
+pub has_room : (n : ℕ) → n < 4096 → length (down n).above < nesting
+has_room n h = omega (arith, h, depth_is n, nesting_is)
 
--- and of which so many are closed
+-- as many as there may be, of which so many are closed
 abbrev pub shut : ℕ → Growing
-shut zero = opened 256
+shut zero = opened nesting
 shut (suc n) = closed_at 1 (shut n)
+
+-- so many are open, and below the last one stands this
+abbrev below : ℕ → Forest → Growing
+below n ts = record { context = little; table = bare_code; start = 12; place = record { spot = record { above = (down n).above; left = ts }; unfinished = None } }
+
+abbrev chain : ℕ → Forest
+chain zero = none
+chain (suc n) = more (branch (wide 1 1) [] (chain n) 1) none
+
+opened_is : (n : ℕ) → opened n ≡ below n none
+opened_is zero = refl
+opened_is (suc n) = refl
+
+closed_below : (n : ℕ) (ts : Forest) → closed_at 1 (below (suc n) ts) ≡ below n (more (branch (wide 1 1) [] ts 1) none)
+closed_below zero ts = refl
+closed_below (suc n) ts = refl
+
+shut_is : (n : ℕ) → n ≤ nesting → shut n ≡ below (nesting - n) (chain n)
+shut_is zero h = let all : nesting - 0 ≡ nesting = omega arith in opened_is nesting ∙ ap (λ (m : ℕ). below m none) (sym all)
+shut_is (suc n) h =
+    let one : nesting - n ≡ suc (nesting - suc n) = omega (arith, h) in
+    ap (closed_at 1) (shut_is n (omega (arith, h))) ∙ (ap (λ (m : ℕ). closed_at 1 (below m (chain n))) one ∙ closed_below (nesting - suc n) (chain n))
+
+whole : (n : ℕ) → 0 < n → IsSome (finished (below 0 (chain n)))
+whole zero h = absurd (omega (arith, h))
+whole (suc n) h = refl
+
+pub all_opened : (n : ℕ) → n ≤ 4096 → 4096 ≤ n → opened n ≡ shut 0
+all_opened n few many = ap opened (omega (arith, few, many, nesting_is))
+
+pub all_shut : (n : ℕ) → n ≤ 4096 → 4096 ≤ n → IsSome (finished (shut n))
+all_shut n few many =
+    let none_left : nesting - n ≡ 0 = omega (arith, many, nesting_is) in
+    let is : shut n ≡ below 0 (chain n) = shut_is n (omega (arith, few, nesting_is)) ∙ ap (λ (m : ℕ). below m (chain n)) none_left in
+    subst (λ (g : Growing). IsSome (finished g)) (sym is) (whole n (omega (arith, many)))
 
 one_shut : (w : ℕ) (fs : List Frame) (ts : Forest) → 0 < length fs → length (leave_from w fs ts).above + 1 ≡ length fs
 one_shut w [] ts h = absurd (omega (arith, h))
 one_shut w (f ∷ fs) ts h = omega arith
 
-left_open : (n : ℕ) → n ≤ 256 → length (shut n).place.spot.above + n ≡ 256
-left_open zero h = omega (arith, depth_is 256)
+left_open : (n : ℕ) → n ≤ nesting → length (shut n).place.spot.above + n ≡ nesting
+left_open zero h = omega (arith, depth_is nesting)
 left_open (suc n) h =
     let before = left_open n (omega (arith, h)) in
     let one = one_shut 1 (shut n).place.spot.above (shut n).place.spot.left (omega (arith, before, h)) in
     omega (arith, before, one)
 
-pub some_open : (n : ℕ) → n < 256 → (shut n).place.spot.above ≢ []
-some_open n h e = let k = left_open n (omega (arith, h)) in let none = ap length e in omega (arith, k, none, h)
+pub some_open : (n : ℕ) → n < 4096 → (shut n).place.spot.above ≢ []
+some_open n h e = let k = left_open n (omega (arith, h, nesting_is)) in let none = ap length e in omega (arith, k, none, h, nesting_is)

@@ -156,5 +156,5 @@ fn numbers_and_names_of_refusals(rt: HostRuntime) -> Result<(), Fail> {
 
 #[test]
 fn levels_of_a_unit(rt: HostRuntime) {
-    assert!(rt; most_levels() == 256);
+    assert!(rt; most_levels() == 4096);
 }

@@ -49,9 +49,9 @@ fn in_width(value: u64, width: u8) -> Result<Uleb, Fail>
 
 /// The next byte stands near the beginning.
 fn near(draft: &TreeDraft) -> Result<(), Fail>
-    ensures { OnOk result (end_of draft.now ≤ 4096) }
+    ensures { OnOk result (end_of draft.now ≤ 16384) }
 {
-    if draft.end() > 4096 {
+    if draft.end() > 16384 {
         return Err("too far".into());
     }
     Ok(())
@@ -163,18 +163,18 @@ fn three_levels(alloc: Global) -> Result<EntryTree, Fail> {
     Ok(draft.finish())
 }
 
-/// 256 entries, each the only child of the one before.
+/// 4,096 entries, each the only child of the one before.
 fn nested(alloc: Global) -> Result<EntryTree, Fail> {
     let mut draft = TreeDraft::new(alloc, context(), bare_code(alloc)?, 12);
     let code = in_width(1, 1)?;
     let mut begun = 0u16;
-    while begun < 256 {
+    while begun < 4096 {
         near(&draft)?;
         draft.begin(code)?;
         begun += 1;
     }
     let mut ended = 0u16;
-    while ended < 256 {
+    while ended < 4096 {
         closed(&mut draft, 1)?;
         ended += 1;
     }
@@ -274,9 +274,9 @@ fn takes_an_entry_back(rt: HostRuntime) -> Result<(), Fail> {
 }
 
 /// Each of the entries stands a byte and a level behind the one before.
-fn has_256_levels(rt: &impl Abort, tree: &EntryTree) -> Result<(), Fail> {
+fn has_4096_levels(rt: &impl Abort, tree: &EntryTree) -> Result<(), Fail> {
     let mut entries = tree.entries();
-    for offset in 12..268u64 {
+    for offset in 12..4108u64 {
         let entry = entries.next().ok_or("too few entries")?;
         assert!(rt; (entry.offset(), entry.depth()) == (offset, offset - 11));
     }
@@ -284,11 +284,11 @@ fn has_256_levels(rt: &impl Abort, tree: &EntryTree) -> Result<(), Fail> {
     Ok(())
 }
 
-/// These are 256 codes and as many nulls.
+/// These are 4,096 codes and as many nulls.
 fn are_codes_and_nulls(rt: &impl Abort, bytes: &[u8]) {
-    assert!(rt; bytes.len() == 512);
+    assert!(rt; bytes.len() == 8192);
     for (at, byte) in bytes.iter().enumerate() {
-        let code = if at < 256 { 1 } else { 0 };
+        let code = if at < 4096 { 1 } else { 0 };
         assert_eq!(rt; *byte, code, "at {at}");
     }
 }
@@ -306,7 +306,7 @@ fn writes_codes_and_nulls(
 #[test]
 fn the_deepest_tree(rt: HostRuntime) -> Result<(), Fail> {
     let tree = nested(rt.alloc())?;
-    has_256_levels(&rt, &tree)?;
+    has_4096_levels(&rt, &tree)?;
     Ok(writes_codes_and_nulls(&rt, rt.alloc(), &tree)?)
 }
 

@@ -2,16 +2,15 @@
 //!
 //! `pieces ABBREV INFO` reads the unit in pieces of several sizes, and says of each whether the unit that came is
 //! written as the bytes that were pushed. `pieces ABBREV INFO SIZE` reads it once in pieces of so many bytes, and
-//! says how many bytes it has: with 0 by the reader that recurses, to compare the two.
+//! says how many bytes it has; with 0 by the call that takes the bytes at hand.
 #![tactic(auto)]
 
 ghost use Rattle.std.specs.Prelude.{IfOk};
 ghost use Rattle.dw_header.specs.Laws.{HasHeaderBytes};
 
-use dw_unit::read_unit_as;
 use rothelduf::{
     BodyFeed, Fault, HeadFeed, Header, Order, Progress, ReadError, Tables, Unit, Versions, Watched,
-    WriteError, write_unit,
+    WriteError, read_unit_as, write_unit,
 };
 use std::alloc::{AllocError, Global};
 use std::rt::{Env, Files};
@@ -71,14 +70,14 @@ fn one_size(
     let info = fs::read(rt, info)?;
     let mut tables = Tables::new(rt.alloc(), abbreviations.as_slice());
     let unit = match size {
-        0 => recursive(rt.alloc(), &mut tables, info.as_slice())?,
+        0 => at_hand(rt.alloc(), &mut tables, info.as_slice())?,
         size => pushed(rt.alloc(), &mut tables, info.as_slice(), size)?,
     };
     println!(rt; "{} bytes", unit.size())?;
     Ok(())
 }
 
-fn recursive(alloc: Global, tables: &mut Tables<'_>, bytes: &[u8]) -> Result<Unit, PiecesError> {
+fn at_hand(alloc: Global, tables: &mut Tables<'_>, bytes: &[u8]) -> Result<Unit, PiecesError> {
     let (unit, _size) = read_unit_as(alloc, Order::Little, Versions::FourAndFive, tables, bytes)?;
     Ok(unit)
 }

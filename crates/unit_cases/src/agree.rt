@@ -1,4 +1,4 @@
-//! Other readers of units, which have to give the same outcome.
+//! The read of a unit from a reader, which has to give the same outcome.
 ghost use Rattle.std.specs.Prelude.{◌≡◌, None};
 ghost use Rattle.dw_leb.specs.Watch.{fault_of};
 
@@ -34,15 +34,6 @@ fn reads<R: Read>(
     let mut tables = Tables::new(alloc, input.section);
     match read_unit_from_as(alloc, input.order, input.versions, &mut tables, reader) {
         Ok(unit) => is_unit(alloc, input, &unit, outcome),
-        Err(error) => outcome == Err(error),
-    }
-}
-
-/// Whether the reader that recurses has the same outcome.
-pub fn recursively(alloc: Global, input: Input<'_>, outcome: Outcome) -> bool {
-    let mut tables = Tables::new(alloc, input.section);
-    match dw_unit::read_unit_as(alloc, input.order, input.versions, &mut tables, input.bytes) {
-        Ok((unit, size)) => outcome == Ok(size) && is_unit(alloc, input, &unit, outcome),
         Err(error) => outcome == Err(error),
     }
 }

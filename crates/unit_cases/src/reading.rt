@@ -1,5 +1,5 @@
 //! A unit that is read from bytes, and what is so of every one.
-use crate::agree::{from_a_reader, recursively};
+use crate::agree::from_a_reader;
 use crate::show::{append_error, append_fault};
 use crate::unit::append_said;
 use dw_abbrev::Tables;
@@ -147,7 +147,7 @@ fn is_before(error: ReadError, offset: u64) -> bool {
     }
 }
 
-/// Says where another reader gives another outcome.
+/// Says where the bytes have another outcome from a reader.
 fn append_agreement(
     alloc: Global,
     input: Input<'_>,
@@ -156,9 +156,6 @@ fn append_agreement(
 ) -> Result<(), AllocError> {
     if !from_a_reader(alloc, input, outcome) {
         answer.push_str("; otherwise from a reader")?;
-    }
-    if !recursively(alloc, input, outcome) {
-        answer.push_str("; otherwise by recursion")?;
     }
     Ok(())
 }

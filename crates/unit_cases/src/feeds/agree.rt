@@ -3,8 +3,8 @@
 //! - `fronts over TABLE: BYTES`, on each front of the bytes, answered with how many these are;
 //! - `changes over TABLE: BYTES`, on the bytes with each one changed to every value, answered with how many these are.
 //!
-//! The readers are one of bytes at hand, one that recurses, one over a reader that gives a byte a call, and a feed in
-//! pieces of one byte and in one piece.
+//! They are one of bytes at hand, one over a reader that gives a byte a call, and a feed in pieces of one byte and in one
+//! piece.
 use crate::feeds::cuts::{at_once, is_pushed, pushed};
 use crate::feeds::input::{Input, Outcome, Setting};
 use crate::feeds::readers::read_by;
@@ -21,21 +21,10 @@ fn at_hand(alloc: Global, input: Input<'_>) -> Outcome {
     }
 }
 
-fn by_recursion(alloc: Global, input: Input<'_>) -> Outcome {
-    let Setting { order, versions } = input.setting;
-    let mut tables = Tables::new(alloc, input.section);
-    match dw_unit::read_unit_as(alloc, order, versions, &mut tables, input.bytes) {
-        Ok((unit, _)) => Outcome::of_unit(alloc, input, &unit),
-        Err(error) => Outcome::Refused(error),
-    }
-}
-
 /// Whether all readers come to the same outcome, and the feed after the same bytes.
 fn agree(alloc: Global, input: Input<'_>) -> bool {
     let outcome = at_hand(alloc, input);
-    are_fed_to(alloc, input, outcome)
-        && by_recursion(alloc, input) == outcome
-        && read_by(alloc, input, 1).0 == outcome
+    are_fed_to(alloc, input, outcome) && read_by(alloc, input, 1).0 == outcome
 }
 
 /// Whether a feed comes to the outcome, if there is a header and a table for one.

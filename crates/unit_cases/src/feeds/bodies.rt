@@ -19,8 +19,9 @@ pub fn append_body(
     pieces: &str,
     answer: &mut String,
 ) -> Result<(), AllocError> {
-    let length = length.parse().unwrap_or(0);
-    let head = [length, 0, 0, 0, 0x05, 0, 0x01, 0x08, 0, 0, 0, 0];
+    let length: u16 = length.parse().unwrap_or(0);
+    let (low, high) = ((length % 256) as u8, (length / 256) as u8);
+    let head = [low, high, 0, 0, 0x05, 0, 0x01, 0x08, 0, 0, 0, 0];
     let input = Input {
         setting: Setting {
             order: Order::Little,

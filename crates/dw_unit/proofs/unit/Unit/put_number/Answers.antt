@@ -1,6 +1,6 @@
 use mir.Syntax.{w128}
 use Rattle.std.proofs.lemmas.Int.{to_z-of_z}
-use Rattle.std.proofs.Common.{◌≡◌, ℕ, ℤ, to_z, of_z, List, length, map, sym, ap, subst, ◌∙◌}
+use Rattle.std.proofs.Common.{◌≡◌, ℕ, ℤ, List, length, map, sym, ap, subst, ◌∙◌}
 use Rattle.dw_tree.specs.Steps.{TreeAt}
 use Rattle.dw_tree.specs.Lent.{EntryAt, entries_of}
 use Rattle.dw_tree.specs.Put.{Edit, Takes, put}
