@@ -19,7 +19,9 @@ class Maker:
         self.chance = chance
         self.big, self.four = chance.random() < 0.4, chance.random() < 0.4
         self.strings = b"".join(self.text() + b"\0" for _ in range(3)) + self.chance.choice([b"", b"no end"])
-        self.info, self.tables, self.decls = b"", b"", []
+        self.info, self.tables = b"", b""
+        # Where the tables begin, and those within them that begin with a later declaration; the declarations of each.
+        self.decls, self.tails = [], []
 
     def section(self):
         """The files of the program, and whether they are big-endian and of version 4 too."""
@@ -55,18 +57,20 @@ class Maker:
     # ---- tables
 
     def add_table(self):
-        offset, decls = len(self.tables), {}
+        starts, decls = [], {}
         for code in self.chance.sample([1, 2, 3, 4, 200, 70_000, 2**64 - 1], self.chance.randint(1, 5)):
             pairs = [self.pair() for _ in range(self.chance.randrange(5))]
             if self.chance.random() < 0.4:
                 pairs.insert(0, (STRING_BASE, 0x17, 0))
             decls[code] = self.chance.random() < 0.5, pairs
+            starts.append(len(self.tables))
             self.tables += self.leb(code) + self.leb(self.chance.choice([*TYPES, 0x4081])) + bytes([decls[code][0]])
             for name, form, constant in pairs:
                 self.tables += self.leb(name) + self.leb(form) + (self.leb(constant, signed=True) if form == IMPLICIT else b"")
             self.tables += self.leb(0) + self.leb(0)
         self.tables += self.leb(0)
-        self.decls.append((offset, decls))
+        self.decls.append((starts[0], decls))
+        self.tails += [(start, dict([*decls.items()][at:])) for at, start in enumerate(starts)]
 
     def pair(self):
         form = self.chance.choice([*FORMS, *IN_UNIT, *STRX, STRING])
@@ -81,7 +85,7 @@ class Maker:
 
     def unit(self):
         wide, size = (True, 8) if self.chance.random() < 0.3 else (False, 4)
-        offset, decls = self.chance.choice(self.decls)
+        offset, decls = self.chance.choice(self.decls if self.chance.random() < 0.6 else self.tails)
         header, address = self.header(offset, size)
         start = (12 if wide else 4) + len(header)
         body, offsets, places = self.tree(decls, start, address, size)
