@@ -101,7 +101,7 @@ impl Table {
         }
     }
 
-    /// The same where no declaration of the table is known yet, all of which are known then. None where one is: there another table was read.
+    /// The same where no declaration of the table is known yet, all of which are then. None where one is: another table was read there.
     pub(crate) fn read_unknown(
         alloc: Global,
         abbreviations: &[u8],
@@ -140,18 +140,18 @@ impl Table {
         let mut decls = IndexMap::new(alloc);
         let mut here = at;
         loop {
-            if known.has(here) {
-                return Ok(None);
-            }
             let (code, behind) = code_at(&decls, abbreviations, here)?;
             if code.value == 0 {
+                known.reach(behind);
                 return Ok(Some(Table {
                     decls,
                     shared: Vec::new(alloc),
                     last_zero: code,
                 }));
             }
-            known.note(here)?;
+            if known.meets(here)? {
+                return Ok(None);
+            }
             let (decl, next) = decl_at(alloc, abbreviations, behind, code)?;
             match keep(&mut decls, decl) {
                 Ok(_) => here = next,

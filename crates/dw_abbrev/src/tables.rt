@@ -1,5 +1,5 @@
 //! The tables of a section, read at need and shared.
-ghost use Rattle.std.specs.Prelude.{◌≡◌, ◌<◌, ◌++◌, drop, length, IfOk, IfErr};
+ghost use Rattle.std.specs.Prelude.{◌≡◌, ◌<◌, ◌++◌, drop, length, IfOk, IfErr, OnErr};
 ghost use Rattle.dw_leb.specs.View.{uleb_of};
 ghost use Rattle.dw_abbrev.specs.Table.{Table as Spelled, IsZero, TableAt};
 ghost use Rattle.dw_abbrev.specs.TableView.{decls_in, joined, AreKeyed};
@@ -20,8 +20,8 @@ use std::rc::Rc;
 /// The tables of a section `.debug_abbrev`, each read when it is first asked for and kept by its
 /// offset. Where tables have declarations in common, what they take grows with what each adds, and not with what it repeats.
 ///
-/// Two tables that meet at the beginning of a declaration are the same from there on. Those of compilers never meet: each is read for itself.
-/// Where one meets what was read before (`known`), its declarations are read into a run, up to a table that is kept and shares
+/// Two tables that meet at the beginning of a declaration are the same from there on. Those of compilers never meet, and each begins behind all
+/// that were read before: it is read for itself. Once one doesn't, it is kept track of where declarations begin that were read. Where one meets what was read before (`known`), its declarations are read into a run, up to a table that is kept and shares
 /// at least twice as many in its first run. The table is the run and what that one shares, and from then on the run's other declarations begin
 /// such tables too, so that later ones meet them.
 #[derive(Debug, Drop)]
@@ -52,7 +52,7 @@ impl<'a> Tables<'a> {
         Tables {
             alloc,
             abbreviations,
-            known: KnownOffsets::new(alloc),
+            known: KnownOffsets::none(alloc),
             kept: IndexMap::new(alloc),
         }
     }
@@ -70,11 +70,36 @@ impl<'a> Tables<'a> {
         if let Some(table) = self.kept.get(&offset) {
             return Ok(table.clone()?);
         }
+        self.prepare(offset)?;
         let read = Table::read_unknown(self.alloc, self.abbreviations, offset, &mut self.known)?;
         match read {
             Some(table) => self.keep(offset, table),
             None => self.get_shared(offset),
         }
+    }
+
+    /// It is known where declarations begin, if the table at `offset` may meet another.
+    #[inline(always)]
+    fn prepare(&mut self, offset: u64) -> Result<(), AllocError>
+        ensures abbreviations { self.new ≡ self.old }
+        ensures inside { OnErr result (offset < length self.old) }
+    {
+        if self.known.lacks(offset) && offset < self.abbreviations.len() as u64 {
+            return self.learn();
+        }
+        Ok(())
+    }
+
+    /// From now on it is known where the declarations begin of the tables that are kept, and of those that are read.
+    fn learn(&mut self) -> Result<(), AllocError>
+        ensures { self.new ≡ self.old }
+    {
+        self.known.begin();
+        for offset in self.kept.keys() {
+            self.known
+                .learn(self.alloc, self.abbreviations, *offset as usize)?;
+        }
+        Ok(())
     }
 
     /// The table at `offset`, which meets others: what it shares is kept, unless it breaks.

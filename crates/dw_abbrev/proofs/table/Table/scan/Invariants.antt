@@ -8,8 +8,8 @@ use Rattle.dw_abbrev.specs.Place.{ReadTo}
 use Rattle.dw_abbrev.proofs.table.Table.scan.Given as goal
 
 -- the declarations up to here are read
-abbrev pub invariant-loop-alloc : goal.invariant-loop-alloc
-invariant-loop-alloc l =
+abbrev pub invariant-loop-decls : goal.invariant-loop-decls
+invariant-loop-decls l =
     record {
       read : ReadTo read_code is_null (λ _. read_described) l.abbreviations l.at (map declaration_parts (decls_in l.decls.entries)) l.here;
       keyed : AreKeyed l.decls.entries;
@@ -18,5 +18,5 @@ invariant-loop-alloc l =
       keeps : l.known.keeps ≡ l.fn.known.keeps;
     }
 
-abbrev pub decreases-loop-alloc : goal.decreases-loop-alloc
-decreases-loop-alloc l = length l.abbreviations - l.here
+abbrev pub decreases-loop-decls : goal.decreases-loop-decls
+decreases-loop-decls l = length l.abbreviations - l.here

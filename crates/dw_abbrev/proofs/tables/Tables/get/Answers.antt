@@ -30,16 +30,16 @@ returns-in_err-clone-clause-memory c =
 pub returns-in_err-read-clause-only : goal.returns-in_err-read-clause-only
 returns-in_err-read-clause-only c t at =
     let p = err_from_is_err_and c.from_residual-in_err-read.result c.from_residual-in_err-read.ensures.1 in
-    let there : TableAt c.self.inside.abbreviations.now c.args.offset t = subst (λ (s : List ℕ). TableAt s c.args.offset t) (sym c.self.view_is) at in
+    let there : TableAt c.self-2.inside.abbreviations.now c.args.offset t = subst (λ (s : List ℕ). TableAt s c.args.offset t) (sym (c.self-2.view_is ∙ c.in_ok-prepare.ensures.abbreviations)) at in
     rw (p.1, p.2) (c.in_err-read.ensures.only t there)
 
 pub returns-in-Some-read-clause-only : goal.returns-in-Some-read-clause-only
 returns-in-Some-read-clause-only c t at =
-    let there : TableAt c.self.inside.abbreviations.now c.args.offset t = subst (λ (s : List ℕ). TableAt s c.args.offset t) (sym c.self.view_is) at in
+    let there : TableAt c.self-2.inside.abbreviations.now c.args.offset t = subst (λ (s : List ℕ). TableAt s c.args.offset t) (sym (c.self-2.view_is ∙ c.in_ok-prepare.ensures.abbreviations)) at in
     let same : c.in-Some-read.table ≡ t = subst (λ (o : Option Table). IfSome o (λ x. x ≡ t)) c.in-Some-read.is (c.in_ok-read.ensures.only t there).0 in
     (IfOk-weaker c.keep.result (λ x. x.value ≡ c.in-Some-read.table) (λ x. x.value ≡ t) (λ x h. h ∙ same) c.keep.ensures.found, c.keep.ensures.memory)
 
 pub returns-in-None-clause-only : goal.returns-in-None-clause-only
 returns-in-None-clause-only c t at =
-    let there : TableAt c.self.inside.abbreviations.now c.args.offset t = subst (λ (s : List ℕ). TableAt s c.args.offset t) (sym c.self.view_is) at in
+    let there : TableAt c.self-2.inside.abbreviations.now c.args.offset t = subst (λ (s : List ℕ). TableAt s c.args.offset t) (sym (c.self-2.view_is ∙ c.in_ok-prepare.ensures.abbreviations)) at in
     c.get_shared.ensures.only t there
