@@ -8,7 +8,7 @@ several sizes, and each time written and compared with its bytes. Each front of 
 three ways, is read at hand and pushed in pieces of one byte, and both have to end alike. Over ABBREV and INFO, the sections of one
 unit of some megabytes, instructions are counted by Valgrind: those of the read at hand, and of the feed by the size of
 its pieces, as a multiple of the first. The status is 1 where a unit differs, a run fails, or a multiple is
-above its bound (in one piece 1.1, in pieces of 4,096 bytes 2, of one byte 20), else 0.
+above its bound (in one piece and in pieces of 4,096 bytes 1.1, of one byte 30), else 0.
 """
 
 import os
@@ -21,7 +21,7 @@ import tempfile
 EXAMPLES = os.path.join(os.path.dirname(os.path.dirname(os.path.abspath(__file__))), "examples")
 
 # The size of the pieces, what it is called, and how many times the instructions of the read at hand it may take.
-SIZES = [(1 << 40, "one piece", 1.1), (4096, "4,096 bytes", 2.0), (1, "one byte", 20.0)]
+SIZES = [(1 << 40, "one piece", 1.1), (4096, "4,096 bytes", 1.1), (1, "one byte", 30.0)]
 
 
 def instructions(program, abbrev, info, size):

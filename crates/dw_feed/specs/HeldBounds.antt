@@ -14,7 +14,6 @@ use Rattle.dw_form.specs.Form.{Attribute, shape}
 use Rattle.dw_form.specs.Pieces.{form_in, via_bytes}
 use Rattle.dw_abbrev.specs.Table.{Pair, Declaration, Table, declared, is_null, zero_of}
 use Rattle.dw_abbrev.specs.FewPairs.{FewPairs}
-use Rattle.dw_header.specs.HeaderPlace.{header_bytes}
 use Rattle.dw_tree.specs.Tree.{Tree, leaf, branch, Forest, none, more, Body, node_of, nodes_of, values, declared_pairs, declares_children, unless_declared, unknown, bad_child, body, children, nesting, nulls, AreNulls}
 use Rattle.dw_tree.specs.Spelling.{forest_bytes}
 use Rattle.dw_tree.specs.Row.{Token, leaf_row, branch_row, null_row, rows_of, all_rows, rows_bytes}
@@ -28,7 +27,7 @@ use Rattle.dw_feed.specs.PlaceRows.{place_rows}
 use Rattle.dw_feed.specs.FieldPlace.{ChildFits, ChainFits, BeginsEntry, RootFits, BeforeFits, FramesFit, PaddingFits, PlaceFits}
 use Rattle.dw_feed.specs.PlaceBreaks.{room_is}
 use Rattle.dw_feed.specs.FieldFound.{root_begins}
-use Rattle.dw_feed.specs.BodyFeed.{PartialUnit, first_form, count_if, pairs_left, value_part, part, before, stream}
+use Rattle.dw_feed.specs.BodyFeed.{PartialUnit, first_form, count_if, pairs_left, value_part, part}
 use Rattle.dw_feed.specs.HeldCounts.{entries_in, values_in, unfinished_entries, unfinished_values, held_by}
 use Rattle.dw_feed.specs.HeldSteps.{few_declared}
 use Rattle.dw_feed.specs.HeldView.{HeldWithin}
@@ -201,7 +200,7 @@ module _ (g : PartialUnit) (keeps : Keeps g) where
       let c : List ℕ = count_if (context g) (shape (form_in (first_form (pairs_left g.table g.place.unfinished)) b.via) (context g).address_size (context g).format) b.width (length b.bytes + g.to_come) in
       omega (arith, ap (λ (p : Option PartialValue). length (value_part g p ++ g.pending)) e, length-append (n ++ (c ++ b.bytes)) g.pending, length-append n (c ++ b.bytes), length-append c b.bytes)
 
-  pub held_pool : (held_by g).pool ≤ length (stream g)
+  pub held_pool : (held_by g).pool ≤ length (body_so_far g ++ part g)
   held_pool =
       let xs : List Token = rows_before (frames_of g) (chain_of g) in
       omega (
@@ -210,8 +209,7 @@ module _ (g : PartialUnit) (keeps : Keeps g) where
         length-append (held xs) (read_bytes g.place.unfinished),
         (rows_short (context g) g.table xs 0 rows_here).content_short,
         by (frames_of g) (chain_of g) g.place.unfinished g.padding keeps.stands (partial_in_part (partial_in g.place.unfinished) refl),
-        length-append (before g) (part g),
-        length-append (header_bytes g.header g.unit_length) (body_so_far g),
+        length-append (body_so_far g) (part g),
       )
     where
       by : (fs : List Frame) (ts : Forest) (o : Option UnfinishedEntry) (ws : List ℕ) → PlaceFits (context g) g.table fs ts o ws → length (partial_bytes (partial_in o)) ≤ length (part g)
@@ -219,14 +217,13 @@ module _ (g : PartialUnit) (keeps : Keeps g) where
       by fs ts None ws h m = omega arith
       by fs ts (Some r) ws h m = omega (arith, m, short_unfinished (context g) g.table fs ts r ws h, length-append (joined r.values) (partial_bytes r.partial))
 
-  pub few_padding : length g.padding ≤ length (stream g)
+  pub few_padding : length g.padding ≤ length (body_so_far g ++ part g)
   few_padding =
       omega (
         arith,
         parts_size,
         few_nulls g.padding (by (frames_of g) (chain_of g) g.place.unfinished g.padding keeps.stands.padding_fits),
-        length-append (before g) (part g),
-        length-append (header_bytes g.header g.unit_length) (body_so_far g),
+        length-append (body_so_far g) (part g),
       )
     where
       by : (fs : List Frame) (ts : Forest) (o : Option UnfinishedEntry) (ws : List ℕ) → PaddingFits (context g) g.table fs ts o ws → AreNulls ws
@@ -237,11 +234,11 @@ module _ (g : PartialUnit) (keeps : Keeps g) where
       by [] (more x ts) (Some r) (w ∷ ws) h = absurd h
       by (f ∷ fs) ts o (w ∷ ws) h = absurd h
 
-  pub held_within : FewPairs g.table → length g.pending ≤ 16 → HeldWithin (length (stream g)) (held_by g)
+  pub held_within : FewPairs g.table → length g.pending ≤ 16 → HeldWithin (length (body_so_far g ++ part g)) (held_by g)
   held_within few short = record {
     pending = short;
     nested = held_nested;
-    entries = omega (arith, held_entries, length-append (before g) (part g), length-append (header_bytes g.header g.unit_length) (body_so_far g));
+    entries = omega (arith, held_entries, length-append (body_so_far g) (part g));
     values = held_values few;
     pool = held_pool;
   }

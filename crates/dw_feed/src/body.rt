@@ -4,6 +4,7 @@ ghost use Rattle.dw_header.specs.Laws.{HasHeaderBytes};
 ghost use Rattle.dw_feed.specs.BodyFeed.{Reading, started, FeedsBody, EndsBody};
 ghost use Rattle.dw_feed.specs.EmptyPiece.{Rests};
 ghost use Rattle.dw_feed.specs.HeldCounts.{held};
+ghost use Rattle.dw_feed.specs.BodyFeedView.{IsBodyFeed};
 ghost use Rattle.dw_feed.specs.HeldView.{held_of, HeldWithin, padding_of, taken_by};
 
 use crate::code::is_cut;
@@ -143,14 +144,17 @@ impl BodyFeed {
         }
     }
 
-    /// What it holds, in constant time and without memory: nothing once an answer was not `More`. The entries
-    /// and the bytes of texts and blocks are no more than the bytes that were taken, those of the header
-    /// included; at most 4,096 entries are nested, an entry has at most 1,024 values, and the
-    /// nulls of the padding are no more than the bytes that were taken.
+    /// What it holds, in constant time and without memory: nothing once an answer was not `More`. The entries,
+    /// the bytes of texts and blocks, and the nulls of the padding are each no more than the bytes that were taken
+    /// of the pieces; at most 4,096 entries are nested, and an entry has at most 1,024 values.
+    ///
+    /// What came before the place where the next field begins is counted as the entries and values that it spells, and
+    /// what is there of that field as its own: as bytes of a number, or of a text or block that isn't whole.
     pub fn held(&self) -> Held
         ensures exact { held_of result ≡ held self.now }
         ensures within { HeldWithin (taken_by self.now) (held_of result) }
         ensures padding { length (padding_of self.now) ≤ taken_by self.now }
+        ensures place { IsBodyFeed self.now }
     {
         match &self.coming {
             Some(coming) => coming.held(),

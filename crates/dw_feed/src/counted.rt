@@ -27,7 +27,7 @@ use std::rc::Rc;
 #[derive(Debug, Drop)]
 pub(crate) struct Counted {
     draft: Draft,
-    entries: u64,
+    entries: usize,
     /// An entry may have 1,024 values without a byte, so they may outnumber the bytes of a unit.
     values: u128,
 }
@@ -70,7 +70,7 @@ impl Counted {
     }
 
     /// How many entries it has, an unfinished one included, and how many values that are whole.
-    pub(crate) fn counts(&self) -> (u64, u128)
+    pub(crate) fn counts(&self) -> (usize, u128)
         ensures { IsCounted self.now result.0 result.1 }
     {
         (self.entries, self.values)

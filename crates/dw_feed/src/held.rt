@@ -9,7 +9,7 @@ pub struct Held {
     /// The entries whose subtree hasn't ended, an unfinished one included (section 2.3).
     pub nested: usize,
     /// The entries, as many as codes other than 0 were taken (section 7.5.2).
-    pub entries: u64,
+    pub entries: usize,
     /// Their values that are whole (section 7.5.3). An entry may have 1,024 of them without a byte.
     pub values: u128,
     /// The bytes of texts and blocks that came, without the zero that ends a text, and without length
