@@ -215,7 +215,9 @@ impl Decl {
     }
 }
 
-/// The declaration of a code: what stands behind the code, at `at`, and where what follows begins.
+/// The declaration of a code: what stands behind the code, at `at`, and where what follows begins. (It is inlined where tables are read for
+/// themselves, as nearly all are: a result that holds a vector is copied byte by byte.)
+#[inline(always)]
 pub(crate) fn decl_at(
     alloc: Global,
     abbreviations: &[u8],
@@ -244,4 +246,21 @@ pub(crate) fn decl_at(
         prefix,
     };
     Ok((decl, next))
+}
+
+/// The same, for what isn't asked so often.
+#[inline(never)]
+pub(crate) fn decl_behind(
+    alloc: Global,
+    abbreviations: &[u8],
+    at: usize,
+    code: Uleb,
+) -> Result<(Decl, usize), ReadError>
+    requires within { at ≤ length abbreviations.now }
+    requires some { is_null (uleb_of code) ≡ false }
+    ensures ok { IfOk result (λ x. Gives read_described abbreviations.now at (described_of x.0) x.1) }
+    ensures code { IfOk result (λ x. x.0.code ≡ uleb_of code) }
+    ensures forward { IfOk result (λ x. (at < x.1) × (x.1 ≤ length abbreviations.now)) }
+{
+    decl_at(alloc, abbreviations, at, code)
 }

@@ -1,7 +1,7 @@
 //! At which offsets of a section declarations begin that were read.
 ghost use Rattle.std.specs.Prelude.{◌≡◌, ◌≤◌, false, length, IfOk, IsTrue};
 
-use crate::decl::decl_at;
+use crate::decl::decl_behind;
 use crate::fields::uleb_at;
 use dw_leb::ReadError;
 use std::alloc::{AllocError, Global};
@@ -92,7 +92,7 @@ impl KnownOffsets {
             if code.value == 0 || self.note(here)? {
                 return Ok(());
             }
-            match decl_at(alloc, abbreviations, behind, code) {
+            match decl_behind(alloc, abbreviations, behind, code) {
                 Ok((_, next)) => here = next,
                 Err(ReadError::NoMemory) => return Err(AllocError),
                 Err(_) => return Ok(()),

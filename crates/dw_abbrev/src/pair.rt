@@ -166,6 +166,7 @@ fn constant_at(
 /// The pairs at `at` go to the list, which has none, and the result is the zeros behind them and where what follows
 /// begins. The list grows by one pair at a time, each judged before. (It is the caller's, since a result that holds a vector is
 /// copied byte by byte.)
+#[inline(always)]
 pub(crate) fn pairs_at(
     list: &mut Vec<Pair>,
     abbreviations: &[u8],

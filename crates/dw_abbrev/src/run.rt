@@ -7,7 +7,7 @@ ghost use Rattle.dw_abbrev.specs.Table.{IsZero, TableAt};
 ghost use Rattle.dw_abbrev.specs.TableView.{joined, AreKeyed};
 ghost use Rattle.dw_abbrev.specs.Runs.{IsRun, IsStep, IsJoined};
 
-use crate::decl::{Decl, decl_at};
+use crate::decl::{Decl, decl_behind};
 use crate::fields::uleb_at;
 use crate::shared::{SharedRun, are_apart};
 use crate::table::{Table, keep};
@@ -67,7 +67,7 @@ impl Run {
         if self.decls.contains_key(&code.value) {
             return Ok(Step::Broken);
         }
-        match decl_at(alloc, abbreviations, behind, code) {
+        match decl_behind(alloc, abbreviations, behind, code) {
             Ok((decl, next)) => {
                 self.push(here, decl)?;
                 Ok(Step::Declaration(next))

@@ -102,6 +102,7 @@ impl Table {
     }
 
     /// The same where no declaration of the table is known yet, all of which are then. None where one is: another table was read there.
+    #[inline(always)]
     pub(crate) fn read_unknown(
         alloc: Global,
         abbreviations: &[u8],
@@ -125,6 +126,7 @@ impl Table {
         Table::scan(alloc, abbreviations, offset as usize, known)
     }
 
+    #[inline(always)]
     fn scan(
         alloc: Global,
         abbreviations: &[u8],
@@ -287,6 +289,7 @@ fn code_at(
 }
 
 /// Keeps a declaration of a new code, behind the others. Where there is no memory it is handed back.
+#[inline(always)]
 pub(crate) fn keep(decls: &mut IndexMap<u64, Decl>, decl: Decl) -> Result<(), Decl>
     requires { get nat_eq decls.old decl.code.value ≡ None }
     ensures ok { OnOk result (decls.new.entries ≡ decls.old.entries ++ (decl.code.value, decl) ∷ []) }

@@ -91,6 +91,7 @@ impl<'a> Tables<'a> {
     }
 
     /// From now on it is known where the declarations begin of the tables that are kept, and of those that are read.
+    #[inline(never)]
     fn learn(&mut self) -> Result<(), AllocError>
         ensures { self.new ≡ self.old }
     {
@@ -103,6 +104,7 @@ impl<'a> Tables<'a> {
     }
 
     /// The table at `offset`, which meets others: what it shares is kept, unless it breaks.
+    #[inline(never)]
     fn get_shared(&mut self, offset: u64) -> Result<Rc<Table>, ReadError>
         requires { offset < length self.old }
         ensures found { IfOk result (λ t. TableAt self.old offset t.value) }
