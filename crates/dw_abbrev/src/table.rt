@@ -222,8 +222,8 @@ impl Table {
         }
     }
 
-    /// The same by the code's hash, and then among what is shared.
-    #[inline(always)]
+    /// The same by the code's hash, and then among what is shared. (It stands alone, since compilers number codes from 1 on.)
+    #[inline(never)]
     fn search(&self, code: u64) -> Option<&Decl>
         ensures { option_copied result ≡ declared self.now code }
     {
@@ -268,6 +268,7 @@ fn numbered(decls: &IndexMap<u64, Decl>, code: u64) -> Option<&Decl>
 }
 
 /// The code at `at`, behind these declarations, and where what follows begins.
+#[inline(always)]
 fn code_at(
     decls: &IndexMap<u64, Decl>,
     abbreviations: &[u8],
