@@ -17,13 +17,16 @@ use std::alloc::{AllocError, Global};
 use std::marker::Model;
 use std::rc::Rc;
 
-/// The tables of a section `.debug_abbrev`, each read when it is first asked for and kept by its
-/// offset. Where tables have declarations in common, what they take grows with what each adds, and not with what it repeats.
+/// The tables of a section `.debug_abbrev` (section 7.5.3), each read when it is first asked for and kept by its
+/// offset. Where tables have declarations in common, what they take grows with what each adds, and not with
+/// what it repeats.
 ///
-/// Two tables that meet at the beginning of a declaration are the same from there on. Those of compilers never meet, and each begins behind all
-/// that were read before: it is read for itself. Once one doesn't, it is kept track of where declarations begin that were read. Where one meets what was read before (`known`), its declarations are read into a run, up to a table that is kept and shares
-/// at least twice as many in its first run. The table is the run and what that one shares, and from then on the run's other declarations begin
-/// such tables too, so that later ones meet them.
+/// Two tables that meet at the beginning of a declaration are the same from there on. Those of compilers never
+/// meet, and each begins behind all that were read before: it is read for itself. Once one doesn't, it is kept
+/// track of where declarations begin that were read (`known`). A table that meets one is read into a run, up to a
+/// table that is kept and shares at least twice as many declarations in its first run. The table is that run, and
+/// what the other one shares. From then on each declaration of the run begins such a table, so that later ones
+/// meet them.
 #[derive(Debug, Drop)]
 pub struct Tables<'a> {
     alloc: Global,
@@ -59,7 +62,7 @@ impl<'a> Tables<'a> {
 
     /// The table that begins at `offset` of the section: what `Table::read` gives there, whatever
     /// was asked before. A table that was read is shared; a fault isn't kept. `NoMemory` is also
-    /// answered where a table couldn't be kept.
+    /// answered where a table couldn't be kept, or where declarations begin couldn't be kept track of.
     pub fn get(&mut self, offset: u64) -> Result<Rc<Table>, ReadError>
         ensures found { IfOk result (λ t. TableAt self.old offset t.value) }
         ensures only { (t : Spelled) → TableAt self.old offset t → IfOk result (λ x. x.value ≡ t) × IfErr result (λ e. e ≡ refused_memory) }
