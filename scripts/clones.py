@@ -240,25 +240,13 @@ def take_kept(top, folder, crates):
 
 
 def build(folder, crate):
-    """Builds the library of a crate in a clone, over those below it."""
-    ran = run(["rt", "lib"], crate.path(folder))
+    """Builds the library of a crate in a clone, over those below it. One job takes two thirds of the minutes of processor that four take: each
+    loads what it needs by itself."""
+    ran = run(["rt", "lib", "--jobs", "1"], crate.path(folder))
     if ran.status:
         lines = [it for it in ran.said.split("\n") if "error" in it or it.startswith("fn ") and ": proved" not in it] or ran.said.strip().split("\n")[-1:]
         raise Stop(f"the library of {crate.name} could not be built: {lines[0]}")
     return ran.seconds
-
-
-def count_with_room(one, count):
-    """How many clones of this size there may be, this one among them: they take half of the room on the disk at the most."""
-    size = sum(os.lstat(os.path.join(at, it)).st_size for at, _, names in os.walk(one) for it in names)
-    return max(1, min(count, 1 + shutil.disk_usage(one).free // 2 // max(size, 1)))
-
-
-def copy_of(one, other):
-    """Copies a clone whole, in which nothing runs."""
-    ran = run(["cp", "-a", one, other], os.path.dirname(one))
-    if ran.status:
-        raise Stop(f"a clone could not be copied: {ran.said.strip().splitlines()[-1]}")
 
 
 def main():

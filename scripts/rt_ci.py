@@ -1,11 +1,12 @@
 #!/usr/bin/env python3
 """Runs `rt ci`, unless it has passed over this very tree on this machine.
 
-Usage: scripts/rt_ci.py [--anew] [--cache FOLDER]
+Usage: scripts/rt_ci.py [--processors N] [--anew] [--cache FOLDER]
 
 Some kits prove all anew at each `rt ci`, an hour or more of processor. So that it passed is kept, by a sum of all that it reads: the files in
 crates/, crates.txt, HANDLES, each file elsewhere that it would refuse or read, and the line of `rt version`. It isn't run again where that sum was
-kept and the programs that it left are there, byte for byte, since other steps of the gate run them. --anew runs it in any case. The last
+kept and the programs that it left are there, byte for byte, since other steps of the gate run them. --anew runs it in any case. With --processors it sees so many
+of them: it gives each check as many jobs as there are, and each job loads anew what it needs. The last
 line is that of `rt ci`, `N passed, M failed`, and so is the status.
 """
 
@@ -86,8 +87,11 @@ def main():
     ask = argparse.ArgumentParser(description=__doc__, formatter_class=argparse.RawDescriptionHelpFormatter)
     ask.add_argument("--anew", action="store_true", help="run it in any case")
     ask.add_argument("--cache", default=f"{os.environ.get('XDG_CACHE_HOME') or os.path.expanduser('~/.cache')}/rt_ci")
+    ask.add_argument("--processors", type=int, default=0, metavar="N", help="on so many processors, or else on all")
     given = ask.parse_args()
     place = f"{given.cache}/{sum_of_tree()}"
+    if given.processors:
+        os.sched_setaffinity(0, sorted(os.sched_getaffinity(0))[: given.processors])
     verdict = "" if given.anew else kept_in(place)
     if not verdict:
         return run_anew(place)

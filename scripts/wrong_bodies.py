@@ -16,8 +16,9 @@ TRIED); where its proof file just names what the edit took away, or another goal
 can't be applied or compiled (BAD EDIT). A line is printed for each, with the function and the goals.
 
 The rounds work in clones of the tree at hand (scripts/clones.py), and never in the tree itself. The libraries are built in one of them, over
-what `rt lib` and `rt check` kept in the tree at hand, where nothing may run then; with --from-nothing all is proved anew. It is copied for as
-many crates as are tried side by side. The clones are gone at the end, unless --clones names the folder that they are made in.
+what `rt lib` and `rt check` kept in the tree at hand, where nothing may run then; with --from-nothing all is proved anew. Each crate is tried in
+a clone of its own, as soon as the libraries stand that it needs. The clones are gone at the end; --clones names a folder for the one with the
+libraries, which stays: FOLDER/1.
 
 What passed is kept by a sum of all that it stands on, and not tried again without --anew. The last line is `N passed, M failed`, and the
 status is 0 where none failed and some passed, else 1.
@@ -27,7 +28,6 @@ import argparse
 import functools
 import hashlib
 import os
-import queue
 import re
 import signal
 import sys
@@ -426,8 +426,8 @@ def asked():
     ask.add_argument("--must-fail", action="store_true", help="try the edits of must-fail/ too")
     ask.add_argument("--edit", action="append", default=[], help="try this edit, by its name (repeatable)")
     ask.add_argument("--from-nothing", action="store_true", help="take nothing over from the tree at hand")
-    ask.add_argument("--clones", default="", metavar="FOLDER", help="make the clones in this folder, and leave them there: 1, 2 and so on")
-    ask.add_argument("--side-by-side", type=int, default=len(os.sched_getaffinity(0)), metavar="N", help="how many crates at one time")
+    ask.add_argument("--clones", default="", metavar="FOLDER", help="build the libraries in a clone in this folder, and leave it there: 1")
+    ask.add_argument("--side-by-side", type=int, default=len(os.sched_getaffinity(0)), metavar="N", help="how many at one time, the libraries or crates")
     ask.add_argument("--anew", action="store_true", help="try what passed before, too")
     ask.add_argument("--cache", default=f"{os.environ.get('XDG_CACHE_HOME') or os.path.expanduser('~/.cache')}/wrong_bodies")
     ask.add_argument("--logs", default="", help="a folder for what each check says")
@@ -454,39 +454,47 @@ def work_in(top, given):
 
 
 def try_all(work, folder, given):
-    """Tries the edits of all these crates in clones in this folder, and returns what went wrong with the script itself. The highest crates
-    are tried first, so that all below a crate is in each clone as it was built."""
+    """Tries the edits of all these crates in clones in this folder, and returns what went wrong with the script itself. The libraries are built
+    in the first clone, from the lowest on. The rounds of a crate begin as soon as those stand that it needs, in a clone of their own."""
     first = f"{folder}/1"
     clones.clone(clones.TOP, first)
-    below = clones.with_all_below([it.crate for it in work])
-    taken = [] if given.from_nothing else clones.take_kept(clones.TOP, first, below)
+    taken = [] if given.from_nothing else clones.take_kept(clones.TOP, first, clones.with_all_below([it.crate for it in work]))
     if taken:
         print(f"taken over from the tree at hand: what was kept of {', '.join(taken)}", flush=True)
-    for crate in libraries_for(work):
-        print(f"{crate.name}: library, {clones.build(first, crate):.0f} s of processor", flush=True)
-    count = clones.count_with_room(first, max(1, min(given.side_by_side, len(work))))
-    for number in range(2, count + 1):
-        clones.copy_of(first, f"{folder}/{number}")
-    free = queue.Queue()
-    for number in range(1, count + 1):
-        free.put(f"{folder}/{number}")
+    libraries = libraries_for(work)
+    wanted = {one.crate.name: [it for it in libraries if it in [*one.crate.below, one.crate]] for one in work}
+    runs, waiting = [], list(work)
 
-    def try_one(one):
-        clone = free.get()
-        try:
-            try_crate(one, clone, given.logs)
-        finally:
-            free.put(clone)
+    def begin_what_can(built):
+        for one in [it for it in waiting if all(that in built for that in wanted[it.crate.name])]:
+            waiting.remove(one)
+            runs.append(pool.submit(try_apart, one, first, wanted[one.crate.name], given.logs))
 
-    with tempfile.TemporaryDirectory(prefix="wrong-bodies-self-") as own, ThreadPoolExecutor(count) as pool:
-        runs = [pool.submit(try_one, it) for it in sorted(work, key=lambda it: -len(it.crate.below))]
-        runs.append(pool.submit(fails_itself, own))
+    def build_all():
+        for count, crate in enumerate(libraries):
+            begin_what_can(libraries[:count])
+            print(f"{crate.name}: library, {clones.build(first, crate):.0f} s of processor", flush=True)
+        begin_what_can(libraries)
+
+    with tempfile.TemporaryDirectory(prefix="wrong-bodies-self-") as own, ThreadPoolExecutor(max(1, given.side_by_side)) as pool:
+        building = pool.submit(build_all)
         try:
+            building.result()
+            runs.append(pool.submit(fails_itself, own))
             return [it.result() for it in runs][-1]
         except BaseException:
             clones.end_all()
             pool.shutdown(cancel_futures=True)
             raise
+
+
+def try_apart(one, first, libraries, logs):
+    """Tries the edits of a crate in a clone of its own, over the libraries that stand in the first one."""
+    with tempfile.TemporaryDirectory(prefix="clones-") as folder:
+        clone = f"{folder}/{one.crate.name}"
+        clones.clone(clones.TOP, clone)
+        clones.take_kept(first, clone, libraries)
+        try_crate(one, clone, logs)
 
 
 def libraries_for(work):

@@ -177,17 +177,25 @@ impl Table {
         }
     }
 
-    /// A table of declarations that others have too, and of the zero that ends them.
-    pub(crate) fn of_shared(alloc: Global, shared: Vec<SharedRun>, last_zero: Uleb) -> Table
+    /// A table of declarations that others have too: those of a run, and those of the runs behind it. A zero ends them.
+    pub(crate) fn sharing(
+        alloc: Global,
+        first: SharedRun,
+        rest: &[SharedRun],
+        last_zero: Uleb,
+    ) -> Result<Table, AllocError>
         requires zero { IsZero (uleb_of last_zero) }
-        requires fits { part.Fits (record { declarations = joined shared.items; last_zero = last_zero.width }) }
-        ensures { result ≡ record { declarations = joined shared.items; last_zero = last_zero.width } }
+        requires fits { part.Fits (record { declarations = first ++ joined rest.now; last_zero = last_zero.width }) }
+        ensures { IfOk result (λ t. t ≡ record { declarations = first ++ joined rest.now; last_zero = last_zero.width }) }
     {
-        Table {
+        let mut shared = Vec::new(alloc);
+        shared.push(first)?;
+        share_all(&mut shared, rest)?;
+        Ok(Table {
             decls: IndexMap::new(alloc),
             shared,
             last_zero,
-        }
+        })
     }
 
     /// How many declarations the first of the runs has that the table shares, if it shares any.

@@ -9,7 +9,7 @@ ghost use Rattle.dw_abbrev.specs.Runs.{StandTogether, IsJoined};
 use crate::decl::Decl;
 use crate::known::KnownOffsets;
 use crate::run::{JoinedRun, Run};
-use crate::shared::{SharedRun, share_all};
+use crate::shared::SharedRun;
 use crate::table::Table;
 use dw_leb::{ReadError, Uleb};
 use indexmap::IndexMap;
@@ -134,8 +134,17 @@ impl<'a> Tables<'a> {
     {
         let table = Rc::new(self.alloc, table)?;
         let shared = table.clone()?;
-        self.kept.insert(offset, table)?;
+        self.put(offset, table)?;
         Ok(shared)
+    }
+
+    /// Puts a table under its offset, in the place of another.
+    fn put(&mut self, offset: u64, table: Rc<Table>) -> Result<(), AllocError>
+        requires { TableAt self.old offset table.value }
+        ensures { self.new ≡ self.old }
+    {
+        self.kept.insert(offset, table)?;
+        Ok(())
     }
 
     /// Keeps the table at `offset`, which meets others, and those that begin with its declarations, by what they share. Where the table
@@ -206,12 +215,8 @@ impl<'a> Tables<'a> {
         if self.first_shared_at(start) > first.count() / 2 {
             return Ok(());
         }
-        let mut runs = Vec::new(self.alloc);
-        runs.push(first)?;
-        share_all(&mut runs, rest)?;
-        let table = Rc::new(self.alloc, Table::of_shared(self.alloc, runs, last_zero))?;
-        self.kept.insert(start, table)?;
-        Ok(())
+        let table = Table::sharing(self.alloc, first, rest, last_zero)?;
+        self.put(start, Rc::new(self.alloc, table)?)
     }
 
     /// How many declarations the first shared run has of the table that is kept of `start`, if there is one.

@@ -1,8 +1,9 @@
-//! Units that several tests begin with, and sections made of them.
+//! What several tests compare by, and units that they begin with, with sections made of these.
 use dw_abbrev::Tables;
 use dw_feed::read_unit_as;
 use dw_leb::{Order, Watched, WriteError};
 use dw_section::{Section, write_section};
+use dw_strings::Strings;
 use dw_unit::{Unit, Versions};
 use std::alloc::Global;
 use std::process::Abort;
@@ -23,6 +24,20 @@ pub const FIFTEEN: [u8; 15] = [
 pub const REFERS: [u8; 17] = [
     0x0d, 0, 0, 0, 0x05, 0, 0x01, 0x08, 0x08, 0, 0, 0, 0x01, 0x0c, 0, 0, 0,
 ];
+
+/// No texts.
+pub fn no_strings<'a>() -> Strings<'a> {
+    Strings {
+        str: &[],
+        line_str: &[],
+        str_offsets: &[],
+    }
+}
+
+/// These are the same bytes. An assertion of two slices where it is made costs the prover far more.
+pub fn same(rt: &impl Abort, got: &[u8], want: &[u8]) {
+    assert_eq!(rt; got, want);
+}
 
 /// The unit of version 4 or 5 at the front of the bytes.
 pub fn unit(alloc: Global, order: Order, abbreviations: &[u8], bytes: &[u8]) -> Result<Unit, Fail> {

@@ -1,0 +1,39 @@
+//! Tests of all but trees and units, beside what is data: that stands in `part_cases`, and what the program writes in
+//! `cases/`. Here is what is shared, borrowed or handed back, devices that fail, memory that is refused, and the laws. They are a
+//! crate of their own, since a crate with tests is proved twice, and one crate, since each loads the libraries that it tests.
+#![tactic(auto)]
+
+#[cfg(test)]
+mod checks;
+#[cfg(test)]
+mod common;
+#[cfg(test)]
+mod edits;
+#[cfg(test)]
+mod failures;
+#[cfg(test)]
+mod laws;
+#[cfg(test)]
+mod lines;
+#[cfg(test)]
+mod outputs;
+#[cfg(test)]
+mod readers;
+#[cfg(test)]
+mod references;
+#[cfg(test)]
+mod runs;
+#[cfg(test)]
+mod sections;
+#[cfg(test)]
+mod table_builders;
+#[cfg(test)]
+mod tables;
+#[cfg(test)]
+mod texts;
+#[cfg(test)]
+mod types;
+#[cfg(test)]
+mod values;
+#[cfg(test)]
+mod watched;
