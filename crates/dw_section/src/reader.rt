@@ -22,7 +22,7 @@ use std::io::Read;
 const MARKS: u64 = 3;
 
 /// The section `.debug_info` that is all of what the reader has left, with units of version 5 (section 7.5), in
-/// whatever pieces its bytes come. At `Ok` nothing is left unread. `tables` are those of the section
+/// whatever pieces its bytes come. At `Ok` nothing is left unread. `abbrev` has the bytes of the section
 /// `.debug_abbrev` that belongs to it.
 ///
 /// Items of other versions and unit types are kept as their bytes. The bytes of a unit go into the feeds as they
@@ -38,26 +38,47 @@ const MARKS: u64 = 3;
 pub fn read_section<R: Read>(
     alloc: Global,
     order: Order,
-    tables: &mut Tables<'_>,
+    abbrev: &[u8],
     reader: &mut Watched<R>,
 ) -> Result<Section, ReadError>
     requires { fault_of reader.old ≡ None }
-    ensures found { IfOk result (TakesSection Five order tables.old
+    ensures found { IfOk result (TakesSection Five order abbrev.now
         (R.remaining (inner_of reader.old))
         (R.remaining (inner_of reader.new))) }
-    ensures broken { IfErr result (TakesNoSection Five order tables.old
+    ensures broken { IfErr result (TakesNoSection Five order abbrev.now
         (R.remaining (inner_of reader.old))
         (R.remaining (inner_of reader.new))) }
     ensures memory { KeptSome (R.remaining (inner_of reader.old)) (R.remaining (inner_of reader.new)) result }
-    ensures tables { tables.new ≡ tables.old }
     ensures fault { fault_of reader.new ≡ reader_fault result }
 {
-    read_section_as(alloc, order, Versions::Five, tables, reader)
+    read_section_as(alloc, order, Versions::Five, abbrev, reader)
 }
 
 /// The section `.debug_info` that is all of what the reader has left, with units of these versions, as
 /// `read_section` gives it for version 5.
 pub fn read_section_as<R: Read>(
+    alloc: Global,
+    order: Order,
+    versions: Versions,
+    abbrev: &[u8],
+    reader: &mut Watched<R>,
+) -> Result<Section, ReadError>
+    requires { fault_of reader.old ≡ None }
+    ensures found { IfOk result (TakesSection versions order abbrev.now
+        (R.remaining (inner_of reader.old))
+        (R.remaining (inner_of reader.new))) }
+    ensures broken { IfErr result (TakesNoSection versions order abbrev.now
+        (R.remaining (inner_of reader.old))
+        (R.remaining (inner_of reader.new))) }
+    ensures memory { KeptSome (R.remaining (inner_of reader.old)) (R.remaining (inner_of reader.new)) result }
+    ensures fault { fault_of reader.new ≡ reader_fault result }
+{
+    let mut tables = Tables::new(alloc, abbrev);
+    read_items(alloc, order, versions, &mut tables, reader)
+}
+
+/// The items of the section, one after the other, over these tables.
+fn read_items<R: Read>(
     alloc: Global,
     order: Order,
     versions: Versions,

@@ -1,7 +1,6 @@
 //! What no clause of `read_section` says: sections whose bytes are known from the standard, from readers that give
 //! few bytes a call, each with memory to spare.
 use crate::common::{FIFTEEN, TWO_TABLES, spells};
-use dw_abbrev::Tables;
 use dw_leb::devices::Stepped;
 use dw_leb::{Fault, Order, ReadError, Reason, SectionId, Watched};
 use dw_section::{Section, read_section, read_section_as};
@@ -18,9 +17,8 @@ fn stepped(
     bytes: &[u8],
     step: usize,
 ) -> Result<Section, ReadError> {
-    let mut tables = Tables::new(alloc, &TWO_TABLES);
     let mut reader = Watched::new(Stepped::new(bytes, step));
-    read_section_as(alloc, Order::Little, versions, &mut tables, &mut reader)
+    read_section_as(alloc, Order::Little, versions, &TWO_TABLES, &mut reader)
 }
 
 /// Whether the bytes, one a call, are a section of one item that isn't read.
@@ -148,9 +146,8 @@ const SECOND_ROOT: [u8; 17] = [
 /// What is told of bytes of which the reader gives one a call, and fails after so many calls, and the fault that it
 /// keeps.
 fn told_of(alloc: Global, b: &[u8], after: u64) -> (Option<ReadError>, Option<ErrorKind>) {
-    let mut tables = Tables::new(alloc, &TWO_TABLES);
     let mut reader = Watched::new(Stepped::failing(b, 1, after, ErrorKind::TimedOut));
-    let told = read_section(alloc, Order::Little, &mut tables, &mut reader).err();
+    let told = read_section(alloc, Order::Little, &TWO_TABLES, &mut reader).err();
     (told, reader.fault())
 }
 

@@ -17,7 +17,6 @@ use crate::set::set_at;
 use crate::show::push_section;
 use crate::status::{Status, ToolError};
 use crate::type_of::type_line;
-use dw_abbrev::Tables;
 use dw_check::{Finding, check};
 use dw_leb::{Order, Watched, WriteError, write_all};
 use dw_section::{Section, read_section_as, write_section};
@@ -81,8 +80,7 @@ pub fn run<R: Read, W: Write>(
         abbrev,
         strings,
     } = inputs;
-    let mut tables = Tables::new(alloc, abbrev);
-    let mut section = read_section_as(alloc, order, versions, &mut tables, info)?;
+    let mut section = read_section_as(alloc, order, versions, abbrev, info)?;
     write_output(alloc, command, &mut section, &strings, writer)
 }
 

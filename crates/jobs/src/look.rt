@@ -2,7 +2,7 @@
 use crate::digest::Digest;
 use crate::error::JobError;
 use crate::random::Random;
-use rothelduf::{EntryId, Order, Section, Tables, Watched, read_section};
+use rothelduf::{EntryId, Order, Section, Watched, read_section};
 use std::alloc::{AllocError, Global};
 use std::fs;
 use std::rt::Files;
@@ -32,9 +32,13 @@ pub(crate) fn of_files(
 ) -> Result<(), JobError> {
     let abbrev = fs::read(rt, "abbrev")?;
     let info = fs::read(rt, "info")?;
-    let mut tables = Tables::new(rt.alloc(), abbrev.as_slice());
     let mut reader = Watched::new(info.as_slice());
-    let section = read_section(rt.alloc(), Order::Little, &mut tables, &mut reader)?;
+    let section = read_section(
+        rt.alloc(),
+        Order::Little,
+        abbrev.as_slice(),
+        &mut reader,
+    )?;
     let ids = ids_of(rt.alloc(), &section)?;
     look(&section, ids.as_slice(), pattern, count, random, digest);
     Ok(())

@@ -2,7 +2,7 @@
 use crate::error::JobError;
 use rothelduf::constants::form::*;
 use rothelduf::{
-    AttrRef, EntryId, EntryRef, Item, Kind, Order, Section, Tables, Unit, Watched, read_section,
+    AttrRef, EntryId, EntryRef, Item, Kind, Order, Section, Unit, Watched, read_section,
 };
 use std::alloc::{AllocError, Global};
 
@@ -34,9 +34,8 @@ pub(crate) enum Change {
 }
 
 pub(crate) fn parts_of(alloc: Global, info: &[u8], abbrev: &[u8]) -> Result<Vec<Part>, JobError> {
-    let mut tables = Tables::new(alloc, abbrev);
     let mut reader = Watched::new(info);
-    let section = read_section(alloc, Order::Little, &mut tables, &mut reader)?;
+    let section = read_section(alloc, Order::Little, abbrev, &mut reader)?;
     let mut parts = Vec::new(alloc);
     for (number, item) in section.items().iter().enumerate() {
         if let Item::Known(unit) = item {

@@ -15,7 +15,7 @@ use rothelduf::constants::tag::{
     DW_TAG_FORMAL_PARAMETER, DW_TAG_MEMBER, DW_TAG_SUBPROGRAM, DW_TAG_TYPEDEF, DW_TAG_VARIABLE,
 };
 use rothelduf::{
-    EntryId, EntryRef, Order, Section, Strings, Tables, TypeError, Watched, read_section, type_text,
+    EntryId, EntryRef, Order, Section, Strings, TypeError, Watched, read_section, type_text,
 };
 use std::alloc::{AllocError, Global};
 use std::fs;
@@ -74,9 +74,13 @@ fn ask(
 }
 
 fn read(alloc: Global, joined: &Joined) -> Result<Section, JobError> {
-    let mut tables = Tables::new(alloc, joined.abbrev.as_slice());
     let mut reader = Watched::new(joined.info.as_slice());
-    Ok(read_section(alloc, Order::Little, &mut tables, &mut reader)?)
+    Ok(read_section(
+        alloc,
+        Order::Little,
+        joined.abbrev.as_slice(),
+        &mut reader,
+    )?)
 }
 
 /// What is asked, and where names are.

@@ -5,5 +5,5 @@ use Rattle.dw_tool.proofs.run.run.Goals as goal
 
 pub returns-clause-memory : goal.returns-clause-memory
 returns-clause-memory g c =
-    took c.args.command (sections_of c.args.inputs.strings) c.args.inputs.versions c.args.inputs.order c.new-tables.result
+    took c.args.command (sections_of c.args.inputs.strings) c.args.inputs.versions c.args.inputs.order c.args.inputs.abbrev.now
     (g.R.Read.remaining (inner_of c.args.inputs.info.now)) (g.R.Read.remaining (inner_of c.read_section_as.new.reader)) _ _ c.in_ok-section.section c.in_ok-section.ensures.found c.write_output.result c.write_output.ensures.written

@@ -2,7 +2,7 @@ use Rattle.std.proofs.Common.{◌≡◌, ◌^◌, ◌-◌, None, length}
 use Rattle.dw_leb.specs.Watch.{inner_of, fault_of}
 use Rattle.dw_section.specs.Section.{section_bytes}
 use Rattle.dw_section.proofs.SectionReads.{TakenSoFar}
-use Rattle.dw_section.proofs.reader.read_section_as.Given as goal
+use Rattle.dw_section.proofs.reader.read_items.Given as goal
 
 -- exactly the bytes of the items so far were taken of the reader
 abbrev pub invariant-loop-section : goal.invariant-loop-section

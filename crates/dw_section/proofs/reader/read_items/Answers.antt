@@ -8,7 +8,7 @@ use Rattle.dw_section.specs.Push.{with_item}
 use Rattle.dw_section.specs.Reads.{TakesItem, TakesNext, TakesNoItem}
 use Rattle.dw_section.specs.Section.{WholeSection, section_bytes}
 use Rattle.dw_section.proofs.SectionReads.{TakenSoFar, none_taken, next_fits, one_taken, grows, all_taken, item_fails, item_kept, not_kept, some_kept, said_there}
-use Rattle.dw_section.proofs.reader.read_section_as.Goals as goal
+use Rattle.dw_section.proofs.reader.read_items.Goals as goal
 
 pub loop-section-init : goal.loop-section-init
 loop-section-init g c =
