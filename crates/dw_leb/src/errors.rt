@@ -17,7 +17,7 @@ pub enum Reason {
     PastUnit,
     /// An initial length from 0xfffffff0 to 0xfffffffe (section 7.2.2).
     ReservedLength,
-    /// A version other than 5 (section 7.5.1).
+    /// A version that is none of those that are read (section 7.5.1).
     BadVersion,
     /// A unit type other than 1 to 4: those of split units are not read (section 7.5.1).
     BadUnitType,
