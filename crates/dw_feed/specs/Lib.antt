@@ -11,7 +11,6 @@ pub mod HeadFeedView
 pub mod PlaceBytes
 pub mod BodyFeed
 pub mod HeldCounts
-pub mod HeldSteps
 pub mod Room
 pub mod FieldPlace
 pub mod BreaksBehind

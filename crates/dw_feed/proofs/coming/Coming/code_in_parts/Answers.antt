@@ -30,7 +30,7 @@ returns-in-Ok c =
     let i = c.loop-code.invariant in
     let g : PartialUnit = c.loop-code.self in
     let is_part : c.as_slice.result.now ≡ part g = c.as_slice.ensures.value ∙ ap (λ (x : PartialUnit). x.pending) c.self-in-loop-code.view_is ∙ sym (code_part g i.free i.named) in
-    let read = read_here g _ (c.deref.ensures ∙ ap drafted c.self-in-loop-code.view_is) c.as_slice.result.now is_part c.left-lim.result i.lim_is (Found (uleb_of c.in-Ok.code) c.in-Ok.code.width) c.in-Ok.ensures.exact in
+    let read = read_here g _ (ap drafted c.self-in-loop-code.view_is) c.as_slice.result.now is_part c.left-lim.result i.lim_is (Found (uleb_of c.in-Ok.code) c.in-Ok.code.width) c.in-Ok.ensures.exact in
     subst (λ (bs : List ℕ). StepSays c.args.self.now bs c.put.result c.put.new.self) i.all
     (step_same c.args.self.now g i.same (next_here c.args.self.now (keeps_stands c.args.self.now c.requires.stands)) (part g ++ c.loop-code.rest.now) c.put.result c.put.new.self
     (code_step g i.free (part g) c.loop-code.rest.now i.waits (uleb_of c.in-Ok.code) c.in-Ok.code.width read (length c.loop-code.rest.now) refl c.put.result c.put.new.self c.put.ensures))
@@ -40,7 +40,7 @@ returns-then-not-is_cut c =
     let i = c.loop-code.invariant in
     let g : PartialUnit = c.loop-code.self in
     let is_part : c.as_slice.result.now ≡ part g = c.as_slice.ensures.value ∙ ap (λ (x : PartialUnit). x.pending) c.self-in-loop-code.view_is ∙ sym (code_part g i.free i.named) in
-    let read = read_here g _ (c.deref.ensures ∙ ap drafted c.self-in-loop-code.view_is) c.as_slice.result.now is_part c.left-lim.result i.lim_is (Broken 0 c.in-Err.reason) c.in-Err.ensures.exact in
+    let read = read_here g _ (ap drafted c.self-in-loop-code.view_is) c.as_slice.result.now is_part c.left-lim.result i.lim_is (Broken 0 c.in-Err.reason) c.in-Err.ensures.exact in
     subst (λ (bs : List ℕ). StepSays c.args.self.now bs (steps.Refused (length c.loop-code.rest.now) c.in-Err.reason) g) i.all
     (step_same c.args.self.now g i.same (next_here c.args.self.now (keeps_stands c.args.self.now c.requires.stands)) (part g ++ c.loop-code.rest.now) (steps.Refused (length c.loop-code.rest.now) c.in-Err.reason) g
     (code_refused g i.free (part g) c.loop-code.rest.now i.waits c.in-Err.reason (told_not c.is_cut.result c.is_cut.ensures c.if-not-is_cut.true) read (length c.loop-code.rest.now) refl g))
@@ -51,7 +51,7 @@ returns-in-None c =
     let g : PartialUnit = c.loop-code.self in
     let is_part : c.as_slice.result.now ≡ part g = c.as_slice.ensures.value ∙ ap (λ (x : PartialUnit). x.pending) c.self-in-loop-code.view_is ∙ sym (code_part g i.free i.named) in
     let cut : c.in-Err.reason ≡ Truncated = told c.is_cut.result c.is_cut.ensures c.if-not-is_cut.false in
-    let read = read_here g _ (c.deref.ensures ∙ ap drafted c.self-in-loop-code.view_is) c.as_slice.result.now is_part c.left-lim.result i.lim_is (Broken 0 Truncated) (c.in-Err.ensures.exact ∙ ap (λ (r : Reason). broken Unsigned 0 r) cut) in
+    let read = read_here g _ (ap drafted c.self-in-loop-code.view_is) c.as_slice.result.now is_part c.left-lim.result i.lim_is (Broken 0 Truncated) (c.in-Err.ensures.exact ∙ ap (λ (r : Reason). broken Unsigned 0 r) cut) in
     let has : HasPart g = subst (λ o. FieldPart g o) (sym i.free) (i.named, i.to_come) in
     let all : part g ≡ part c.args.self.now ++ c.args.b.now = sym (append-nil (part g)) ∙ ap (λ (bs : List ℕ). part g ++ bs) (sym (nil_from_length c.loop-code.rest.now c.in-None.ensures.cases)) ∙ i.all in
     subst (λ (bs : List ℕ). StepSays c.args.self.now bs steps.Wanting g) all
@@ -63,7 +63,7 @@ loop-code-preserved c =
     let g : PartialUnit = c.loop-code.self in
     let is_part : c.as_slice.result.now ≡ part g = c.as_slice.ensures.value ∙ ap (λ (x : PartialUnit). x.pending) c.self-in-loop-code.view_is ∙ sym (code_part g i.free i.named) in
     let cut : c.in-Err.reason ≡ Truncated = told c.is_cut.result c.is_cut.ensures c.if-not-is_cut.false in
-    let read = read_here g _ (c.deref.ensures ∙ ap drafted c.self-in-loop-code.view_is) c.as_slice.result.now is_part c.left-lim.result i.lim_is (Broken 0 Truncated) (c.in-Err.ensures.exact ∙ ap (λ (r : Reason). broken Unsigned 0 r) cut) in
+    let read = read_here g _ (ap drafted c.self-in-loop-code.view_is) c.as_slice.result.now is_part c.left-lim.result i.lim_is (Broken 0 Truncated) (c.in-Err.ensures.exact ∙ ap (λ (r : Reason). broken Unsigned 0 r) cut) in
     let b : ℕ = c.in-Some.byte.now in
     let k : PartialUnit = keeping g (g.pending ++ b ∷ []) in
     let in_it = c.self-in-loop-code.inside in

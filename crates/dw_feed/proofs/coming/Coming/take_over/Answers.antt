@@ -77,7 +77,7 @@ returns-in-Wanting c = wanting_says c.args.self.now c.args.piece.now c.loop-over
 pub returns-in-Refused : goal.returns-in-Refused
 returns-in-Refused c =
     let g : PartialUnit = c.loop-over.self in
-    let offset : c.size-here.result ≡ length (before g) = c.size-here.ensures.size ∙ ap drafted_size c.deref.ensures ∙ ap (λ (x : PartialUnit). drafted_size (drafted x)) c.self.view_is ∙ size_before g in
+    let offset : c.size-here.result ≡ length (before g) = c.size-here.ensures.size ∙ ap (λ (x : PartialUnit). drafted_size (drafted x)) c.self.view_is ∙ size_before g in
     let fault : fault_at g c.in-Refused.reason ≡ c.fault_at.result = ap (λ (n : ℕ). fault_of_offset n c.in-Refused.reason) (sym offset) ∙ sym c.fault_at.ensures in
     subst (λ (f : Fault). RanSays c.args.self.now c.args.piece.now (ran (answers.Fault f) (Refused f) c.in-Refused.over)) fault
     (refused_says c.args.self.now c.args.piece.now g c.loop-over.left.now c.loop-over.invariant.at c.loop-over.invariant.waits c.in-Refused.over c.in-Refused.reason c.step.new.self c.in-Refused.ensures)
