@@ -37,7 +37,7 @@ module _ (k : Ctx) (t : Table) where
   abbrev pub RowsFit : List Token → Type 0
   RowsFit xs = AllByRecursion (TokenFits k t) xs
 
-  rows_joined : (xs ys : List Token) → RowsFit xs → RowsFit ys → RowsFit (xs ++ ys)
+  pub rows_joined : (xs ys : List Token) → RowsFit xs → RowsFit ys → RowsFit (xs ++ ys)
   rows_joined [] ys h g = g
   rows_joined (x ∷ xs) ys h g = (h.0, rows_joined xs ys h.1 g)
 
@@ -117,6 +117,15 @@ module _ (k : Ctx) (t : Table) where
   rows_fit (f ∷ fs) ts None ws h = frame_rows (f ∷ fs) h.room ts h.frames_fit h.spot_fits
   rows_fit [] ts (Some r) ws h = frame_rows [] h.room ts h.frames_fit h.spot_fits.before
   rows_fit (f ∷ fs) ts (Some r) ws h = frame_rows (f ∷ fs) h.room ts h.frames_fit h.spot_fits.before
+
+  -- the nulls of the padding
+  pub nulls_fit : (fs : List Frame) (ts : Forest) (o : Option UnfinishedEntry) (ws : List ℕ) → PaddingFits k t fs ts o ws → AreNulls ws
+  nulls_fit fs ts o [] h = tt
+  nulls_fit [] (more x ts) None (w ∷ ws) h = h
+  nulls_fit [] none None (w ∷ ws) h = absurd h
+  nulls_fit [] none (Some r) (w ∷ ws) h = absurd h
+  nulls_fit [] (more x ts) (Some r) (w ∷ ws) h = absurd h
+  nulls_fit (f ∷ fs) ts o (w ∷ ws) h = absurd h
 
   -- ---- counted
 
@@ -204,17 +213,9 @@ module _ (g : PartialUnit) (keeps : Keeps g) where
       omega (
         arith,
         parts_size,
-        few_nulls g.padding (by (frames_of g) (chain_of g) g.place.unfinished g.padding keeps.stands.padding_fits),
+        few_nulls g.padding (nulls_fit (context g) g.table (frames_of g) (chain_of g) g.place.unfinished g.padding keeps.stands.padding_fits),
         length-append (body_so_far g) (part g),
       )
-    where
-      by : (fs : List Frame) (ts : Forest) (o : Option UnfinishedEntry) (ws : List ℕ) → PaddingFits (context g) g.table fs ts o ws → AreNulls ws
-      by fs ts o [] h = tt
-      by [] (more x ts) None (w ∷ ws) h = h
-      by [] none None (w ∷ ws) h = absurd h
-      by [] none (Some r) (w ∷ ws) h = absurd h
-      by [] (more x ts) (Some r) (w ∷ ws) h = absurd h
-      by (f ∷ fs) ts o (w ∷ ws) h = absurd h
 
   pub held_within : FewPairs g.table → length g.pending ≤ 16 → HeldWithin (length (body_so_far g ++ part g)) (held_by g)
   held_within few short = record {

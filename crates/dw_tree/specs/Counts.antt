@@ -58,7 +58,7 @@ few_declared t few code = by (declared t code) (few code)
     by None h = omega arith
     by (Some d) h = h
 
-value_count : (k : Ctx) (ps : List Pair) (vs : List Attribute) → (values k ps).Fits vs → length vs ≡ length ps
+pub value_count : (k : Ctx) (ps : List Pair) (vs : List Attribute) → (values k ps).Fits vs → length vs ≡ length ps
 value_count k [] [] fits = refl
 value_count k [] (v ∷ vs) fits = absurd fits
 value_count k (p ∷ ps) [] fits = absurd fits
