@@ -1,4 +1,4 @@
-use Rattle.std.proofs.Common.{◌≡◌, ◌-◌, ℕ, Option, Some, None, length, sym, ap, subst, ◌∙◌, arith, option_map}
+use Rattle.std.proofs.Common.{◌≡◌, Option, Some, None, length, sym, ap, subst, ◌∙◌, arith, option_map}
 use Rattle.dw_abbrev.specs.Table.{Declaration}
 use Rattle.dw_tree.specs.declared.draft.TreeDraft.TheInside.{Inside}
 use Rattle.dw_tree.specs.declared.row.Unfinished.{Unfinished}
