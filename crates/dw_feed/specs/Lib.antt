@@ -34,6 +34,7 @@ pub mod HeldBounds
 pub mod HeldView
 pub mod SameHeld
 pub mod FieldSteps
+pub mod FaultFirst
 pub mod BodyView
 pub mod BodyFeedView
 pub mod FedUnit

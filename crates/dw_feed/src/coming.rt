@@ -22,7 +22,7 @@ ghost use Rattle.dw_feed.specs.BodyFeed.{Reading, EndsBody, started, part};
 ghost use Rattle.dw_feed.specs.HeldCounts.{held_by};
 ghost use Rattle.dw_feed.specs.HeldView.{held_of};
 ghost use Rattle.dw_feed.specs.FeedInvariant.{Keeps, Kept, context, left as left_of, moved_to};
-ghost use Rattle.dw_feed.specs.FieldSteps.{Standing, HasPart, FrontsWait, StepSays, code_meaning, behind_code, BehindCode, CodeBreaks, Waits, TakenSays};
+ghost use Rattle.dw_feed.specs.FieldSteps.{Standing, HasPart, FrontsWait, StepSays, CodeStands, IfNoMemory, IfNoneLeft, code_meaning, behind_code, BehindCode, CodeBreaks, Waits, TakenSays};
 
 use crate::code::{code_at, is_cut};
 use crate::held::Held;
@@ -120,7 +120,8 @@ impl Coming {
         requires stands { Keeps self.old }
         requires has { HasPart self.old }
         requires waits { FrontsWait self.old (part self.old) }
-        ensures { StepSays self.old (part self.old ++ b.now) result self.new }
+        ensures says { StepSays self.old (part self.old ++ b.now) result self.new }
+        ensures memory { IfNoMemory result (CodeStands self.old (part self.old ++ b.now)) }
     {
         if self.pending.is_empty() && !b.is_empty() {
             let lim = self.left();
@@ -137,7 +138,8 @@ impl Coming {
         requires stands { Keeps self.old }
         requires has { HasPart self.old }
         requires waits { FrontsWait self.old (part self.old) }
-        ensures { StepSays self.old (part self.old ++ b.now) result self.new }
+        ensures says { StepSays self.old (part self.old ++ b.now) result self.new }
+        ensures memory { IfNoMemory result (CodeStands self.old (part self.old ++ b.now)) }
     {
         let lim = self.left();
         let mut rest = b;
@@ -191,7 +193,8 @@ impl Coming {
         requires has { HasPart self.old }
         requires fit { AreBytes (part self.old) }
         requires waits { Waits self.old }
-        ensures { TakenSays self.old piece.now result self.new }
+        ensures says { TakenSays self.old piece.now result self.new }
+        ensures memory { IfNoneLeft result (CodeStands self.old (part self.old ++ piece.now)) }
     {
         match self.draft.share_table() {
             Ok(table) => self.take_over(Some(&table), piece),
@@ -206,7 +209,8 @@ impl Coming {
         requires has { HasPart self.old }
         requires fit { AreBytes (part self.old) }
         requires waits { Waits self.old }
-        ensures { TakenSays self.old piece.now result self.new }
+        ensures says { TakenSays self.old piece.now result self.new }
+        ensures memory { IfNoneLeft result (CodeStands self.old (part self.old ++ piece.now)) }
     {
         let mut left = piece;
         loop {
@@ -234,7 +238,8 @@ impl Coming {
         requires stands { Keeps self.old }
         requires has { HasPart self.old }
         requires waits { Waits self.old }
-        ensures { StepSays self.old (part self.old ++ b.now) result self.new }
+        ensures says { StepSays self.old (part self.old ++ b.now) result self.new }
+        ensures memory { IfNoMemory result (CodeStands self.old (part self.old ++ b.now)) }
     {
         match self.draft.next_pair() {
             None => self.code(b),

@@ -14,7 +14,7 @@ use Rattle.std.specs.Prelude.{option_map}
 use Rattle.dw_feed.specs.BodyView.{coming, drafted}
 use Rattle.dw_feed.specs.FeedInvariant.{left as left_of, frames_of, chain_of}
 use Rattle.dw_feed.specs.PlainFeed.{holding}
-use Rattle.dw_feed.specs.FieldSteps.{Standing, StepSays, FrontsWait, HasPart, FieldPart, code_meaning, keeps_stands, code_part, code_step, code_refused, code_short, step_same, next_here, wait_more, told, told_not}
+use Rattle.dw_feed.specs.FieldSteps.{Standing, StepSays, CodeStands, if_no_memory, code_stands, stands_same, FrontsWait, HasPart, FieldPart, code_meaning, keeps_stands, code_part, code_step, code_refused, code_short, step_same, next_here, wait_more, told, told_not}
 use Rattle.dw_feed.specs.ValueSteps.{keeping}
 use Rattle.dw_feed.proofs.coming.Coming.code_in_parts.Goals as goal
 
@@ -25,8 +25,8 @@ read_here g d e slice s lim l o h =
     ap₂ (λ (bs : List ℕ) (n : ℕ). checked read_uleb (code_meaning g.table (frames_of g) (chain_of g)) bs n) (sym s) (sym l)
     ∙ subst (λ (x : Drafted). checked read_uleb (code_meaning x.table x.place.spot.above x.place.spot.left) slice lim ≡ o) e h
 
-pub returns-in-Ok : goal.returns-in-Ok
-returns-in-Ok c =
+pub returns-in-Ok-clause-says : goal.returns-in-Ok-clause-says
+returns-in-Ok-clause-says c =
     let i = c.loop-code.invariant in
     let g : PartialUnit = c.loop-code.self in
     let is_part : c.as_slice.result.now ≡ part g = c.as_slice.ensures.value ∙ ap (λ (x : PartialUnit). x.pending) c.self-in-loop-code.view_is ∙ sym (code_part g i.free i.named) in
@@ -35,8 +35,17 @@ returns-in-Ok c =
     (step_same c.args.self.now g i.same (next_here c.args.self.now (keeps_stands c.args.self.now c.requires.stands)) (part g ++ c.loop-code.rest.now) c.put.result c.put.new.self
     (code_step g i.free (part g) c.loop-code.rest.now i.waits (uleb_of c.in-Ok.code) c.in-Ok.code.width read (length c.loop-code.rest.now) refl c.put.result c.put.new.self c.put.ensures))
 
-pub returns-then-not-is_cut : goal.returns-then-not-is_cut
-returns-then-not-is_cut c =
+pub returns-in-Ok-clause-memory : goal.returns-in-Ok-clause-memory
+returns-in-Ok-clause-memory c =
+    let i = c.loop-code.invariant in
+    let g : PartialUnit = c.loop-code.self in
+    let is_part : c.as_slice.result.now ≡ part g = c.as_slice.ensures.value ∙ ap (λ (x : PartialUnit). x.pending) c.self-in-loop-code.view_is ∙ sym (code_part g i.free i.named) in
+    let read = read_here g _ (ap drafted c.self-in-loop-code.view_is) c.as_slice.result.now is_part c.left-lim.result i.lim_is (Found (uleb_of c.in-Ok.code) c.in-Ok.code.width) c.in-Ok.ensures.exact in
+    if_no_memory c.put.result (CodeStands c.args.self.now (part c.args.self.now ++ c.args.b.now)) (subst (CodeStands c.args.self.now) i.all
+    (stands_same c.args.self.now g i.same (next_here c.args.self.now (keeps_stands c.args.self.now c.requires.stands)) (part g ++ c.loop-code.rest.now) (code_stands g i.free (part g) c.loop-code.rest.now i.waits (uleb_of c.in-Ok.code) c.in-Ok.code.width read)))
+
+pub returns-then-not-is_cut-clause-says : goal.returns-then-not-is_cut-clause-says
+returns-then-not-is_cut-clause-says c =
     let i = c.loop-code.invariant in
     let g : PartialUnit = c.loop-code.self in
     let is_part : c.as_slice.result.now ≡ part g = c.as_slice.ensures.value ∙ ap (λ (x : PartialUnit). x.pending) c.self-in-loop-code.view_is ∙ sym (code_part g i.free i.named) in
@@ -45,8 +54,8 @@ returns-then-not-is_cut c =
     (step_same c.args.self.now g i.same (next_here c.args.self.now (keeps_stands c.args.self.now c.requires.stands)) (part g ++ c.loop-code.rest.now) (steps.Refused (length c.loop-code.rest.now) c.in-Err.reason) g
     (code_refused g i.free (part g) c.loop-code.rest.now i.waits c.in-Err.reason (told_not c.is_cut.result c.is_cut.ensures c.if-not-is_cut.true) read (length c.loop-code.rest.now) refl g))
 
-pub returns-in-None : goal.returns-in-None
-returns-in-None c =
+pub returns-in-None-clause-says : goal.returns-in-None-clause-says
+returns-in-None-clause-says c =
     let i = c.loop-code.invariant in
     let g : PartialUnit = c.loop-code.self in
     let is_part : c.as_slice.result.now ≡ part g = c.as_slice.ensures.value ∙ ap (λ (x : PartialUnit). x.pending) c.self-in-loop-code.view_is ∙ sym (code_part g i.free i.named) in
