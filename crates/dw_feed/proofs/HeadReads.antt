@@ -19,7 +19,7 @@ use Rattle.dw_header.specs.Header.{Header}
 use Rattle.dw_header.specs.HeaderPlace.{HeaderAtUnder, HeaderFaultUnder, header_bytes}
 use Rattle.dw_header.specs.Laws.{spelled_headers_stand, no_header_and_break, header_breaks_stay}
 use Rattle.dw_feed.specs.declared.progress.Progress.{Progress}
-use Rattle.dw_feed.specs.declared.progress.Progress.TheVariants.{More, Done, Fault, NoMemory, Spent}
+use Rattle.dw_feed.specs.declared.progress.Progress.TheVariants.{More, Done, Fault}
 use Rattle.dw_feed.specs.UnitNeverTruncated.{fields_never_truncated}
 use Rattle.dw_feed.specs.Feed.{behind, StartsWith, escape, InUnit, Takes}
 use Rattle.dw_unit.specs.Inside.{header_inside}
@@ -175,16 +175,6 @@ fault_reads versions order taken piece rest n f (Refused g) says =
       subst (λ (bs : List ℕ). Rattle.dw_header.specs.HeaderPlace.HeaderBreaksUnder versions order bs f.offset f.reason) all
           (header_breaks_stay versions order (taken ++ take n piece) (drop n piece ++ rest) f.offset f.reason says.3 says.2.1),
     )
-
-pub no_memory_reads : (versions : Versions) (order : Order) (taken piece : List ℕ) (n : ℕ) (new : HeadState) → Answers versions order (Reading taken) piece n NoMemory new → ⊥
-no_memory_reads versions order taken piece n (Reading now) says = says
-no_memory_reads versions order taken piece n (Refused f) says = says
-no_memory_reads versions order taken piece n Finished says = says
-
-pub spent_reads : (versions : Versions) (order : Order) (taken piece : List ℕ) (n : ℕ) (new : HeadState) → Answers versions order (Reading taken) piece n Spent new → ⊥
-spent_reads versions order taken piece n (Reading now) says = says
-spent_reads versions order taken piece n (Refused f) says = says
-spent_reads versions order taken piece n Finished says = says
 
 -- ---- what was taken where no header is read
 

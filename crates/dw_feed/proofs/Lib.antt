@@ -3,7 +3,6 @@ pub mod HeadReads
 pub mod HeadGrows
 pub mod BodyReads
 pub mod UnitReads
-mod Counting
 mod Samples
 mod BodyFeedRows
 mod HeadFeedRows

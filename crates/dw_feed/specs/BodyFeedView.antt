@@ -1,9 +1,9 @@
 -- A body feed's fields as the feed of the definitions.
-use Rattle.std.proofs.Common.{◌≡◌, ◌⊎◌, ◌<◌, length, Option, Some, None, ap, inl, inr}
+use Rattle.std.proofs.Common.{Option, Some, None}
 use Rattle.dw_leb.specs.declared.errors.Fault.{Fault}
-use Rattle.dw_feed.specs.BodyFeed.{PartialUnit, BodyFeed, Reading, Refused, Finished, started, part}
-use Rattle.dw_feed.specs.FeedInvariant.{Keeps, Kept}
-use Rattle.dw_feed.specs.FieldSteps.{HasPart, Waits}
+use Rattle.dw_feed.specs.BodyFeed.{PartialUnit, BodyFeed, Reading, Refused, Finished}
+use Rattle.dw_feed.specs.FeedInvariant.{Kept}
+use Rattle.dw_feed.specs.FieldSteps.{HasPart}
 
 abbrev pub feed_of : Option PartialUnit → Option Fault → BodyFeed
 feed_of (Some g) f = Reading g
@@ -17,11 +17,3 @@ abbrev pub IsBodyFeed : BodyFeed → Type 0
 IsBodyFeed (Reading g) = Kept (Reading g) × HasPart g
 IsBodyFeed (Refused f) = Unit {0}
 IsBodyFeed Finished = Unit {0}
-
--- of the field at its place fewer bytes are there than it wants, or none
-pub kept_waits : (g : PartialUnit) → Kept (Reading g) → Waits g
-kept_waits g kept = by kept.2
-  where
-    by : (length (part g) < Rattle.dw_feed.specs.FeedInvariant.wanted g (part g)) ⊎ (g ≡ started g.header g.unit_length g.table) → Waits g
-    by (inl short) = inl short
-    by (inr new) = inr (ap part new)

@@ -89,9 +89,6 @@ here_has g b h short =
 
 -- ---- more of its bytes are taken
 
-longer_is : (g g' : PartialUnit) → context g ≡ context g' → (p : Pair) (b : PartialValue) (bytes : List ℕ) → IsPartialAs (context g) p b → IsPartialAs (context g') p (longer bytes b)
-longer_is g g' e p b bytes is = subst (λ (k : Ctx). IsPartialAs k p (longer bytes b)) e (record { shape_is = is.shape_is; has = is.has; begins = is.begins; direct = is.direct; indirect = is.indirect })
-
 module _ (g : PartialUnit) (b : PartialValue) (h : PartialHere g b) (bytes : List ℕ) where
   next_is : HasNextHere g
   next_is = let n : HasNext g.table (Some h.entry) = omega (arith, ap length h.next) in subst (HasNext g.table) (sym h.unfinished) n

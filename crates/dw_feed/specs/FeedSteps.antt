@@ -1,5 +1,5 @@
 -- One step of a feed in its piece: the field at its place wants more, is refused, or is found and leads to the next place. A loop
--- over fields keeps At, from kept_at on; its ways out are more_says, fault_says, done_says and no_memory_says, and it goes on by
+-- over fields keeps At, from kept_at on; its ways out are more_says, fault_says and done_says, and it goes on by
 -- goes_on, and by at_same_field within a field.
 use Rattle.std.proofs.Common.{◌≡◌, ◌≢◌, ◌⊎◌, ℕ, zero, suc, ◌+◌, ◌-◌, ◌<◌, ◌≤◌, List, [], ◌∷◌, ◌++◌, length, take, drop, Option, Some, None, refl, sym, ap, subst, ◌∙◌, append_assoc, arith, inl, inr, length-append, length-drop, take-append-drop}
 use Rattle.std.proofs.lemmas.List.{length-take-le, take_at}
@@ -185,10 +185,6 @@ module _ (g0 : PartialUnit) (piece : List ℕ) where
         subst (λ (n : ℕ). SaysMore g0 piece n g) none_over (says_more g0 g piece at.same longer at.keeps fit wants),
         (at.keeps, fit, inl wants),
       )
-
-  -- NoMemory: whatever was taken
-  pub no_memory_says : (over : ℕ) → over ≤ length piece → RanSays (ran answers.NoMemory Finished over)
-  no_memory_says over within = (within, omega arith, tt)
 
   -- Fault: the field is refused for good
   pub fault_says : (g : PartialUnit) (bytes : List ℕ) → At g bytes → wanted g bytes ≤ length bytes → (offset : ℕ) (reason : Reason) → next g bytes ≡ Broken offset reason

@@ -1,23 +1,18 @@
 -- The next field with the place behind it, by what stands at the front: a value, a code, a null, or a break.
-use Rattle.std.proofs.Common.{◌≡◌, ℕ, ◌-◌, ◌≤◌, List, [], ◌∷◌, ◌++◌, length, Option, Some, None, ap, ◌∙◌, arith}
+use Rattle.std.proofs.Common.{◌≡◌, ℕ, ◌≤◌, List, [], ◌∷◌, ◌++◌, length, Some, ap, ◌∙◌, arith}
 use Rattle.dw_leb.specs.declared.errors.Reason.{Reason}
-use Rattle.dw_leb.specs.Part.{Part, Taken, judged}
-use Rattle.dw_leb.specs.Number.{Unsigned, uleb}
-use Rattle.dw_leb.specs.Reader.{Reader, mapped, made, checked}
-use Rattle.dw_leb.specs.ReadNumber.{read_uleb}
-use Rattle.dw_leb.specs.Decide.{Decides, found, broken, judged_decides}
-use Rattle.dw_leb.specs.DecideNumber.{uleb_decides}
+use Rattle.dw_leb.specs.Part.{Part, Taken}
+use Rattle.dw_leb.specs.Reader.{Reader, mapped, made}
+use Rattle.dw_leb.specs.Decide.{Decides, found, broken}
 use Rattle.dw_form.specs.declared.shape.Ctx.{Ctx}
 use Rattle.dw_form.specs.Form.{Attribute, attribute}
 use Rattle.dw_form.specs.ReadForm.{read_attribute}
 use Rattle.dw_form.specs.DecideForm.{attribute_decides}
-use Rattle.dw_abbrev.specs.Table.{Pair, Table, is_null}
-use Rattle.dw_tree.specs.Tree.{Tree, Forest, none, more, bad_root, bad_child, not_null, nesting}
+use Rattle.dw_abbrev.specs.Table.{Pair, Table}
+use Rattle.dw_tree.specs.Tree.{Forest}
 use Rattle.dw_tree.specs.Place.{Frame, UnfinishedEntry}
 use Rattle.dw_tree.specs.Steps.{next_pairs, settle}
-use Rattle.dw_feed.specs.Room.{has_room}
-use Rattle.dw_feed.specs.FieldFound.{place}
-use Rattle.dw_feed.specs.FieldReader.{PlaceBehind, by_code, read_value, read_field}
+use Rattle.dw_feed.specs.FieldReader.{PlaceBehind, read_value, read_field}
 
 -- what is spelled at the front is found ..
 front_found : {A X : Type 0} (P : Part A) (R : Reader A) → Decides P R → (f : A → X) (bytes : List ℕ) (lim : ℕ) (a : A) (size : ℕ) → Taken P bytes lim a size → made f R bytes lim ≡ found (f a) size
@@ -30,9 +25,6 @@ front_found P R it f bytes lim a size h =
 -- .. and a break is refused
 front_broken : {A X : Type 0} (P : Part A) (R : Reader A) → Decides P R → (f : A → X) (bytes : List ℕ) (lim offset : ℕ) (reason : Reason) → P.Break bytes lim offset reason → made f R bytes lim ≡ broken X offset reason
 front_broken P R it f bytes lim offset reason h = ap (mapped f) (it.faults bytes lim offset reason h)
-
-code_decides : (meaning : Unsigned → Option Reason) → Decides (judged uleb meaning) (checked read_uleb meaning)
-code_decides meaning = judged_decides uleb read_uleb meaning uleb_decides
 
 module _ (k : Ctx) (t : Table) (ws bytes : List ℕ) (lim : ℕ) where
   -- ---- a value of the unfinished entry
@@ -47,31 +39,3 @@ module _ (k : Ctx) (t : Table) (ws bytes : List ℕ) (lim : ℕ) where
 
     pub value_broken : (offset : ℕ) (reason : Reason) → (attribute k p.form.value p.constant).Break bytes lim offset reason → read_field k t fs ts (Some r) ws bytes lim ≡ broken PlaceBehind offset reason
     value_broken offset reason h = value_reader ∙ front_broken (attribute k p.form.value p.constant) (read_attribute k p.form.value p.constant) (attribute_decides k p.form.value p.constant) _ bytes lim offset reason h
-
-  -- ---- the root's code
-
-  pub root_found : (code : Unsigned) (size : ℕ) → Taken (judged uleb (bad_root t)) bytes lim code size → read_field k t [] none None ws bytes lim ≡ found (settle t (record { above = []; left = none }) code [], []) size
-  root_found code size h = front_found (judged uleb (bad_root t)) (checked read_uleb (bad_root t)) (code_decides (bad_root t)) _ bytes lim code size h
-
-  pub root_broken : (offset : ℕ) (reason : Reason) → (judged uleb (bad_root t)).Break bytes lim offset reason → read_field k t [] none None ws bytes lim ≡ broken PlaceBehind offset reason
-  root_broken offset reason h = front_broken (judged uleb (bad_root t)) (checked read_uleb (bad_root t)) (code_decides (bad_root t)) _ bytes lim offset reason h
-
-  -- ---- a code or null of a chain
-
-  module _ (f : Frame) (fs : List Frame) (ts : Forest) where
-    abbrev meaning : Unsigned → Option Reason
-    meaning = bad_child t (has_room (nesting - length (f ∷ fs)))
-
-    pub child_found : (code : Unsigned) (size : ℕ) → Taken (judged uleb meaning) bytes lim code size → read_field k t (f ∷ fs) ts None ws bytes lim ≡ found (by_code k t (is_null code) (record { above = f ∷ fs; left = ts }) code) size
-    child_found code size h = front_found (judged uleb meaning) (checked read_uleb meaning) (code_decides meaning) _ bytes lim code size h
-
-    pub child_broken : (offset : ℕ) (reason : Reason) → (judged uleb meaning).Break bytes lim offset reason → read_field k t (f ∷ fs) ts None ws bytes lim ≡ broken PlaceBehind offset reason
-    child_broken offset reason h = front_broken (judged uleb meaning) (checked read_uleb meaning) (code_decides meaning) _ bytes lim offset reason h
-
-  -- ---- a null behind the root
-
-  pub null_found : (x : Tree) (ts : Forest) (code : Unsigned) (size : ℕ) → Taken (judged uleb not_null) bytes lim code size → read_field k t [] (more x ts) None ws bytes lim ≡ found (place [] (more x ts) None, ws ++ code.width ∷ []) size
-  null_found x ts code size h = front_found (judged uleb not_null) (checked read_uleb not_null) (code_decides not_null) _ bytes lim code size h
-
-  pub null_broken : (x : Tree) (ts : Forest) (offset : ℕ) (reason : Reason) → (judged uleb not_null).Break bytes lim offset reason → read_field k t [] (more x ts) None ws bytes lim ≡ broken PlaceBehind offset reason
-  null_broken x ts offset reason h = front_broken (judged uleb not_null) (checked read_uleb not_null) (code_decides not_null) _ bytes lim offset reason h

@@ -145,10 +145,6 @@ module _ (g : PartialUnit) where
   has : HasMoment (read_next (context g) g.table (frames_of g) (chain_of g) g.place.unfinished) (next_moment (context g) g.table (frames_of g) (chain_of g) g.place.unfinished)
   has = next_has (context g) g.table (frames_of g) (chain_of g) g.place.unfinished
 
-  pub none_wait : FrontsWait g []
-  none_wait [] b e = absurd cc
-  none_wait (x ∷ xs) b e = absurd cc
-
   split_last : (x : ℕ) (xs : List ℕ) → (ps : List ℕ) × (p : ℕ) × (x ∷ xs ≡ ps ++ p ∷ [])
   split_last x [] = ([], x, refl)
   split_last x (y ∷ xs) = let s = split_last y xs in (x ∷ s.0, s.1, ap (λ (zs : List ℕ). x ∷ zs) s.2)
@@ -290,6 +286,64 @@ TakenSays g piece takes.More new = RanSays g piece (ran answers.More (Reading ne
 TakenSays g piece (takes.Whole over) new = (x : Tree) × (root_if_whole new ≡ Some x) × Standing new × RanSays g piece (ran (answers.Done (unit_with new x)) Finished over)
 TakenSays g piece (takes.Refused over fault) new = RanSays g piece (ran (answers.Fault fault) (Refused fault) over)
 TakenSays g piece takes.NoMemory new = Unit {0}
+
+-- ---- where memory is wanted
+
+-- where a code or null is next, it isn't refused for good
+abbrev pub CodeStands : PartialUnit → List ℕ → Type 0
+CodeStands g bytes = g.place.unfinished ≡ None → (own : ℕ) (reason : Reason) → field_at g bytes (left g) ≡ Broken own reason → reason ≡ Truncated
+
+abbrev pub IfNoMemory : Step → Type 0 → Type 0
+IfNoMemory (steps.Found over) P = Unit {0}
+IfNoMemory steps.Wanting P = Unit {0}
+IfNoMemory (steps.Refused over reason) P = Unit {0}
+IfNoMemory steps.NoMemory P = P
+
+pub if_no_memory : (s : Step) (P : Type 0) → P → IfNoMemory s P
+if_no_memory (steps.Found over) P p = tt
+if_no_memory steps.Wanting P p = tt
+if_no_memory (steps.Refused over reason) P p = tt
+if_no_memory steps.NoMemory P p = p
+
+abbrev pub IfNoneLeft : Taken → Type 0 → Type 0
+IfNoneLeft takes.More P = Unit {0}
+IfNoneLeft (takes.Whole over) P = Unit {0}
+IfNoneLeft (takes.Refused over fault) P = Unit {0}
+IfNoneLeft takes.NoMemory P = P
+
+-- a field that is found isn't refused
+pub found_stands : (g : PartialUnit) (bytes : List ℕ) (q : PlaceBehind) (size : ℕ) → field_at g bytes (left g) ≡ Found q size → CodeStands g bytes
+found_stands g bytes q size f free own reason e = let no : Found q size ≡ Broken own reason = sym f ∙ e in absurd cc
+
+-- nor is a code that was found in fewer of the bytes
+pub code_stands : (g : PartialUnit) → g.place.unfinished ≡ None → (bytes rest : List ℕ) → FrontsWait g bytes → (code : Unsigned) (size : ℕ) → checked read_uleb (code_meaning g.table (frames_of g) (chain_of g)) bytes (left g) ≡ Found code size → CodeStands g (bytes ++ rest)
+code_stands g free bytes rest wait code size e =
+    let q : PlaceBehind = behind_code (context g) g.table (frames_of g) (chain_of g) g.padding code in
+    found_stands g (bytes ++ rest) q size (stop_found g bytes rest wait q size (code_read g free bytes (Found code size) e)).0
+
+-- a feed that took more of the field is one of the feed before
+pub stands_same : (g h : PartialUnit) → holding g [] ≡ holding h [] → HasNextHere g → (bytes : List ℕ) → CodeStands h bytes → CodeStands g bytes
+stands_same g h same next bytes stands free own reason e = stands (by g.place.unfinished h.place.unfinished (ap (λ (x : PartialUnit). x.place.unfinished) same) free) own reason (sym (same_field g h same next bytes) ∙ e)
+  where
+    by : (o p : Option UnfinishedEntry) → option_map (given_partial None) o ≡ option_map (given_partial None) p → o ≡ None → p ≡ None
+    by o None q n = refl
+    by None (Some s) q n = absurd cc
+    by (Some r) (Some s) q n = absurd cc
+
+-- where a value is next, no code is
+pub no_code : (g : PartialUnit) (bytes : List ℕ) → true ≡ is_some g.place.unfinished → CodeStands g bytes
+no_code g bytes some free own reason e = let no : true ≡ false = some ∙ ap is_some free in absurd cc
+
+-- at the first field of a call, or the code that came first there stands
+abbrev pub FirstStands : PartialUnit → List ℕ → PartialUnit → List ℕ → Type 0
+FirstStands g0 piece g rest = CodeStands g0 (part g0 ++ piece) ⊎ ((g ≡ g0) × (rest ≡ piece))
+
+pub first_wants : (g0 : PartialUnit) (piece : List ℕ) (g : PartialUnit) (rest : List ℕ) → FirstStands g0 piece g rest → CodeStands g (part g ++ rest) → CodeStands g0 (part g0 ++ piece)
+first_wants g0 piece g rest (inl stands) here = stands
+first_wants g0 piece g rest (inr same) here = subst (λ (bs : List ℕ). CodeStands g0 (part g0 ++ bs)) same.1 (subst (λ (x : PartialUnit). CodeStands x (part x ++ rest)) same.0 here)
+
+pub first_found : (g0 : PartialUnit) (piece : List ℕ) (g : PartialUnit) (rest : List ℕ) → FirstStands g0 piece g rest → (over : ℕ) (new : PartialUnit) → StepSays g (part g ++ rest) (steps.Found over) new → CodeStands g0 (part g0 ++ piece)
+first_found g0 piece g rest first over new (q, size, e, all, moved) = first_wants g0 piece g rest first (found_stands g (part g ++ rest) q size e)
 
 -- ---- where the input ends
 

@@ -1,7 +1,6 @@
 -- A header that is cut off by the input's end has fewer than 40 bytes, and a proper front of a header is cut off.
-use Rattle.std.proofs.Common.{Bool, true, false, ◌≡◌, ◌≢◌, ◌⊎◌, ℕ, ◌+◌, ◌≤◌, ◌<◌, List, [], ◌∷◌, ◌++◌, length, take, drop, refl, sym, ap, subst, ◌∙◌, append_assoc, append-nil, arith, inl, inr}
+use Rattle.std.proofs.Common.{Bool, true, false, ◌≡◌, ℕ, ◌+◌, ◌≤◌, ◌<◌, List, [], ◌∷◌, ◌++◌, length, take, drop, refl, sym, ap, subst, ◌∙◌, append-nil, arith, inl, inr}
 use Rattle.std.specs.Prelude.{if◌then◌else◌, ◌==◌}
-use Rattle.std.specs.List.{AllByRecursion}
 use Rattle.std.proofs.lemmas.List.{length-append, take-append-drop, take-append-le, take_at}
 use Rattle.dw_leb.specs.declared.errors.Reason.{Reason}
 use Rattle.dw_leb.specs.declared.errors.Reason.TheVariants.{Truncated}
@@ -13,9 +12,9 @@ use Rattle.dw_leb.specs.Number.{Short, fixed, initial_length, length_field, leng
 use Rattle.dw_leb.specs.Digits.{length-fixed}
 use Rattle.dw_leb.specs.DecideNumber.{initial-size}
 use Rattle.dw_header.specs.declared.versions.Versions.{Versions}
-use Rattle.dw_header.specs.Header.{Header, Accepts, numbers, added_sizes, bad_type, bad_address_size, bad_version_under, five_part, four_part, fields_behind, fields_under}
+use Rattle.dw_header.specs.Header.{Header, numbers, added_sizes, bad_type, bad_address_size, bad_version_under, five_part, four_part, fields_behind, fields_under}
 use Rattle.dw_header.specs.HeaderPlace.{HeaderAtUnder, HeaderBreaksUnder, header_bytes}
-use Rattle.dw_header.specs.Laws.{HasHeaderBytes, headers_are_spelled, headers_are_accepted, spelled_headers_stand, no_header_begins, no_header_and_break, header_or_break, header_breaks_stay}
+use Rattle.dw_header.specs.Laws.{HasHeaderBytes, headers_are_spelled, headers_are_accepted, spelled_headers_stand, no_header_and_break}
 use Rattle.dw_leb.specs.Moments.{Judges}
 use Rattle.dw_leb.specs.NumberMoments.{reserved_judges, too_far_judges}
 use Rattle.dw_header.specs.HeaderMoments.{type_judges, address_size_judges, version_judges}
@@ -134,33 +133,6 @@ cut_headers_are_short versions order bytes (offset, inl one) = omega (arith, len
 cut_headers_are_short versions order bytes (offset, inr (format, n, rest, own, fits, split, sum, breaks)) =
     let s : List ℕ = (length_field order).spell (format, n) in
     omega (arith, ap length split, length-append s rest, initial-size order 0 format n, length_most format, fields_cut versions order format rest n own breaks)
-
--- no bytes are cut off
-pub nothing_is_cut : (versions : Versions) (order : Order) → IsCut versions order []
-nothing_is_cut versions order = (0, inl (inl (refl, 0, inl (inl (refl, inr (omega arith, omega arith, refl))))))
-
-is_truncated : (r : Reason) → (r ≡ Truncated) ⊎ (r ≢ Truncated)
-is_truncated Truncated = inl refl
-is_truncated _ = inr (λ e. cc)
-
--- a proper front of a header is cut off
-pub fronts_of_headers_are_cut : (versions : Versions) (h : Header) (n : ℕ) (front : List ℕ) (b : ℕ) (more : List ℕ) → Accepts versions h.kind → HasHeaderBytes h n → AllByRecursion (λ x. x < 256) front
-    → header_bytes h n ≡ front ++ b ∷ more → IsCut versions h.order front
-fronts_of_headers_are_cut versions h n front b more accepts has fit is = by (header_or_break versions h.order front fit)
-  where
-    whole : HeaderAtUnder versions h.order (front ++ b ∷ more) h n
-    whole = subst (λ (x : List ℕ). HeaderAtUnder versions h.order x h n) (append-nil (header_bytes h n) ∙ is) (spelled_headers_stand versions h n [] accepts has)
-
-    by : ((g : Header) × (m : ℕ) × HeaderAtUnder versions h.order front g m) ⊎ ((offset : ℕ) × (reason : Reason) × HeaderBreaksUnder versions h.order front offset reason) → IsCut versions h.order front
-    by (inl (g, m, there)) =
-        let s = headers_are_spelled versions h.order front g m there in
-        let rest : List ℕ = s.2.0 in
-        let same = no_header_begins g h m n (rest ++ b ∷ more) [] s.0 s.1 has (sym (append_assoc (header_bytes g m) rest (b ∷ more)) ∙ ap (λ (x : List ℕ). x ++ b ∷ more) (sym s.2.1) ∙ sym is ∙ sym (append-nil (header_bytes h n))) in
-        absurd (omega (arith, ap length same.2, length-append rest (b ∷ more)))
-    by (inr (offset, reason, breaks)) = elim (is_truncated reason) [
-      | inl e ↦ (offset, subst (λ (r : Reason). HeaderBreaksUnder versions h.order front offset r) e breaks)
-      | inr ne ↦ absurd (no_header_and_break versions h.order (front ++ b ∷ more) h n offset reason whole (header_breaks_stay versions h.order front (b ∷ more) offset reason ne breaks))
-    ]
 
 -- bytes that begin with a header, and are cut off without their last one, are the header
 pub header_is_all : (versions : Versions) (order : Order) (front : List ℕ) (b : ℕ) (h : Header) (n : ℕ) → IsCut versions order front → HeaderAtUnder versions order (front ++ b ∷ []) h n → front ++ b ∷ [] ≡ header_bytes h n

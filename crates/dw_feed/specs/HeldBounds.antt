@@ -16,11 +16,12 @@ use Rattle.dw_abbrev.specs.Table.{Pair, Declaration, Table, declared, is_null, z
 use Rattle.dw_abbrev.specs.FewPairs.{FewPairs}
 use Rattle.dw_tree.specs.Tree.{Tree, leaf, branch, Forest, none, more, Body, node_of, nodes_of, values, declared_pairs, declares_children, unless_declared, unknown, bad_child, body, children, nesting, nulls, AreNulls}
 use Rattle.dw_tree.specs.Spelling.{forest_bytes}
-use Rattle.dw_tree.specs.Row.{Token, leaf_row, branch_row, null_row, rows_of, all_rows, rows_bytes}
+use Rattle.dw_tree.specs.Row.{Token, branch_row, null_row, rows_of, all_rows, rows_bytes}
 use Rattle.dw_tree.specs.Place.{Frame, PartialValue, UnfinishedEntry, rows_before}
 use Rattle.dw_tree.specs.Steps.{first_values, partial_in, unfinished_bytes}
 use Rattle.dw_tree.specs.PoolBytes.{joined, held, partial_bytes, read_bytes}
 use Rattle.dw_tree.specs.DraftInvariant.{EntryFits, TokenFits}
+use Rattle.dw_tree.specs.Counts.{entries_in, values_in, unfinished_entries, unfinished_values, few_entries, few_declared, few_values}
 use Rattle.dw_tree.specs.Sizes.{values_short, rows_short}
 use Rattle.dw_feed.specs.PlaceBytes.{open_bytes}
 use Rattle.dw_feed.specs.PlaceRows.{place_rows}
@@ -28,8 +29,7 @@ use Rattle.dw_feed.specs.FieldPlace.{ChildFits, ChainFits, BeginsEntry, RootFits
 use Rattle.dw_feed.specs.PlaceBreaks.{room_is}
 use Rattle.dw_feed.specs.FieldFound.{root_begins}
 use Rattle.dw_feed.specs.BodyFeed.{PartialUnit, first_form, count_if, pairs_left, value_part, part}
-use Rattle.dw_feed.specs.HeldCounts.{entries_in, values_in, unfinished_entries, unfinished_values, held_by}
-use Rattle.dw_feed.specs.HeldSteps.{few_declared}
+use Rattle.dw_feed.specs.HeldCounts.{held_by}
 use Rattle.dw_feed.specs.HeldView.{HeldWithin}
 use Rattle.dw_feed.specs.FeedInvariant.{Keeps, context, frames_of, chain_of, body_so_far}
 
@@ -37,7 +37,7 @@ module _ (k : Ctx) (t : Table) where
   abbrev pub RowsFit : List Token → Type 0
   RowsFit xs = AllByRecursion (TokenFits k t) xs
 
-  rows_joined : (xs ys : List Token) → RowsFit xs → RowsFit ys → RowsFit (xs ++ ys)
+  pub rows_joined : (xs ys : List Token) → RowsFit xs → RowsFit ys → RowsFit (xs ++ ys)
   rows_joined [] ys h g = g
   rows_joined (x ∷ xs) ys h g = (h.0, rows_joined xs ys h.1 g)
 
@@ -118,25 +118,16 @@ module _ (k : Ctx) (t : Table) where
   rows_fit [] ts (Some r) ws h = frame_rows [] h.room ts h.frames_fit h.spot_fits.before
   rows_fit (f ∷ fs) ts (Some r) ws h = frame_rows (f ∷ fs) h.room ts h.frames_fit h.spot_fits.before
 
+  -- the nulls of the padding
+  pub nulls_fit : (fs : List Frame) (ts : Forest) (o : Option UnfinishedEntry) (ws : List ℕ) → PaddingFits k t fs ts o ws → AreNulls ws
+  nulls_fit fs ts o [] h = tt
+  nulls_fit [] (more x ts) None (w ∷ ws) h = h
+  nulls_fit [] none None (w ∷ ws) h = absurd h
+  nulls_fit [] none (Some r) (w ∷ ws) h = absurd h
+  nulls_fit [] (more x ts) (Some r) (w ∷ ws) h = absurd h
+  nulls_fit (f ∷ fs) ts o (w ∷ ws) h = absurd h
+
   -- ---- counted
-
-  few_entries : (xs : List Token) → entries_in xs ≤ length xs
-  few_entries [] = omega arith
-  few_entries (leaf_row code vs ∷ xs) = omega (arith, few_entries xs)
-  few_entries (branch_row code vs ∷ xs) = omega (arith, few_entries xs)
-  few_entries (null_row w ∷ xs) = omega (arith, few_entries xs)
-
-  value_count : (ps : List Pair) (vs : List Attribute) → (values k ps).Fits vs → length vs ≡ length ps
-  value_count [] [] fits = refl
-  value_count [] (v ∷ vs) fits = absurd fits
-  value_count (p ∷ ps) [] fits = absurd fits
-  value_count (p ∷ ps) (v ∷ vs) fits = ap suc (value_count ps vs fits.1)
-
-  few_values : FewPairs t → (xs : List Token) → RowsFit xs → values_in xs ≤ 1024 * entries_in xs
-  few_values few [] h = omega arith
-  few_values few (leaf_row code vs ∷ xs) h = omega (arith, few_values few xs h.1, few_declared t few code.value, value_count (declared_pairs (declared t code.value)) vs h.0.0.values_fit)
-  few_values few (branch_row code vs ∷ xs) h = omega (arith, few_values few xs h.1, few_declared t few code.value, value_count (declared_pairs (declared t code.value)) vs h.0.0.values_fit)
-  few_values few (null_row w ∷ xs) h = few_values few xs h.1
 
   -- an unfinished entry has a byte at least, and more than the contents of its values
   few_unfinished : (fs : List Frame) (ts : Forest) (o : Option UnfinishedEntry) (ws : List ℕ) → PlaceFits k t fs ts o ws → unfinished_entries o ≤ length (unfinished_bytes k t o)
@@ -172,7 +163,7 @@ module _ (g : PartialUnit) (keeps : Keeps g) where
       omega (
         arith,
         parts_size,
-        few_entries (context g) g.table (rows_before (frames_of g) (chain_of g)),
+        few_entries (rows_before (frames_of g) (chain_of g)),
         (rows_short (context g) g.table (rows_before (frames_of g) (chain_of g)) 0 rows_here).rows_short,
         few_unfinished (context g) g.table (frames_of g) (chain_of g) g.place.unfinished g.padding keeps.stands,
       )
@@ -222,17 +213,9 @@ module _ (g : PartialUnit) (keeps : Keeps g) where
       omega (
         arith,
         parts_size,
-        few_nulls g.padding (by (frames_of g) (chain_of g) g.place.unfinished g.padding keeps.stands.padding_fits),
+        few_nulls g.padding (nulls_fit (context g) g.table (frames_of g) (chain_of g) g.place.unfinished g.padding keeps.stands.padding_fits),
         length-append (body_so_far g) (part g),
       )
-    where
-      by : (fs : List Frame) (ts : Forest) (o : Option UnfinishedEntry) (ws : List ℕ) → PaddingFits (context g) g.table fs ts o ws → AreNulls ws
-      by fs ts o [] h = tt
-      by [] (more x ts) None (w ∷ ws) h = h
-      by [] none None (w ∷ ws) h = absurd h
-      by [] none (Some r) (w ∷ ws) h = absurd h
-      by [] (more x ts) (Some r) (w ∷ ws) h = absurd h
-      by (f ∷ fs) ts o (w ∷ ws) h = absurd h
 
   pub held_within : FewPairs g.table → length g.pending ≤ 16 → HeldWithin (length (body_so_far g ++ part g)) (held_by g)
   held_within few short = record {

@@ -1,5 +1,5 @@
--- The law of the unit's end.
-use Rattle.std.specs.Prelude.{◌≤◌, ℕ, ◌+◌, ◌<◌, List, ◌++◌, length}
+-- The laws of the unit's end, and of what a feed holds.
+use Rattle.std.specs.Prelude.{◌≡◌, ◌≤◌, ℕ, ◌+◌, ◌<◌, List, ◌++◌, length}
 use Rattle.std.specs.List.{AllByRecursion}
 use Rattle.dw_leb.specs.declared.errors.Reason.{Reason}
 use Rattle.dw_leb.specs.declared.errors.Reason.TheVariants.{Truncated}
@@ -12,6 +12,9 @@ use Rattle.dw_leb.specs.Number.{initial_length, length_limit, length_size}
 use Rattle.dw_header.specs.declared.versions.Versions.{Versions}
 use Rattle.dw_header.specs.declared.versions.Versions.TheVariants.{Five}
 use Rattle.dw_unit.specs.Unit.{FailsUnder}
+use Rattle.dw_feed.specs.BodyFeed.{PartialUnit, Reading, part, stream, SameUnit}
+use Rattle.dw_feed.specs.BodyFeedView.{IsBodyFeed}
+use Rattle.dw_feed.specs.HeldCounts.{held_by}
 
 -- the bytes begin with a length field, and hold all that it tells
 abbrev pub HoldsUnit : Order → List ℕ → Type 0
@@ -40,3 +43,17 @@ FaultsStayInside = FaultsStayInsideUnder Five
 
 abbrev pub FaultsComeFromInside : Type 0
 FaultsComeFromInside = FaultsComeFromInsideUnder Five
+
+-- ---- what a feed holds
+
+-- these hold the same: the same bytes of the field at their place, as many entries and values before it, and as many entries whose
+-- subtree hasn't ended
+pub record HoldsSame (g h : PartialUnit) : Type 0 where
+  pub part : part g ≡ part h
+  pub nested : (held_by g).nested ≡ (held_by h).nested
+  pub entries : (held_by g).entries ≡ (held_by h).entries
+  pub values : (held_by g).values ≡ (held_by h).values
+
+-- feeds of one unit that took the same bytes hold the same, however these were cut into pieces
+abbrev pub StreamTellsHeld : Type 0
+StreamTellsHeld = (g h : PartialUnit) → SameUnit g h → IsBodyFeed (Reading g) → IsBodyFeed (Reading h) → stream g ≡ stream h → HoldsSame g h

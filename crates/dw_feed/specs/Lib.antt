@@ -11,7 +11,6 @@ pub mod HeadFeedView
 pub mod PlaceBytes
 pub mod BodyFeed
 pub mod HeldCounts
-pub mod HeldSteps
 pub mod Room
 pub mod FieldPlace
 pub mod BreaksBehind
@@ -33,7 +32,9 @@ pub mod PartialSteps
 pub mod PlaceRows
 pub mod HeldBounds
 pub mod HeldView
+pub mod SameHeld
 pub mod FieldSteps
+pub mod FaultFirst
 pub mod BodyView
 pub mod BodyFeedView
 pub mod FedUnit

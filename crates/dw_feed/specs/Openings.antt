@@ -162,9 +162,6 @@ module _ (g : PartialUnit) (width : Option ℕ) (count : ℕ) (h : ValueHere g) 
   unfolding value_is
   opened_has = here_has new (begun_value g width) value_is (subst (λ (lim : ℕ). IsIncomplete opens.shape_is width [] count (lim_behind g.named lim)) left_same opens.room)
 
-  pub opened_partial : IsSome (partial_in new.place.unfinished)
-  opened_partial = subst (λ (o : Option UnfinishedEntry). IsSome (partial_in (option_map (given_partial (Some (begun_value g width))) o))) (sym h.unfinished) refl
-
   -- what was kept of the length field stands in the value now
   pub opened_part : part new ≡ part g
   opened_part =

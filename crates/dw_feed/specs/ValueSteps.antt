@@ -34,7 +34,7 @@ use Rattle.dw_feed.specs.PlainFeed.{field_at, holding}
 use Rattle.dw_feed.specs.FeedSteps.{cut_wants}
 use Rattle.dw_feed.specs.PartialValues.{NamedFits, FewKeptIf, lim_behind, none_kept, unnamed_kept, unnamed_few}
 use Rattle.dw_feed.specs.LengthFields.{one_more}
-use Rattle.dw_feed.specs.FieldSteps.{Standing, ValuePart, FieldPart, HasPart, HasNextHere, FrontsWait, StepSays, keeps_stands, next_here, step_same, stop_found, stop_broken, wait_more}
+use Rattle.dw_feed.specs.FieldSteps.{Standing, ValuePart, FieldPart, HasPart, HasNextHere, FrontsWait, StepSays, keeps_stands, step_same, stop_found, stop_broken, wait_more}
 
 -- ---- an attempt to read the value at the front of bytes
 
@@ -109,11 +109,6 @@ module _ (g : PartialUnit) (p : Pair) where
   value_whole bytes rest wait size new h =
       let f = stop_found g bytes rest wait h.0 size h.1 in
       (h.0, size, f.0, omega (arith, f.1, length-append bytes rest), h.3)
-
-  -- one that stands whole in the piece
-  pub value_at_once : part g ≡ [] → (bytes : List ℕ) (size : ℕ) (new : PartialUnit) → ValueSays g p bytes (attempts.Whole size) new → StepSays g (part g ++ bytes) (steps.Found (length bytes - size)) new
-  value_at_once none_there bytes size new h =
-      subst (λ (bs : List ℕ). StepSays g (bs ++ bytes) (steps.Found (length bytes - size)) new) (sym none_there) (h.0, size, h.1, omega (arith, h.2), h.3)
 
 -- ---- the form that an indirect value names
 
@@ -222,9 +217,6 @@ pub record InValue (g0 : PartialUnit) (b : List ℕ) (p : Pair) (g : PartialUnit
   pub keeps : Keeps g
   pub has : HasPart g
   pub waits : FrontsWait g (part g)
-
-pub in_value : (g : PartialUnit) (b : List ℕ) (p : Pair) → next_pair g.table g.place.unfinished ≡ Some p → partial_in g.place.unfinished ≡ None → Keeps g → HasPart g → FrontsWait g (part g) → InValue g b p g b
-in_value g b p next between keeps has waits = record { first = next_here g (keeps_stands g keeps); same = refl; all = refl; next = next; between = between; keeps = keeps; has = has; waits = waits }
 
 module _ (g0 : PartialUnit) (b : List ℕ) (p : Pair) (g : PartialUnit) (rest : List ℕ) (i : InValue g0 b p g rest) where
   -- a step there is one of the call

@@ -3,6 +3,7 @@ ghost use Rattle.std.specs.Prelude.{◌≡◌, ◌≤◌, [], length};
 ghost use Rattle.dw_header.specs.Laws.{HasHeaderBytes};
 ghost use Rattle.dw_feed.specs.BodyFeed.{Reading, started, FeedsBody, EndsBody};
 ghost use Rattle.dw_feed.specs.EmptyPiece.{Rests};
+ghost use Rattle.dw_feed.specs.FaultFirst.{FaultFirst};
 ghost use Rattle.dw_feed.specs.HeldCounts.{held};
 ghost use Rattle.dw_feed.specs.BodyFeedView.{IsBodyFeed};
 ghost use Rattle.dw_feed.specs.HeldView.{held_of, HeldWithin, padding_of, taken_by};
@@ -64,11 +65,13 @@ impl BodyFeed {
     /// - `Done`: the unit. The last byte that was taken is the unit's last.
     /// - `Fault`: the unit's fault, in `.debug_info`, never `Truncated`; its offset counts from the first
     ///   byte of the unit. The last byte that was taken shows it first. Every later call answers it again.
-    /// - `NoMemory`: a growth was refused. It isn't answered to an empty piece.
+    /// - `NoMemory`: a growth was refused. It isn't answered to an empty piece, nor where a code or null comes next and is
+    ///   refused with this piece, as a code at a level too deep.
     /// - `Spent`, after `Done` or `NoMemory`.
     pub fn feed(&mut self, piece: &[u8]) -> (usize, Progress<Unit>)
         ensures feeds { FeedsBody self.old piece.now result.0 result.1 self.new }
         ensures empty { piece.now ≡ [] → Rests self.old result.1 self.new }
+        ensures memory { FaultFirst self.old piece.now result.1 }
         ensures room { result.0 ≤ length piece.now }
     {
         if piece.is_empty() {

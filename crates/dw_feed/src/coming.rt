@@ -22,10 +22,9 @@ ghost use Rattle.dw_feed.specs.BodyFeed.{Reading, EndsBody, started, part};
 ghost use Rattle.dw_feed.specs.HeldCounts.{held_by};
 ghost use Rattle.dw_feed.specs.HeldView.{held_of};
 ghost use Rattle.dw_feed.specs.FeedInvariant.{Keeps, Kept, context, left as left_of, moved_to};
-ghost use Rattle.dw_feed.specs.FieldSteps.{Standing, HasPart, FrontsWait, StepSays, code_meaning, behind_code, BehindCode, CodeBreaks, Waits, TakenSays};
+ghost use Rattle.dw_feed.specs.FieldSteps.{Standing, HasPart, FrontsWait, StepSays, CodeStands, IfNoMemory, IfNoneLeft, code_meaning, behind_code, BehindCode, CodeBreaks, Waits, TakenSays};
 
 use crate::code::{code_at, is_cut};
-use crate::counted::Counted;
 use crate::held::Held;
 use crate::step::{Attempt, Step, Taken};
 use crate::value::{form_at, is_short, joined, told_size, value_at, without_front};
@@ -34,7 +33,7 @@ use dw_abbrev::{Pair, Table};
 use dw_form::AttrValue;
 use dw_leb::constants::form::DW_FORM_INDIRECT;
 use dw_leb::{Fault, Reason, SectionId, Uleb};
-use dw_unit::{Header, Unit};
+use dw_unit::{Draft, Header, Unit};
 use std::alloc::{AllocError, Global};
 use std::marker::Model;
 use std::rc::Rc;
@@ -43,7 +42,7 @@ use std::rc::Rc;
 /// parts that came.
 #[derive(Debug, Drop)]
 pub(crate) struct Coming {
-    pub(crate) draft: Counted,
+    pub(crate) draft: Draft,
     unit_length: u64,
     /// The form that an indirect value names, before the value itself begins (section 7.5.3).
     pub(crate) named: Option<Uleb>,
@@ -72,7 +71,7 @@ impl Coming {
         ensures { result ≡ started header length table.value }
     {
         Coming {
-            draft: Counted::new(alloc, header, table),
+            draft: Draft::new(alloc, header, table),
             unit_length: length,
             named: None,
             to_come: 0,
@@ -103,7 +102,8 @@ impl Coming {
         ensures few { FewPairs self.now.table }
         ensures short { result.pending ≤ 16 }
     {
-        let (entries, values) = self.draft.counts();
+        self.draft.table().pairs_are_few();
+        let (entries, values) = self.draft.tree().counts();
         let unfinished = self.draft.next_pair().is_some() as usize;
         Held {
             pending: self.pending.len(),
@@ -120,7 +120,8 @@ impl Coming {
         requires stands { Keeps self.old }
         requires has { HasPart self.old }
         requires waits { FrontsWait self.old (part self.old) }
-        ensures { StepSays self.old (part self.old ++ b.now) result self.new }
+        ensures says { StepSays self.old (part self.old ++ b.now) result self.new }
+        ensures memory { IfNoMemory result (CodeStands self.old (part self.old ++ b.now)) }
     {
         if self.pending.is_empty() && !b.is_empty() {
             let lim = self.left();
@@ -137,7 +138,8 @@ impl Coming {
         requires stands { Keeps self.old }
         requires has { HasPart self.old }
         requires waits { FrontsWait self.old (part self.old) }
-        ensures { StepSays self.old (part self.old ++ b.now) result self.new }
+        ensures says { StepSays self.old (part self.old ++ b.now) result self.new }
+        ensures memory { IfNoMemory result (CodeStands self.old (part self.old ++ b.now)) }
     {
         let lim = self.left();
         let mut rest = b;
@@ -191,7 +193,8 @@ impl Coming {
         requires has { HasPart self.old }
         requires fit { AreBytes (part self.old) }
         requires waits { Waits self.old }
-        ensures { TakenSays self.old piece.now result self.new }
+        ensures says { TakenSays self.old piece.now result self.new }
+        ensures memory { IfNoneLeft result (CodeStands self.old (part self.old ++ piece.now)) }
     {
         match self.draft.share_table() {
             Ok(table) => self.take_over(Some(&table), piece),
@@ -206,7 +209,8 @@ impl Coming {
         requires has { HasPart self.old }
         requires fit { AreBytes (part self.old) }
         requires waits { Waits self.old }
-        ensures { TakenSays self.old piece.now result self.new }
+        ensures says { TakenSays self.old piece.now result self.new }
+        ensures memory { IfNoneLeft result (CodeStands self.old (part self.old ++ piece.now)) }
     {
         let mut left = piece;
         loop {
@@ -234,7 +238,8 @@ impl Coming {
         requires stands { Keeps self.old }
         requires has { HasPart self.old }
         requires waits { Waits self.old }
-        ensures { StepSays self.old (part self.old ++ b.now) result self.new }
+        ensures says { StepSays self.old (part self.old ++ b.now) result self.new }
+        ensures memory { IfNoMemory result (CodeStands self.old (part self.old ++ b.now)) }
     {
         match self.draft.next_pair() {
             None => self.code(b),

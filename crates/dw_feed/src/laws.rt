@@ -1,6 +1,6 @@
-//! The law of the unit's end. It calls nothing. A clause that names no versions speaks of version 5 alone.
+//! The laws of the unit's end, and of what a feed holds. They call nothing. A clause that names no versions speaks of version 5 alone.
 ghost use Rattle.dw_header.specs.declared.versions.Versions.{Versions};
-ghost use Rattle.dw_feed.specs.Laws.{NoneIsCut, NoneIsCutUnder, FaultsStayInside, FaultsStayInsideUnder, FaultsComeFromInside, FaultsComeFromInsideUnder};
+ghost use Rattle.dw_feed.specs.Laws.{StreamTellsHeld, NoneIsCut, NoneIsCutUnder, FaultsStayInside, FaultsStayInsideUnder, FaultsComeFromInside, FaultsComeFromInsideUnder};
 
 /// Bytes that begin with an initial length and hold all that it announces (sections 7.2.2 and
 /// 7.5.1) have no fault `Truncated` in `.debug_info`, and the same fault whatever bytes follow. A
@@ -13,4 +13,10 @@ pub fn units_end_as_their_length_says()
     ensures none_is_cut_under { (versions : Versions) → NoneIsCutUnder versions }
     ensures faults_stay_under { (versions : Versions) → FaultsStayInsideUnder versions }
     ensures faults_come_under { (versions : Versions) → FaultsComeFromInsideUnder versions }
+{}
+
+/// Two feeds of one unit that took the same bytes hold the same, however these were cut into pieces: `held` answers the
+/// same entries, values and nested entries for both, and of the field at their place the same bytes are there.
+pub fn held_is_told_by_the_bytes()
+    ensures { StreamTellsHeld }
 {}

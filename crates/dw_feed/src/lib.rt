@@ -7,7 +7,6 @@ mod bytes;
 mod code;
 mod coming;
 mod content;
-mod counted;
 mod entry;
 mod head;
 mod held;

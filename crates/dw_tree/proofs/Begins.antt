@@ -1,5 +1,5 @@
 -- A draft without a partial value, or with one.
-use Rattle.std.proofs.Common.{Bool, true, false, append-nil, append_assoc, take-append-drop, ◌≡◌, ℕ, ◌+◌, ◌-◌, ◌≤◌, ◌<◌, List, [], ◌∷◌, ◌++◌, length, take, drop, refl, sym, ◌∙◌, ap, ap₂, subst, arith, length-append, length-take-le, Option, Some, None, option_map}
+use Rattle.std.proofs.Common.{Bool, true, false, append-nil, append_assoc, take-append-drop, ◌≡◌, ℕ, ◌+◌, ◌-◌, ◌≤◌, ◌<◌, ◌^◌, List, [], ◌∷◌, ◌++◌, length, take, drop, refl, sym, ◌∙◌, ap, ap₂, subst, arith, length-append, length-take-le, Option, Some, None, option_map}
 use Rattle.std.specs.Prelude.{IfSome, IsSome, if◌then◌else◌}
 use Rattle.std.proofs.lemmas.List.{take-take, take-append-le}
 use Rattle.dw_tree.specs.declared.draft.TreeDraft.TheInside.{Inside}
@@ -19,8 +19,11 @@ use Rattle.dw_tree.specs.Row.{Token}
 use Rattle.dw_tree.specs.PoolBytes.{joined, held, held_in, partial_bytes}
 use Rattle.dw_tree.specs.RowHeads.{heads, rows_heads, unfinished_heads, heads_in, Account}
 use Rattle.dw_tree.specs.Sizes.{AreShort}
+use Rattle.dw_abbrev.specs.FewPairs.{FewPairs}
+use Rattle.dw_tree.specs.Counts.{AreCounted, entries_in, values_in, entries_at, values_at, few_entries, few_values}
 use Rattle.dw_tree.specs.DraftInvariant.{AreGiven, pairs_given, entry_with, HasRoom}
 use Rattle.dw_tree.specs.DraftView.{front, partial_of, place_with, given, growing, IsGiven, HasPartial, IsDraft}
+use Rattle.dw_tree.proofs.Spelled.{all_tokens_fit}
 use Rattle.dw_tree.proofs.Lists.{place_is, end_is, lists_short}
 
 none_of_map : {X Y : Type 0} (f : X → Y) (o : Option X) → option_map f o ≡ None → o ≡ None
@@ -67,6 +70,10 @@ draft_of a e g = record {
   given = subst (λ (o : Option StoredPartial). IsGiven a (front o a.pool.items)) (sym e) g;
   partial = subst (λ (o : Option StoredPartial). IfSome o (HasPartial a)) (sym e) tt;
 }
+
+-- what is counted, where this is the unfinished entry
+pub counted_with : (a : Inside) (pool : List ℕ) (g : IsGiven a pool) (o : Option Unfinished) → a.unfinished ≡ o → AreCounted a.table.value (record { spot = spot_after g.tokens; unfinished = option_map (entry_with g.values) o }) a.entries a.asked
+counted_with a pool g o e = subst (λ (q : Option Unfinished). AreCounted a.table.value (record { spot = spot_after g.tokens; unfinished = option_map (entry_with g.values) q }) a.entries a.asked) e g.counted
 
 pub whole_free : (fs : List Frame) (ts : Forest) (o : Option UnfinishedEntry) → IsSome (whole_tree fs ts o) → o ≡ None
 whole_free [] ts None h = refl
@@ -215,6 +222,29 @@ heads_are a d = by a.partial a.unfinished refl refl d.given.lists.account ∙ ap
 -- the lists are no longer than the bytes so far ask for
 pub draft_short : (a : Inside) (d : IsDraft a) → AreShort (length a.rows.items) (length a.heads.items) (length (front a.partial a.pool.items)) (a.here - a.start)
 draft_short a d = lists_short a.context a.table.value a.start a.rows.items a.heads.items (front a.partial a.pool.items) a.nested.items a.unfinished a.here d.given.tokens d.given.values d.given.lists
+
+-- there is room in the counts for one more entry, and the values that its declaration asks for
+pub counts_room : (a : Inside) → IsDraft a → a.unfinished ≡ None → FewPairs a.table.value → (a.entries + 1 < 2 ^ 64) × (a.asked + 2 ^ 64 < 2 ^ 128)
+counts_room a d idle few =
+    let xs : List Token = d.given.tokens in
+    let l = d.given.lists in
+    let are = counted_with a (front a.partial a.pool.items) d.given None idle in
+    let rows : entries_in xs < 2 ^ 63 = omega (arith, few_entries xs, l.is_spelled.long, (draft_short a d).rows_short, d.given.near) in
+    let values = few_values a.context a.table.value few xs (all_tokens_fit a.context a.table.value a.start 1 a.rows.items xs l.stand) in
+    (omega (arith, are.entries_are, ap entries_in l.is_spelled.spelled, rows), omega (arith, are.asked_are, ap values_in l.is_spelled.spelled, values, rows))
+
+-- a partial value isn't counted
+pub entries_given : (o : Option StoredPartial) (pool : List ℕ) (vs : List Attribute) (q : Option Unfinished) (s : Spot)
+    → entries_at (record { spot = s; unfinished = option_map (entry_with vs) q }) ≡ entries_at (place_with o pool (record { spot = s; unfinished = option_map (entry_with vs) q }))
+entries_given None pool vs q s = refl
+entries_given (Some b) pool vs None s = refl
+entries_given (Some b) pool vs (Some r) s = refl
+
+pub values_given : (o : Option StoredPartial) (pool : List ℕ) (vs : List Attribute) (q : Option Unfinished) (s : Spot)
+    → values_at (record { spot = s; unfinished = option_map (entry_with vs) q }) ≡ values_at (place_with o pool (record { spot = s; unfinished = option_map (entry_with vs) q }))
+values_given None pool vs q s = refl
+values_given (Some b) pool vs None s = refl
+values_given (Some b) pool vs (Some r) s = refl
 
 pub pool_short : (a : Inside) → IsDraft a → length a.pool.items ≤ a.here - a.start + length (partial_bytes (partial_in (growing a).place.unfinished))
 pool_short a d = by a.partial a.unfinished refl refl (draft_short a d).content_short

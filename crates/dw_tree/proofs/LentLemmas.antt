@@ -1,5 +1,5 @@
 -- Values that fit their pairs, one by one.
-use Rattle.std.proofs.Common.{◌≡◌, ◌+◌, ◌≤◌, ◌∷◌, ℕ, Bool, true, false, List, length, drop, Option, Some, None, refl, sym, ap, subst, ◌∙◌, arith}
+use Rattle.std.proofs.Common.{◌≡◌, ◌+◌, ◌∷◌, ℕ, Bool, true, false, List, length, drop, Option, Some, None, refl, sym, ap, subst, ◌∙◌, arith}
 use Rattle.std.specs.Prelude.{◌==◌, is_some, map}
 use Rattle.std.proofs.lemmas.List.{length-append, drop_at}
 use Rattle.dw_leb.specs.Number.{Unsigned, Signed}
@@ -65,9 +65,6 @@ module _ (k : Ctx) (at : ℕ) (hs pool : List ℕ) (ps : List Pair) (p : Pair) (
 
   abbrev pub first_size : ℕ
   first_size = length (head k p.form.value first_value.start first_value.value)
-
-  pub size_within : first_size ≤ length hs
-  size_within = omega (arith, ap length first_value.split, length-append (head k p.form.value first_value.start first_value.value) first_value.rest)
 
   pub behind_first_is : drop first_size hs ≡ first_value.rest
   behind_first_is = ap (drop first_size) first_value.split ∙ drop_at (head k p.form.value first_value.start first_value.value) first_value.rest first_size refl

@@ -4,11 +4,12 @@ use Rattle.dw_leb.specs.View.{uleb_of}
 use Rattle.dw_form.specs.Form.{Attribute, IsContext}
 use Rattle.dw_tree.specs.declared.draft.TreeDraft.TheInside.{Inside}
 use Rattle.dw_tree.specs.declared.row.PartialValue.{PartialValue as StoredPartial}
-use Rattle.dw_tree.specs.Place.{PartialValue, Place}
+use Rattle.dw_tree.specs.Place.{PartialValue, Place, spot_after}
 use Rattle.dw_tree.specs.Steps.{Growing, given_partial}
 use Rattle.dw_tree.specs.Row.{Token}
 use Rattle.dw_tree.specs.Flat.{place_of}
-use Rattle.dw_tree.specs.DraftInvariant.{AreLists, HasRoom}
+use Rattle.dw_tree.specs.DraftInvariant.{AreLists, HasRoom, entry_with}
+use Rattle.dw_tree.specs.Counts.{AreCounted}
 
 -- the bytes in the pool of the values that were given: those before the bytes of a partial one
 abbrev pub front : Option StoredPartial → List ℕ → List ℕ
@@ -43,6 +44,7 @@ pub record IsGiven (a : Inside) (pool : List ℕ) : Type 0 where
   pub lists : AreLists a.context a.table.value a.start a.rows.items a.heads.items pool a.nested.items a.unfinished a.here tokens values
   pub room : HasRoom a.unfinished (vec_len a.rows) (vec_capacity a.rows) (vec_len a.nested) (vec_capacity a.nested)
   pub near : a.here < 2 ^ 63
+  pub counted : AreCounted a.table.value (record { spot = spot_after tokens; unfinished = option_map (entry_with values) a.unfinished }) a.entries a.asked
 
 -- a partial value belongs to the unfinished entry, and there is room for its head
 pub record HasPartial (a : Inside) (b : StoredPartial) : Type 0 where

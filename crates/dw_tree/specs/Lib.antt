@@ -20,6 +20,7 @@ pub mod Grown
 pub mod Flat
 pub mod Completed
 pub mod DraftInvariant
+pub mod Counts
 pub mod DraftView
 pub mod TreeView
 pub mod Lent

@@ -12,6 +12,7 @@ ghost use Rattle.dw_tree.specs.DraftView.{partial_of};
 ghost use Rattle.dw_tree.specs.Flat.{with_end as row_ending};
 ghost use Rattle.dw_tree.specs.PoolBytes.{held_in, partial_bytes};
 ghost use Rattle.dw_tree.specs.RowHeads.{heads_in};
+ghost use Rattle.dw_tree.specs.Counts.{entries_at, values_at};
 ghost use Rattle.dw_tree.specs.Emptiness.{is_bare};
 ghost use Rattle.dw_tree.specs.declared.row.RowKind.TheVariants.{Null};
 ghost use Rattle.dw_tree.specs.Completed.{one_given, row_with, settled_rows, settled_open, settled_unfinished};
@@ -47,6 +48,11 @@ pub struct TreeDraft {
     nested: Vec<usize>,
     unfinished: Option<Unfinished>,
     partial: Option<PartialValue>,
+    /// Its entries, an unfinished one included.
+    entries: usize,
+    /// The values that their declarations ask for. An entry may have 1,024 without a byte, so they may outnumber
+    /// the bytes of a unit.
+    asked: u128,
 }
 
 impl Model for TreeDraft {
@@ -82,6 +88,8 @@ impl TreeDraft {
             nested: Vec::new(alloc),
             unfinished: None,
             partial: None,
+            entries: 0,
+            asked: 0,
         }
     }
 
@@ -108,6 +116,9 @@ impl TreeDraft {
                 children: decl.has_children(),
                 pool: self.pool.len(),
             };
+            self.table.pairs_are_few();
+            self.entries += 1;
+            self.asked += unfinished.count as u128;
             self.here += code.width as u64;
             self.unfinished = settle(&mut self.rows, &mut self.nested, unfinished);
         }
@@ -197,6 +208,9 @@ impl TreeDraft {
             children: decl.has_children(),
             pool: self.pool.len(),
         };
+        self.table.pairs_are_few();
+        self.entries += 1;
+        self.asked += unfinished.count as u128;
         self.here += code.width as u64 + size as u64;
         let left = settle(&mut self.rows, &mut self.nested, unfinished);
         leave(&mut self.unfinished, left);
@@ -273,6 +287,8 @@ impl TreeDraft {
             self.heads.truncate(unfinished.first);
             self.pool.truncate(unfinished.pool);
             self.here = unfinished.offset;
+            self.entries -= 1;
+            self.asked -= unfinished.count as u128;
             self.unfinished = None;
             self.partial = None;
         }
@@ -344,6 +360,20 @@ impl TreeDraft {
         ensures short { result ≤ end_of self.now - self.now.start }
     {
         self.rows.len()
+    }
+
+    /// How many entries it has, an unfinished one included, and how many values that are whole. In constant time.
+    pub fn counts(&self) -> (usize, u128)
+        ensures entries { result.0 ≡ entries_at self.now.place }
+        ensures values { result.1 ≡ values_at self.now.place }
+    {
+        match &self.unfinished {
+            Some(unfinished) => {
+                let left = unfinished.count - unfinished.given;
+                (self.entries, self.asked - left as u128)
+            }
+            None => (self.entries, self.asked),
+        }
     }
 
     /// The table of its entries' declarations.
@@ -428,6 +458,8 @@ impl TreeDraft {
             nested: _,
             unfinished: _,
             partial: _,
+            entries: _,
+            asked: _,
         } = self;
         EntryTree {
             context,

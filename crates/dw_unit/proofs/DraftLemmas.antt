@@ -98,10 +98,6 @@ pub limit_near : (f : Format) → size_limit f ≤ 2 ^ 63
 limit_near Dwarf32 = omega arith
 limit_near Dwarf64 = omega arith
 
--- it is not too long, so its tree ends below 2 ^ 63
-pub short_near : (d : Drafted) (n : ℕ) → passes_limit d n ≡ false → end_of (tree_in d) + n < 2 ^ 63
-short_near d n e = let w = within d n e in let m = limit_near d.header.format in omega (arith, w, m)
-
 pub inside : (fs : List Frame) (n : ℕ) → n ≡ length fs → n ≢ 0 → fs ≢ []
 inside [] n e some same = absurd (some e)
 inside (f ∷ fs) n e some same = absurd cc

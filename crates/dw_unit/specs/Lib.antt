@@ -5,7 +5,6 @@ pub mod DecideUnit
 pub mod UnitLaws
 pub mod UnitView
 pub mod Draft
-pub mod EachGiven
 pub mod Build
 pub mod Inside
 pub mod Put

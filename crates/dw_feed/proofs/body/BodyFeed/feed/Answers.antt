@@ -1,9 +1,10 @@
-use Rattle.std.proofs.Common.{◌≡◌, ◌-◌, ℕ, List, length, Option, Some, None, IfSome, sym, ap, subst, ◌∙◌}
+use Rattle.std.proofs.Common.{◌≡◌, ◌-◌, ◌++◌, ℕ, List, length, Option, Some, None, IfSome, sym, ap, subst, ◌∙◌}
 use Rattle.dw_unit.specs.Unit.{WholeUnit}
 use Rattle.dw_tree.specs.Tree.{Tree}
 use Rattle.dw_feed.specs.declared.step.Taken.TheVariants as takes
 use Rattle.dw_feed.specs.declared.progress.Progress.TheVariants as answers
-use Rattle.dw_feed.specs.BodyFeed.{PartialUnit, BodyFeed, Reading, Finished, FeedsBody, SaysDone}
+use Rattle.dw_feed.specs.BodyFeed.{PartialUnit, BodyFeed, Reading, Finished, part, FeedsBody, SaysDone}
+use Rattle.dw_feed.specs.FaultFirst.{FaultFirst, none_refused}
 use Rattle.dw_feed.specs.BodyFeedView.{feed_of}
 use Rattle.dw_feed.specs.PlainFeed.{root_if_whole, unit_with}
 use Rattle.dw_feed.specs.FieldSteps.{TakenSays}
@@ -30,4 +31,10 @@ returns-in-Some-take-clause-feeds c =
     let old : Reading g ≡ c.args.self.now = ap (λ (o : Option PartialUnit). feed_of o c.self.inside.fault) (sym c.in-Some.is) ∙ c.self.view_is in
     let same : c.take.new.self ≡ c.in-Some-take.coming = same_unit c.take.new.self c.in-Some-take.coming c.take-in-Whole.result c.take-in-Whole.ensures.value c.in-Some-take.is in
     let is : IfSome (root_if_whole c.take.new.self) (λ x. c.finish.result ≡ unit_with c.take.new.self x) = subst (λ (x : PartialUnit). IfSome (root_if_whole x) (λ y. c.finish.result ≡ unit_with x y)) (sym same) c.finish.ensures in
-    feeds_done c.args.self.now _ g c.args.piece.now (length c.args.piece.now - c.in-Whole.over) c.finish.result old (ap (λ (o : Option PartialUnit). feed_of o None) (sym c.take-in-Whole.ensures.after)) (whole_done g c.args.piece.now c.in-Whole.over c.take.new.self c.finish.result c.in-Whole.ensures is)
+    feeds_done c.args.self.now _ g c.args.piece.now (length c.args.piece.now - c.in-Whole.over) c.finish.result old (ap (λ (o : Option PartialUnit). feed_of o None) (sym c.take-in-Whole.ensures.after)) (whole_done g c.args.piece.now c.in-Whole.over c.take.new.self c.finish.result c.in-Whole.ensures.says is)
+
+pub returns-in-NoMemory-clause-memory : goal.returns-in-NoMemory-clause-memory
+returns-in-NoMemory-clause-memory c =
+    let g : PartialUnit = c.in-Some.coming in
+    let old : Reading g ≡ c.args.self.now = ap (λ (o : Option PartialUnit). feed_of o c.self.inside.fault) (sym c.in-Some.is) ∙ c.self.view_is in
+    subst (λ (x : BodyFeed). FaultFirst x c.args.piece.now answers.NoMemory) old (none_refused g (part g ++ c.args.piece.now) c.in-NoMemory.ensures.memory)

@@ -21,6 +21,6 @@ unreachable-requires c =
     let g : PartialUnit = c.args.self.now in
     let has = subst (FieldPart g) c.requires.free c.requires.has in
     let is_part : c.as_slice.result.now ≡ part g = c.as_slice.ensures.value ∙ ap (λ (x : PartialUnit). x.pending) c.self.view_is ∙ sym (code_part g c.requires.free has.0) in
-    let read = read_here g _ (c.deref.ensures ∙ ap drafted c.self.view_is) c.as_slice.result.now is_part c.left.result c.left.ensures (Found (uleb_of c.in-Ok.field-0) c.in-Ok.field-0.width) c.in-Ok.ensures.exact in
+    let read = read_here g _ (ap drafted c.self.view_is) c.as_slice.result.now is_part c.left.result c.left.ensures (Found (uleb_of c.in-Ok.field-0) c.in-Ok.field-0.width) c.in-Ok.ensures.exact in
     let some : 0 < c.in-Ok.field-0.width = omega (arith, c.in-Ok.field-0.fits.some) in
     none_found g c.requires.free c.requires.kept (uleb_of c.in-Ok.field-0) c.in-Ok.field-0.width some read

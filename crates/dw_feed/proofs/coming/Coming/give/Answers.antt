@@ -9,7 +9,6 @@ use Rattle.dw_form.specs.Lent.{attribute_of}
 use Rattle.dw_abbrev.specs.PairView.{pair_of}
 use Rattle.dw_abbrev.specs.Table.{Pair}
 use Rattle.dw_header.specs.Header.{context_of}
-use Rattle.dw_unit.specs.Draft.{Drafted}
 use Rattle.dw_feed.specs.BodyFeed.{PartialUnit}
 use Rattle.dw_feed.specs.FeedInvariant.{context, left}
 use Rattle.dw_feed.specs.ValueSteps.{behind_value, value_read}
@@ -21,7 +20,7 @@ pub settle-requires-clause-fits : goal.settle-requires-clause-fits
 settle-requires-clause-fits c =
     let g : PartialUnit = c.args.self.now in
     let p : Pair = pair_of c.args.pair.now in
-    let k : c.context-context.result ≡ context g = c.context-context.ensures.context ∙ ap context_of (c.header.ensures ∙ ap (λ (d : Drafted). d.header) c.deref.ensures) ∙ ap context c.self.view_is in
+    let k : c.context-context.result ≡ context g = c.context-context.ensures.context ∙ ap context_of c.header.ensures ∙ ap context c.self.view_is in
     let taken = subst (λ (x : Ctx × ℕ). Taken (attribute x.0 p.form.value p.constant) c.args.bytes.now x.1 (attribute_of c.in-Ok.value) c.in-Ok.size) (ap₂ (λ (x : Ctx) (n : ℕ). (x, n)) k c.requires.lim) c.in-Ok.ensures.found in
     (value_fits g p c.requires.stands c.requires.next c.args.bytes.now (attribute_of c.in-Ok.value) c.in-Ok.size taken).0
 
@@ -29,7 +28,7 @@ pub settle-requires-clause-short : goal.settle-requires-clause-short
 settle-requires-clause-short c =
     let g : PartialUnit = c.args.self.now in
     let p : Pair = pair_of c.args.pair.now in
-    let k : c.context-context.result ≡ context g = c.context-context.ensures.context ∙ ap context_of (c.header.ensures ∙ ap (λ (d : Drafted). d.header) c.deref.ensures) ∙ ap context c.self.view_is in
+    let k : c.context-context.result ≡ context g = c.context-context.ensures.context ∙ ap context_of c.header.ensures ∙ ap context c.self.view_is in
     let taken = subst (λ (x : Ctx × ℕ). Taken (attribute x.0 p.form.value p.constant) c.args.bytes.now x.1 (attribute_of c.in-Ok.value) c.in-Ok.size) (ap₂ (λ (x : Ctx) (n : ℕ). (x, n)) k c.requires.lim) c.in-Ok.ensures.found in
     (value_fits g p c.requires.stands c.requires.next c.args.bytes.now (attribute_of c.in-Ok.value) c.in-Ok.size taken).1
 
@@ -37,7 +36,7 @@ pub settle-requires-clause-spelled : goal.settle-requires-clause-spelled
 settle-requires-clause-spelled c =
     let g : PartialUnit = c.args.self.now in
     let p : Pair = pair_of c.args.pair.now in
-    let k : c.context-context.result ≡ context g = c.context-context.ensures.context ∙ ap context_of (c.header.ensures ∙ ap (λ (d : Drafted). d.header) c.deref.ensures) ∙ ap context c.self.view_is in
+    let k : c.context-context.result ≡ context g = c.context-context.ensures.context ∙ ap context_of c.header.ensures ∙ ap context c.self.view_is in
     let taken = subst (λ (x : Ctx × ℕ). Taken (attribute x.0 p.form.value p.constant) c.args.bytes.now x.1 (attribute_of c.in-Ok.value) c.in-Ok.size) (ap₂ (λ (x : Ctx) (n : ℕ). (x, n)) k c.requires.lim) c.in-Ok.ensures.found in
     value_spelled g p c.requires.stands c.requires.next c.args.bytes.now (attribute_of c.in-Ok.value) c.in-Ok.size taken
 
@@ -46,7 +45,7 @@ returns-in-Ok-settle c =
     let g : PartialUnit = c.args.self.now in
     let p : Pair = pair_of c.args.pair.now in
     let v : Attribute = attribute_of c.in-Ok.value in
-    let k : c.context-context.result ≡ context g = c.context-context.ensures.context ∙ ap context_of (c.header.ensures ∙ ap (λ (d : Drafted). d.header) c.deref.ensures) ∙ ap context c.self.view_is in
+    let k : c.context-context.result ≡ context g = c.context-context.ensures.context ∙ ap context_of c.header.ensures ∙ ap context c.self.view_is in
     let read : read_attribute (context g) p.form.value p.constant c.args.bytes.now (left g) ≡ Found v c.in-Ok.size =
     ap₂ (λ (x : Ctx) (n : ℕ). read_attribute x p.form.value p.constant c.args.bytes.now n) (sym k) (sym c.requires.lim) ∙ c.in-Ok.ensures.exact in
     (behind_value g v, value_read g p c.requires.stands c.requires.next c.args.bytes.now (Found v c.in-Ok.size) read, c.in-Ok.ensures.room.0, c.in-Ok-settle.ensures)

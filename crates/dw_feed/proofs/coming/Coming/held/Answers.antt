@@ -1,7 +1,6 @@
 use mir.Val.{bool_byte}
 use Rattle.std.proofs.Common.{◌≡◌, ◌≤◌, Bool, true, false, length, ap, ◌∙◌, arith}
 use Rattle.dw_tree.specs.Levels.{nesting_is}
-use Rattle.dw_unit.specs.Draft.{Drafted}
 use Rattle.dw_feed.specs.BodyFeed.{PartialUnit}
 use Rattle.dw_feed.specs.HeldBounds.{held_nested}
 use Rattle.dw_feed.proofs.coming.Coming.held.Goals as goal
@@ -13,5 +12,5 @@ one_at_most false = omega arith
 pub overflow_add-result : goal.overflow_add-result
 overflow_add-result c =
     let g : PartialUnit = c.args.self.now in
-    let depth : c.depth.result ≡ length g.place.spot.above = c.depth.ensures ∙ (ap (λ (d : Drafted). length d.place.spot.above) c.deref-2.ensures ∙ ap (λ (x : PartialUnit). length x.place.spot.above) c.self.view_is) in
+    let depth : c.depth.result ≡ length g.place.spot.above = c.depth.ensures ∙ ap (λ (x : PartialUnit). length x.place.spot.above) c.self.view_is in
     omega (arith, depth, held_nested g c.requires, nesting_is, one_at_most c.is_some-unfinished.result)

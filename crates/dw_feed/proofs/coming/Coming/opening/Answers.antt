@@ -13,7 +13,6 @@ use Rattle.dw_form.specs.Pieces.{form_in}
 use Rattle.dw_abbrev.specs.Table.{Pair}
 use Rattle.dw_abbrev.specs.PairView.{pair_of}
 use Rattle.dw_header.specs.Header.{context_of}
-use Rattle.dw_unit.specs.Draft.{Drafted}
 use Rattle.dw_tree.specs.Steps.{next_pair, partial_in}
 use Rattle.dw_feed.specs.BodyFeed.{PartialUnit, part}
 use Rattle.dw_feed.specs.FeedInvariant.{context, left as left_of}
@@ -62,7 +61,7 @@ unreachable-requires c =
     let g : PartialUnit = c.args.self.now in
     let p : Pair = pair_of c.args.pair.now in
     let b = begins g p c.requires.next c.requires.has c.requires.between c.requires.named c.requires.cut in
-    let k = c.context-context.ensures.context ∙ ap context_of (c.header.ensures ∙ ap (λ (d : Drafted). d.header) c.deref.ensures) ∙ ap context c.self.view_is in
+    let k = c.context-context.ensures.context ∙ ap context_of c.header.ensures ∙ ap context c.self.view_is in
     let n = ap (λ (u : PartialUnit). u.named) c.self.view_is in
     known_here g b.here b.named b.cut (shape_here g p b.here.pair c.form_of.result c.context-context.result (option_map uleb_of c.self.inside.named) None b.pair_is n c.form_of.ensures k c.in-None.ensures.shape)
 
@@ -71,7 +70,7 @@ returns-clause-some c =
     let g : PartialUnit = c.args.self.now in
     let p : Pair = pair_of c.args.pair.now in
     let b = begins g p c.requires.next c.requires.has c.requires.between c.requires.named c.requires.cut in
-    let k = c.context-context.ensures.context ∙ ap context_of (c.header.ensures ∙ ap (λ (d : Drafted). d.header) c.deref.ensures) ∙ ap context c.self.view_is in
+    let k = c.context-context.ensures.context ∙ ap context_of c.header.ensures ∙ ap context c.self.view_is in
     let n = ap (λ (u : PartialUnit). u.named) c.self.view_is in
     let s = c.in-Some.shape in
     let e = shape_here g p b.here.pair c.form_of.result c.context-context.result (option_map uleb_of c.self.inside.named) (Some s) b.pair_is n c.form_of.ensures k c.in-Some.ensures.shape in
@@ -86,7 +85,7 @@ returns-clause-none c none =
     let g : PartialUnit = c.args.self.now in
     let p : Pair = pair_of c.args.pair.now in
     let b = begins g p c.requires.next c.requires.has c.requires.between c.requires.named c.requires.cut in
-    let k = c.context-context.ensures.context ∙ ap context_of (c.header.ensures ∙ ap (λ (d : Drafted). d.header) c.deref.ensures) ∙ ap context c.self.view_is in
+    let k = c.context-context.ensures.context ∙ ap context_of c.header.ensures ∙ ap context c.self.view_is in
     let n = ap (λ (u : PartialUnit). u.named) c.self.view_is in
     let s = c.in-Some.shape in
     let e = shape_here g p b.here.pair c.form_of.result c.context-context.result (option_map uleb_of c.self.inside.named) (Some s) b.pair_is n c.form_of.ensures k c.in-Some.ensures.shape in
@@ -99,7 +98,7 @@ returns-clause-more c none =
     let g : PartialUnit = c.args.self.now in
     let p : Pair = pair_of c.args.pair.now in
     let b = begins g p c.requires.next c.requires.has c.requires.between c.requires.named c.requires.cut in
-    let k = c.context-context.ensures.context ∙ ap context_of (c.header.ensures ∙ ap (λ (d : Drafted). d.header) c.deref.ensures) ∙ ap context c.self.view_is in
+    let k = c.context-context.ensures.context ∙ ap context_of c.header.ensures ∙ ap context c.self.view_is in
     let n = ap (λ (u : PartialUnit). u.named) c.self.view_is in
     let s = c.in-Some.shape in
     let e = shape_here g p b.here.pair c.form_of.result c.context-context.result (option_map uleb_of c.self.inside.named) (Some s) b.pair_is n c.form_of.ensures k c.in-Some.ensures.shape in

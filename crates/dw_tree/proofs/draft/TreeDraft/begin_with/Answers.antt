@@ -4,21 +4,38 @@ use Rattle.std.proofs.lemmas.Bool.{ne_eqb}
 use Rattle.dw_leb.specs.DecideNumber.{uleb_fits}
 use Rattle.dw_leb.specs.View.{uleb_of}
 use Rattle.dw_abbrev.specs.PairView.{pair_of}
-use Rattle.dw_abbrev.specs.Table.{declared}
+use Rattle.dw_abbrev.specs.Table.{Declaration, declared}
+use Rattle.dw_abbrev.specs.FewPairs.{FewPairs}
 use Rattle.dw_tree.specs.declared.row.Unfinished.{Unfinished}
-use Rattle.dw_tree.specs.Tree.{nesting}
+use Rattle.dw_tree.specs.Tree.{nesting, declared_pairs}
 use Rattle.dw_tree.specs.Place.{Place, spot_after}
 use Rattle.dw_tree.specs.Steps.{Growing, begun_at, with_values, ArePlain, end_of}
 use Rattle.dw_tree.specs.Completed.{settled_rows, settled_open}
 use Rattle.dw_tree.specs.DraftInvariant.{AreLists}
 use Rattle.dw_tree.proofs.Lists.{place_stood}
 use Rattle.dw_tree.proofs.Plains.{begun_with, values_settle, plain_few}
+use Rattle.dw_tree.specs.Counts.{begun_counted, few_declared}
 use Rattle.dw_tree.proofs.Limits.{few_open}
-use Rattle.dw_tree.proofs.Begins.{idle_is, partial_none, given_is, view_free, place_given, ends_here, draft_of, settled_room}
+use Rattle.dw_tree.proofs.Begins.{idle_is, partial_none, given_is, view_free, place_given, ends_here, draft_of, counted_with, counts_room, settled_room}
 use Rattle.dw_tree.proofs.draft.TreeDraft.begin_with.Goals as goal
 
 pub settle-left-requires-clause-level : goal.settle-left-requires-clause-level
 settle-left-requires-clause-level c = omega (arith, few_open c.self.inside.nested.items c.self.invariant.given.lists.deep, c.self.inside.nested.ok.0, c.reserve-2.ensures.len)
+
+pub overflow_add-self : goal.overflow_add-self
+overflow_add-self c =
+    let a = c.self.inside in
+    let idle = idle_is a (ap (λ (v : Growing). v.place.unfinished) c.self.view_is ∙ c.requires.free) in
+    omega (arith, (counts_room a c.self.invariant idle (subst FewPairs c.deref.ensures c.pairs_are_few.ensures)).0)
+
+pub overflow_add-self-2 : goal.overflow_add-self-2
+overflow_add-self-2 c =
+    let a = c.self.inside in
+    let idle = idle_is a (ap (λ (v : Growing). v.place.unfinished) c.self.view_is ∙ c.requires.free) in
+    let few = subst FewPairs c.deref.ensures c.pairs_are_few.ensures in
+    let known : declared a.table.value c.args.code.value ≡ Some c.args.decl.now = ap (λ (v : Growing). declared v.table c.args.code.value) c.self.view_is ∙ c.requires.known in
+    let count = ap length (sym c.pairs.ensures) ∙ length-map c.pairs.result.now pair_of in
+    omega (arith, (counts_room a c.self.invariant idle few).1, few_declared a.table.value few c.args.code.value, ap (λ (o : Option Declaration). length (declared_pairs o)) known, count)
 
 pub invariant_of-self-2 : goal.invariant_of-self-2
 invariant_of-self-2 c =
@@ -52,6 +69,7 @@ invariant_of-self-2 c =
       lists = s.lists;
       room = settled_room c.leave.new.unfinished _ _ _ _ (λ some. q.ensures.room (subst IsSome c.leave.ensures some)) (λ some. q.ensures.open_room (subst IsSome c.leave.ensures some));
       near = omega (arith, subst (λ (w : Growing). end_of w + (c.args.code.width + c.args.size) < 2 ^ 63) (sym c.self.view_is) c.requires.near, ends_here a c.self.invariant);
+      counted = begun_counted t (spot_after g.tokens) (uleb_of r.code) d known c.requires.spelled.0 a.entries a.asked r.count _ s.place count (counted_with a a.pool.items g None idle);
     })
 
 pub returns-clause-ok : goal.returns-clause-ok

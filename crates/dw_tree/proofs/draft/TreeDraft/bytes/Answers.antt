@@ -16,6 +16,6 @@ invariant_of-self c =
     let stays : front a.partial c.extend_from_slice.new.self.items ≡ front a.partial pool = ap (front a.partial) items ∙ front_stays a.partial b.0 pool more.0 b.1 h.within in
     let g = c.self.invariant.given in
     record {
-      given = rw stays (record { context_fits = g.context_fits; tokens = g.tokens; values = g.values; lists = g.lists; room = g.room; near = g.near });
+      given = rw stays (record { context_fits = g.context_fits; tokens = g.tokens; values = g.values; lists = g.lists; room = g.room; near = g.near; counted = g.counted });
       partial = rw b.1 (record { within = omega (arith, h.within, ap length items, length-append pool more.0); unfinished = h.unfinished; room = h.room });
     }

@@ -12,9 +12,10 @@ use Rattle.dw_tree.specs.DraftInvariant.{AreLists, IsSpelled}
 use Rattle.dw_tree.specs.Steps.{Growing, closed_at, end_of}
 use Rattle.dw_tree.proofs.Lists.{lists_closed, as_many_open, place_is}
 use Rattle.dw_tree.proofs.Spells.{open_inside, after-push}
+use Rattle.dw_tree.specs.Counts.{closed_counted}
 use Rattle.dw_tree.proofs.Limits.{few_open}
 use Rattle.dw_tree.proofs.WriteLemmas.{no_items}
-use Rattle.dw_tree.proofs.Begins.{idle_is, partial_none, given_is, view_free, place_given, ends_here, draft_of}
+use Rattle.dw_tree.proofs.Begins.{idle_is, partial_none, given_is, view_free, place_given, ends_here, draft_of, counted_with}
 use Rattle.dw_tree.proofs.draft.TreeDraft.close.Goals as goal
 
 pub overflow_cast-depth : goal.overflow_cast-depth
@@ -88,6 +89,7 @@ invariant_of-self-in-Some c =
       lists = s;
       room = record { row = tt; place = tt };
       near = omega (arith, subst (λ (x : Growing). end_of x + w < 2 ^ 63) (sym c.self.view_is) c.requires.near, ends_here a c.self.invariant);
+      counted = closed_counted t g.tokens w a.entries a.asked g.lists.is_spelled.spelled s.is_spelled.spelled (counted_with a pool g None idle);
     }))
 
 pub returns-in-Some-clause-ok : goal.returns-in-Some-clause-ok

@@ -1,18 +1,20 @@
-use Rattle.std.proofs.Common.{◌≡◌, ℕ, ◌+◌, ◌<◌, ◌^◌, Some, Option, List, ◌++◌, length, take, drop, sym, ap, ap₂, subst, ◌∙◌, arith, vec_len, length-take-le, take-append-drop}
+use Rattle.std.proofs.Common.{◌≡◌, ℕ, ◌+◌, ◌<◌, ◌^◌, Some, Option, List, [], ◌∷◌, ◌++◌, length, take, drop, sym, ap, ap₂, subst, ◌∙◌, arith, vec_len, length-take-le, take-append-drop}
 use Rattle.std.specs.Prelude.{IfSome}
+use Rattle.dw_leb.specs.View.{uleb_of}
 use Rattle.dw_form.specs.Form.{Attribute}
 use Rattle.dw_form.specs.Lent.{attribute_of}
 use Rattle.dw_form.specs.Head.{finder}
 use Rattle.dw_form.specs.HeadFront.{front_bytes}
 use Rattle.dw_form.specs.StoredView.{bytes_in}
 use Rattle.dw_tree.specs.declared.row.Unfinished.{Unfinished}
-use Rattle.dw_tree.specs.Place.{Place}
+use Rattle.dw_tree.specs.Place.{Place, spot_after}
 use Rattle.dw_tree.specs.Steps.{Growing, end_of, NextFits, next_bytes, next_front, next_pairs, first_bytes, FirstFits, partial_in, partial_attribute, ended}
 use Rattle.dw_tree.specs.DraftView.{partial_of}
-use Rattle.dw_tree.specs.DraftInvariant.{AreLists, entry_with}
+use Rattle.dw_tree.specs.DraftInvariant.{AreLists, IsUnfinished, entry_with}
 use Rattle.dw_tree.proofs.Lists.{value_given, place_stood}
+use Rattle.dw_tree.specs.Counts.{given_counted}
 use Rattle.dw_tree.proofs.Limits.{few_open}
-use Rattle.dw_tree.proofs.Begins.{given_open, partial_open, view_open, ends_here, partial_content, settled_room}
+use Rattle.dw_tree.proofs.Begins.{counted_with, given_open, partial_open, view_open, ends_here, partial_content, settled_room}
 use Rattle.dw_tree.proofs.draft.TreeDraft.end_value.Goals as goal
 
 pub settle-self-inside-requires-clause-level : goal.settle-self-inside-requires-clause-level
@@ -62,6 +64,7 @@ invariant_of-self c =
     let s = value_given k t a.start rows hs first a.nested.items a.here g.tokens g.values r l v fits c.put_found.new.heads.items pool
     eh ep (omega (arith, c.so_far-value.ensures.small, ap length same_pool)) (a.here + c.args.size) (ap (λ (i : ℕ). a.here + i) size)
     q.new.rows.items q.new.nested.items q.result n m a.rows.ok.0 (ap (λ (i : ℕ). i + 1) a.nested.ok.0) q.ensures.rows q.ensures.nested q.ensures.unfinished in
+    let u : IsUnfinished k t a.start g.tokens g.values r = l.are_given in
     record {
       given = record {
         context_fits = g.context_fits;
@@ -70,6 +73,7 @@ invariant_of-self c =
         lists = s.lists;
         room = settled_room q.result _ _ _ _ q.ensures.room q.ensures.open_room;
         near = omega (arith, subst (λ (w : Growing). end_of w + c.args.size < 2 ^ 63) (sym c.self.view_is) c.requires.near, ends_here a c.self.invariant);
+        counted = given_counted t (spot_after g.tokens) (uleb_of r.code) u.entry.decl u.entry.declared g.values a.entries a.asked (counted_with a first g (Some r) c.in-Some-Some.is-0) (g.values ++ v ∷ []) _ s.place;
       };
       partial = tt;
     }

@@ -1,4 +1,4 @@
-use Rattle.std.proofs.Common.{[]}
+use Rattle.std.proofs.Common.{[], refl}
 use Rattle.dw_tree.proofs.Lists.{lists_empty}
 use Rattle.dw_tree.proofs.draft.TreeDraft.new.Goals as goal
 
@@ -11,6 +11,7 @@ invariant_of-result c = record {
     lists = lists_empty c.args.context c.args.table.value c.args.start c.new.result.items c.new-2.result.items c.new-3.result.items c.new-4.result.items c.new.ensures.items c.new-2.ensures.items c.new-3.ensures.items c.new-4.ensures.items;
     room = record { row = tt; place = tt };
     near = c.requires.near;
+    counted = record { entries_are = refl; asked_are = refl };
   };
   partial = tt;
 }

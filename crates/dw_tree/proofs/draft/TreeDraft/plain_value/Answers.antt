@@ -1,12 +1,14 @@
-use Rattle.std.proofs.Common.{ℕ, ◌+◌, ◌<◌, ◌^◌, Some, Option, length, sym, ap, subst, ◌∙◌, refl, arith, vec_len, option_map}
+use Rattle.std.proofs.Common.{ℕ, ◌+◌, ◌<◌, ◌^◌, Some, Option, [], ◌∷◌, ◌++◌, length, sym, ap, subst, ◌∙◌, refl, arith, vec_len, option_map}
+use Rattle.dw_leb.specs.View.{uleb_of}
 use Rattle.dw_form.specs.Form.{Attribute}
 use Rattle.dw_tree.specs.declared.row.Unfinished.{Unfinished}
 use Rattle.dw_tree.specs.Place.{Place, spot_after}
 use Rattle.dw_tree.specs.Steps.{Growing, end_of, IsPlainNext, with_value, value_at, partial_in}
-use Rattle.dw_tree.specs.DraftInvariant.{AreLists, entry_with}
+use Rattle.dw_tree.specs.DraftInvariant.{AreLists, IsUnfinished, entry_with}
 use Rattle.dw_tree.proofs.Lists.{place_stood}
+use Rattle.dw_tree.specs.Counts.{given_counted}
 use Rattle.dw_tree.proofs.Limits.{few_open}
-use Rattle.dw_tree.proofs.Begins.{free_is, given_is, view_free, place_given, ends_here, draft_of, of_some, settled_room}
+use Rattle.dw_tree.proofs.Begins.{free_is, given_is, view_free, place_given, ends_here, draft_of, counted_with, of_some, settled_room}
 use Rattle.dw_tree.proofs.Plain.{plain_given}
 use Rattle.dw_tree.proofs.draft.TreeDraft.plain_value.Goals as goal
 
@@ -32,6 +34,7 @@ invariant_of-self-in-Some c =
     let next : IsPlainNext k t (Some (entry_with g.values r)) v bytes = subst (λ (o : Option Unfinished). IsPlainNext k t (option_map (entry_with g.values) o) v bytes) c.in-Some.is (subst (λ (w : Growing). IsPlainNext w.context w.table w.place.unfinished v bytes) (sym view) c.requires.spelled.1) in
     let s = plain_given k t a.start rows hs pool a.nested.items a.here g.tokens g.values r l v next.fits next.plain bytes next.spelled
     q.new.rows.items c.append_few.new.list.items q.new.nested.items q.new.unfinished (vec_len a.nested + 1) (vec_len a.rows) (a.here + length bytes) c.in_ok-append_few.ensures.items refl a.rows.ok.0 (ap (λ (i : ℕ). i + 1) a.nested.ok.0) (of_some _ c.in-Some.is q.ensures.rows) (of_some _ c.in-Some.is q.ensures.nested) (of_some _ c.in-Some.is q.ensures.unfinished) in
+    let u : IsUnfinished k t a.start g.tokens g.values r = l.are_given in
     draft_of _ free (record {
       context_fits = g.context_fits;
       tokens = s.tokens;
@@ -39,6 +42,7 @@ invariant_of-self-in-Some c =
       lists = s.lists;
       room = settled_room q.new.unfinished _ _ _ _ q.ensures.room q.ensures.open_room;
       near = omega (arith, subst (λ (w : Growing). end_of w + length bytes < 2 ^ 63) (sym c.self.view_is) c.requires.near, ends_here a c.self.invariant);
+      counted = given_counted t (spot_after g.tokens) (uleb_of r.code) u.entry.decl u.entry.declared g.values a.entries a.asked (counted_with a pool g (Some r) c.in-Some.is) (g.values ++ v ∷ []) _ s.place;
     })
 
 pub returns-in_ok-append_few-clause-ok : goal.returns-in_ok-append_few-clause-ok

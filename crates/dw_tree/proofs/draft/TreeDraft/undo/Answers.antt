@@ -1,12 +1,14 @@
 use Rattle.std.proofs.Common.{◌≤◌, [], length, sym, ap, subst, ◌∙◌, arith, length-append, Option, Some, None, option_map}
+use Rattle.dw_leb.specs.View.{uleb_of}
 use Rattle.dw_tree.specs.declared.row.Unfinished.{Unfinished}
 use Rattle.dw_tree.specs.Place.{Spot, Place, spot_after}
 use Rattle.dw_tree.specs.PoolBytes.{joined, held}
 use Rattle.dw_tree.specs.Steps.{undone, Growing}
 use Rattle.dw_tree.specs.DraftInvariant.{AreLists, IsUnfinished, entry_with}
 use Rattle.dw_tree.specs.DraftView.{front}
+use Rattle.dw_tree.specs.Counts.{undone_counted}
 use Rattle.dw_tree.proofs.Lists.{lists_undone, place_is}
-use Rattle.dw_tree.proofs.Begins.{partial_within, take_front, spot_is, view_is}
+use Rattle.dw_tree.proofs.Begins.{counted_with, partial_within, take_front, spot_is, view_is}
 use Rattle.dw_tree.proofs.draft.TreeDraft.undo.Goals as goal
 
 pub invariant_of-self : goal.invariant_of-self
@@ -34,6 +36,7 @@ invariant_of-self c =
         lists = s;
         room = record { row = tt; place = tt };
         near = omega (arith, u.entry.offset, l.here_is, g.near);
+        counted = undone_counted t (spot_after g.tokens) (uleb_of r.code) u.entry.decl u.entry.declared g.values a.entries a.asked (counted_with a first g (Some r) c.in-Some.is) r.count u.entry.count;
       };
       partial = tt;
     }

@@ -1,15 +1,17 @@
-use Rattle.std.proofs.Common.{◌≡◌, ℕ, ◌+◌, ◌<◌, ◌^◌, Some, Option, List, ◌++◌, length, sym, ap, subst, ◌∙◌, arith, vec_len, option_map}
+use Rattle.std.proofs.Common.{◌≡◌, ℕ, ◌+◌, ◌<◌, ◌^◌, Some, Option, List, [], ◌∷◌, ◌++◌, length, sym, ap, subst, ◌∙◌, arith, vec_len, option_map}
+use Rattle.dw_leb.specs.View.{uleb_of}
 use Rattle.dw_form.specs.Form.{Attribute}
 use Rattle.dw_form.specs.Lent.{attribute_of}
 use Rattle.dw_form.specs.Head.{finder}
 use Rattle.dw_form.specs.HeadFront.{front_bytes}
 use Rattle.dw_tree.specs.declared.row.Unfinished.{Unfinished}
-use Rattle.dw_tree.specs.Place.{Place}
+use Rattle.dw_tree.specs.Place.{Place, spot_after}
 use Rattle.dw_tree.specs.Steps.{Growing, end_of, NextFits, next_bytes, next_front, next_pairs, first_bytes, FirstFits, with_value, value_at, partial_in}
-use Rattle.dw_tree.specs.DraftInvariant.{AreLists, entry_with}
+use Rattle.dw_tree.specs.DraftInvariant.{AreLists, IsUnfinished, entry_with}
 use Rattle.dw_tree.proofs.Lists.{value_given, place_stood}
+use Rattle.dw_tree.specs.Counts.{given_counted}
 use Rattle.dw_tree.proofs.Limits.{few_open}
-use Rattle.dw_tree.proofs.Begins.{free_is, given_is, view_free, place_given, ends_here, draft_of, of_some, settled_room}
+use Rattle.dw_tree.proofs.Begins.{free_is, given_is, view_free, place_given, ends_here, draft_of, counted_with, of_some, settled_room}
 use Rattle.dw_tree.proofs.draft.TreeDraft.value.Goals as goal
 
 pub count_value-requires-clause-level : goal.count_value-requires-clause-level
@@ -39,6 +41,7 @@ invariant_of-self-in-Some c =
     let s = value_given k t a.start rows hs pool a.nested.items a.here g.tokens g.values r l v fits c.put_head.new.heads.items c.put_head.new.pool.items
     (c.in_ok-put_head.ensures.heads ∙ ap (λ (b : List ℕ). hs ++ (b ++ finder (length pool) v.value)) front) c.in_ok-put_head.ensures.pool c.in_ok-put_head.ensures.small (a.here + c.args.size) (ap (λ (i : ℕ). a.here + i) size)
     q.new.rows.items q.new.nested.items q.new.unfinished n m a.rows.ok.0 (ap (λ (i : ℕ). i + 1) a.nested.ok.0) (of_some _ c.in-Some.is q.ensures.rows) (of_some _ c.in-Some.is q.ensures.nested) (of_some _ c.in-Some.is q.ensures.unfinished) in
+    let u : IsUnfinished k t a.start g.tokens g.values r = l.are_given in
     draft_of _ free (record {
       context_fits = g.context_fits;
       tokens = s.tokens;
@@ -46,6 +49,7 @@ invariant_of-self-in-Some c =
       lists = s.lists;
       room = settled_room q.new.unfinished _ _ _ _ q.ensures.room q.ensures.open_room;
       near = omega (arith, subst (λ (w : Growing). end_of w + c.args.size < 2 ^ 63) (sym c.self.view_is) c.requires.near, ends_here a c.self.invariant);
+      counted = given_counted t (spot_after g.tokens) (uleb_of r.code) u.entry.decl u.entry.declared g.values a.entries a.asked (counted_with a pool g (Some r) c.in-Some.is) (g.values ++ v ∷ []) _ s.place;
     })
 
 pub returns-in_ok-put_head-clause-ok : goal.returns-in_ok-put_head-clause-ok
