@@ -33,14 +33,7 @@ impl FindingKind {
     pub fn number(self) -> u8
         ensures { result ≡ kind_number self }
     {
-        match self {
-            FindingKind::BadReference => 1,
-            FindingKind::BadSibling => 2,
-            FindingKind::RootTag => 3,
-            FindingKind::TypeOffset => 4,
-            FindingKind::BadText => 5,
-            FindingKind::RepeatedName => 6,
-        }
+        self as u8
     }
 
     /// Its name, as `BadReference`.

@@ -20,3 +20,4 @@ pub mod Found
 pub mod ReferenceLaws
 pub mod Sibling
 pub mod SetNumber
+pub mod Texts

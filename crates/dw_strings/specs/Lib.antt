@@ -1,3 +1,4 @@
+pub mod FaultText
 pub mod LastZero
 pub mod SamePlaces
 pub mod Text

@@ -98,8 +98,7 @@ pub fn exit_status(ended: Result<Status, Failure<'_>>) -> u8
     ensures { result ≡ exit_status ended.entry }
 {
     match ended {
-        Ok(Status::Good) => 0,
-        Ok(Status::Bad) => 1,
+        Ok(status) => status as u8,
         Err(failure) => failure.status(),
     }
 }
