@@ -33,12 +33,7 @@ pub(crate) fn of_files(
     let abbrev = fs::read(rt, "abbrev")?;
     let info = fs::read(rt, "info")?;
     let mut reader = Watched::new(info.as_slice());
-    let section = read_section(
-        rt.alloc(),
-        Order::Little,
-        abbrev.as_slice(),
-        &mut reader,
-    )?;
+    let section = read_section(rt.alloc(), Order::Little, abbrev.as_slice(), &mut reader)?;
     let ids = ids_of(rt.alloc(), &section)?;
     look(&section, ids.as_slice(), pattern, count, random, digest);
     Ok(())

@@ -75,12 +75,7 @@ fn ask(
 
 fn read(alloc: Global, joined: &Joined) -> Result<Section, JobError> {
     let mut reader = Watched::new(joined.info.as_slice());
-    Ok(read_section(
-        alloc,
-        Order::Little,
-        joined.abbrev.as_slice(),
-        &mut reader,
-    )?)
+    Ok(read_section(alloc, Order::Little, joined.abbrev.as_slice(), &mut reader)?)
 }
 
 /// What is asked, and where names are.
