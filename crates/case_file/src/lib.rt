@@ -13,7 +13,9 @@ use std::io;
 /// One case: what is asked, and what has to be answered.
 #[derive(Clone, Copy)]
 pub struct Case<'a> {
+    /// What is asked, in the words of the program that judges it.
     pub input: &'a str,
+    /// What it has to answer.
     pub answer: &'a str,
 }
 
