@@ -29,6 +29,7 @@ import functools
 import hashlib
 import os
 import re
+import shutil
 import signal
 import sys
 import tempfile
@@ -385,13 +386,16 @@ class Work:
                 put_text(self.place(edit), edit.what)
 
 
-def try_crate(work, clone, logs):
-    """Tries the edits of a crate that aren't judged yet, in a clone in which the libraries below it stand."""
+def try_crate(work, clone, logs, as_built):
+    """Tries the edits of a crate that aren't judged yet, in a clone in which the libraries below it stand. `as_built` puts back what its
+    own library kept."""
     judged = Judged(work.crate.name, work.crate.path(clone), logs)
     for edit in work.edits:
         edit.crate = judged
     rounds = plan(judged, work.to_try())
-    for some in rounds:
+    for number, some in enumerate(rounds):
+        if number:
+            as_built()
         try_round(judged, some)
         work.keep(some)
     spent = f"{judged.name}: {len(rounds)} rounds, {judged.checks} checks, {judged.seconds:.0f} s of processor"
@@ -494,7 +498,14 @@ def try_apart(one, first, libraries, logs):
         clone = f"{folder}/{one.crate.name}"
         clones.clone(clones.TOP, clone)
         clones.take_kept(first, clone, libraries)
-        try_crate(one, clone, logs)
+
+        def as_built():
+            # (else what one round changed is proved anew in the next)
+            if one.crate in libraries:
+                shutil.rmtree(f"{one.crate.path(clone)}/out")
+                clones.take_kept(first, clone, [one.crate])
+
+        try_crate(one, clone, logs, as_built)
 
 
 def libraries_for(work):
