@@ -16,9 +16,9 @@ TRIED); where its proof file just names what the edit took away, or another goal
 can't be applied or compiled (BAD EDIT). A line is printed for each, with the function and the goals.
 
 The rounds work in clones of the tree at hand (scripts/clones.py), and never in the tree itself. The libraries are built in one of them, over
-what `rt lib` and `rt check` kept in the tree at hand, where nothing may run then; with --from-nothing all is proved anew. Each crate is tried in
-a clone of its own, as soon as the libraries stand that it needs. The clones are gone at the end; --clones names a folder for the one with the
-libraries, which stays: FOLDER/1.
+what `rt lib` and `rt check` kept in the tree at hand, where nothing may run then; with --from-nothing all is proved anew. A crate is
+tried in another clone, as soon as the libraries stand that it needs. The clones are gone at the end, unless --clones names the folder that they
+are made in.
 
 What passed is kept by a sum of all that it stands on, and not tried again without --anew. The last line is `N passed, M failed`, and the
 status is 0 where none failed and some passed, else 1.
@@ -28,6 +28,7 @@ import argparse
 import functools
 import hashlib
 import os
+import queue
 import re
 import shutil
 import signal
@@ -430,7 +431,7 @@ def asked():
     ask.add_argument("--must-fail", action="store_true", help="try the edits of must-fail/ too")
     ask.add_argument("--edit", action="append", default=[], help="try this edit, by its name (repeatable)")
     ask.add_argument("--from-nothing", action="store_true", help="take nothing over from the tree at hand")
-    ask.add_argument("--clones", default="", metavar="FOLDER", help="build the libraries in a clone in this folder, and leave it there: 1")
+    ask.add_argument("--clones", default="", metavar="FOLDER", help="make the clones in this folder, and leave them there: 1, in which the libraries are built, 2 and so on")
     ask.add_argument("--side-by-side", type=int, default=len(os.sched_getaffinity(0)), metavar="N", help="how many at one time, the libraries or crates")
     ask.add_argument("--anew", action="store_true", help="try what passed before, too")
     ask.add_argument("--cache", default=f"{os.environ.get('XDG_CACHE_HOME') or os.path.expanduser('~/.cache')}/wrong_bodies")
@@ -459,7 +460,7 @@ def work_in(top, given):
 
 def try_all(work, folder, given):
     """Tries the edits of all these crates in clones in this folder, and returns what went wrong with the script itself. The libraries are built
-    in the first clone, from the lowest on. The rounds of a crate begin as soon as those stand that it needs, in a clone of their own."""
+    in the first clone, from the lowest on. The rounds of a crate begin as soon as those stand that it needs, in another clone."""
     first = f"{folder}/1"
     clones.clone(clones.TOP, first)
     taken = [] if given.from_nothing else clones.take_kept(clones.TOP, first, clones.with_all_below([it.crate for it in work]))
@@ -467,12 +468,15 @@ def try_all(work, folder, given):
         print(f"taken over from the tree at hand: what was kept of {', '.join(taken)}", flush=True)
     libraries = libraries_for(work)
     wanted = {one.crate.name: [it for it in libraries if it in [*one.crate.below, one.crate]] for one in work}
-    runs, waiting = [], list(work)
+    runs, waiting, rooms = [], list(work), queue.Queue()
+    for number in range(2, 2 + max(1, given.side_by_side)):
+        clones.clone(clones.TOP, f"{folder}/{number}")
+        rooms.put(Room(f"{folder}/{number}"))
 
     def begin_what_can(built):
         for one in [it for it in waiting if all(that in built for that in wanted[it.crate.name])]:
             waiting.remove(one)
-            runs.append(pool.submit(try_apart, one, first, wanted[one.crate.name], given.logs))
+            runs.append(pool.submit(try_apart, one, first, wanted[one.crate.name], given.logs, rooms))
 
     def build_all():
         for count, crate in enumerate(libraries):
@@ -492,20 +496,33 @@ def try_all(work, folder, given):
             raise
 
 
-def try_apart(one, first, libraries, logs):
-    """Tries the edits of a crate in a clone of its own, over the libraries that stand in the first one."""
-    with tempfile.TemporaryDirectory(prefix="clones-") as folder:
-        clone = f"{folder}/{one.crate.name}"
-        clones.clone(clones.TOP, clone)
-        clones.take_kept(first, clone, libraries)
+@dataclass
+class Room:
+    """A clone in which crates are tried, one after the other, and the names of the libraries that were taken into it."""
 
-        def as_built():
-            # (else what one round changed is proved anew in the next)
-            if one.crate in libraries:
-                shutil.rmtree(f"{one.crate.path(clone)}/out")
-                clones.take_kept(first, clone, [one.crate])
+    folder: str
+    taken: set = field(default_factory=set)
 
-        try_crate(one, clone, logs, as_built)
+    def take(self, first, libraries):
+        clones.take_kept(first, self.folder, [it for it in libraries if it.name not in self.taken])
+        self.taken |= {it.name for it in libraries}
+
+    def take_again(self, first, crate):
+        """Takes what a library kept once more: else what one round changed is proved anew in the next."""
+        if crate.name in self.taken:
+            shutil.rmtree(f"{crate.path(self.folder)}/out")
+            clones.take_kept(first, self.folder, [crate])
+
+
+def try_apart(one, first, libraries, logs, rooms):
+    """Tries the edits of a crate in a clone that is free, over the libraries that stand in the first one."""
+    room = rooms.get()
+    try:
+        room.take(first, libraries)
+        try_crate(one, room.folder, logs, lambda: room.take_again(first, one.crate))
+        room.take_again(first, one.crate)
+    finally:
+        rooms.put(room)
 
 
 def libraries_for(work):
