@@ -9,6 +9,8 @@ mod common;
 #[cfg(test)]
 mod edits;
 #[cfg(test)]
+mod numbers;
+#[cfg(test)]
 mod readers;
 #[cfg(test)]
 mod references;
