@@ -20,7 +20,7 @@ use thiserror::Error;
 #[derive(Clone, Copy, Debug, PartialEq, Eq, Error)]
 pub enum ValueError {
     /// The bytes are refused, for this reason.
-    #[error("{0:?}")]
+    #[error("{0}")]
     Bad(Reason),
     /// The pool could not grow by the bytes of the text or block.
     #[error("memory")]

@@ -3,4 +3,5 @@
 
 pub mod line;
 pub mod outcome;
+pub mod run;
 pub mod word;

@@ -2,6 +2,7 @@
 ghost use Rattle.std.specs.Prelude.{◌≡◌, ◌≢◌, Ok};
 ghost use Rattle.clap.specs.Words.{kind_of};
 ghost use Rattle.dw_line.specs.Line.{Converts, Ends, EndsHelp, IsHelp};
+ghost use Rattle.dw_line.specs.Run.{whole_files};
 ghost use Rattle.clap.specs.declared.error.kind.ErrorKind.TheVariants.{DisplayHelp, DisplayVersion};
 ghost use Rattle.dw_line.specs.declared.outcome.LineError.TheVariants as outcome;
 
@@ -34,6 +35,17 @@ pub struct Line<'a> {
     pub line_str: Option<&'a str>,
     /// The path of the file that holds `.debug_str_offsets`, where one is named.
     pub str_offsets: Option<&'a str>,
+}
+
+impl<'a> Line<'a> {
+    /// The paths of the files that are read whole, in the order in which they are opened: those that hold
+    /// `.debug_abbrev`, `.debug_str`, `.debug_line_str` and `.debug_str_offsets`. The file that holds `.debug_info` is
+    /// opened behind them.
+    pub fn whole_files(&self) -> [Option<&'a str>; 4]
+        ensures { result ≡ whole_files self.now }
+    {
+        [Some(self.abbrev), self.str, self.line_str, self.str_offsets]
+    }
 }
 
 /// Why the words are no command line.

@@ -16,6 +16,8 @@ mod laws;
 #[cfg(test)]
 mod lines;
 #[cfg(test)]
+mod numbers;
+#[cfg(test)]
 mod outputs;
 #[cfg(test)]
 mod readers;

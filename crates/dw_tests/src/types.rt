@@ -38,10 +38,3 @@ fn texts_are_appended(rt: HostRuntime) -> Result<(), Fail> {
     assert!(rt; none == (Err(TypeError::NoEntry), true));
     Ok(())
 }
-
-#[test]
-fn numbers_of_errors(rt: HostRuntime) {
-    assert!(rt; TypeError::NoEntry as u8 == 1);
-    assert!(rt; TypeError::TypeTooBig as u8 == 2);
-    assert!(rt; TypeError::NoMemory as u8 == 3);
-}

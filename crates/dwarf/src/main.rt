@@ -4,15 +4,15 @@
 //! which line that is, `dw_tool::failure` and `dw_line::outcome` say.
 #![tactic(auto)]
 
-ghost use Rattle.std.specs.Prelude.{◌≡◌};
+ghost use Rattle.std.specs.Prelude.{◌≡◌, map};
+ghost use Rattle.dw_line.specs.Run.{EndsLine, EndsWith};
 ghost use Rattle.dw_tool.specs.Failure.{exit_status};
 
 use dw_leb::Watched;
 use dw_line::line::{line, unreadable};
 use dw_line::outcome::{Line, LineError};
-use dw_strings::Strings;
+use dw_line::run::run_line;
 use dw_tool::failure::{Failure, exit_status};
-use dw_tool::run::{Inputs, run};
 use dw_tool::status::Status;
 use std::io::{BufReader, BufWriter, Write};
 use std::process::ExitCode;
@@ -47,31 +47,30 @@ fn act_on_words(rt: &(impl AllocGlobal + Files + Print + Eprint), words: &[Strin
     else {
         return ended(rt, Err(Failure::Memory));
     };
-    match line(rt.alloc(), texts.as_slice()) {
+    act_on_texts(rt, texts.as_slice())
+}
+
+fn act_on_texts<'a>(rt: &(impl AllocGlobal + Files + Print + Eprint), texts: &'a [&'a str]) -> u8
+    ensures { EndsLine (map (λ word. word.now) texts.now) result }
+{
+    match line(rt.alloc(), texts) {
         Ok(line) => ended(rt, act_on(rt, &line)),
         Err(error) => refused(rt, error),
     }
 }
 
-// The sections that are read whole, in this order.
-#[derive(Drop)]
-struct Sections {
-    abbrev: Vec<u8>,
-    str: Vec<u8>,
-    line_str: Vec<u8>,
-    str_offsets: Vec<u8>,
-}
-
+// The bytes of the files that are read whole, in their order.
 fn read_files<'a>(
     rt: &(impl AllocGlobal + Files),
     line: &Line<'a>,
-) -> Result<Sections, Failure<'a>> {
-    Ok(Sections {
-        abbrev: read_file(rt, line.abbrev)?,
-        str: read_optional(rt, line.str)?,
-        line_str: read_optional(rt, line.line_str)?,
-        str_offsets: read_optional(rt, line.str_offsets)?,
-    })
+) -> Result<Vec<Vec<u8>>, Failure<'a>> {
+    let mut files = Vec::new(rt.alloc());
+    for path in line.whole_files() {
+        if files.push(read_optional(rt, path)?).is_err() {
+            return Err(Failure::Memory);
+        }
+    }
+    Ok(files)
 }
 
 fn read_file<'a>(rt: &(impl AllocGlobal + Files), path: &'a str) -> Result<Vec<u8>, Failure<'a>> {
@@ -93,33 +92,24 @@ fn act_on<'a>(
     rt: &(impl AllocGlobal + Files + Print),
     line: &Line<'a>,
 ) -> Result<Status, Failure<'a>> {
-    let sections = read_files(rt, line)?;
+    let files = read_files(rt, line)?;
     let info = fs::open(rt, line.info).map_err(|e| Failure::of_file(line.info, e.kind()))?;
     let Ok(info) = BufReader::with_capacity(rt.alloc(), PIECE, info) else {
         return Err(Failure::Memory);
     };
-    let inputs = Inputs {
-        order: line.order,
-        versions: line.versions,
-        info: &mut Watched::new(info),
-        abbrev: sections.abbrev.as_slice(),
-        strings: Strings {
-            str: sections.str.as_slice(),
-            line_str: sections.line_str.as_slice(),
-            str_offsets: sections.str_offsets.as_slice(),
-        },
-    };
     let output = BufWriter::new(rt.alloc(), io::writer(rt));
     let mut output = Watched::new(output.map_err(|e| Failure::of_output(e.kind()))?);
-    let ran = run(rt.alloc(), line.command, inputs, &mut output);
-    let status = ran.map_err(|e| Failure::of_run(e, line.info))?;
+    let mut info = Watched::new(info);
+    let status = run_line(rt.alloc(), line, files.as_slice(), &mut info, &mut output)?;
     let flushed = output.into_inner().flush();
     flushed.map_err(|e| Failure::of_output(e.kind()))?;
     Ok(status)
 }
 
 // Says why words aren't taken, or prints the help that they ask for, and gives the exit status.
-fn refused(rt: &(impl Print + Eprint), error: LineError<'_>) -> u8 {
+fn refused(rt: &(impl Print + Eprint), error: LineError<'_>) -> u8
+    ensures { EndsWith error.entry result }
+{
     let printed = match &error {
         LineError::Parse(error) => error.print(rt),
         LineError::BadWord(bad) => eprint!(rt; "{bad}"),

@@ -4,6 +4,7 @@
 #![tactic(auto)]
 
 mod builders;
+mod constants;
 mod contexts;
 mod error;
 mod fits;

@@ -1,4 +1,5 @@
 //! Reasons, refusals and errors: their numbers and their texts.
+use crate::constants;
 use crate::error::CaseError;
 use dw_abbrev::TableRefusal;
 use dw_form::ValueError;
@@ -51,7 +52,7 @@ pub fn answer(input: &str, text: &mut String) -> Result<(), CaseError> {
         "reasons" => reasons(text),
         "refusals of tables" => refusals(text),
         "errors" => errors(text),
-        _ => Err(CaseError::NoSuchCase),
+        _ => constants::answer(input, text),
     }
 }
 
