@@ -21,7 +21,7 @@ use Rattle.dw_tree.specs.Place.{Frame, PartialValue, UnfinishedEntry, rows_befor
 use Rattle.dw_tree.specs.Steps.{first_values, partial_in, unfinished_bytes}
 use Rattle.dw_tree.specs.PoolBytes.{joined, held, partial_bytes, read_bytes}
 use Rattle.dw_tree.specs.DraftInvariant.{EntryFits, TokenFits}
-use Rattle.dw_tree.specs.Counts.{entries_in, values_in, unfinished_entries, unfinished_values, few_entries, few_declared, few_values}
+use Rattle.dw_tree.specs.Counts.{count_entries, count_values, unfinished_entries, unfinished_values, few_entries, few_declared, few_values}
 use Rattle.dw_tree.specs.Sizes.{values_short, rows_short}
 use Rattle.dw_feed.specs.PlaceBytes.{open_bytes}
 use Rattle.dw_feed.specs.PlaceRows.{place_rows}
@@ -171,8 +171,8 @@ module _ (g : PartialUnit) (keeps : Keeps g) where
   pub held_values : FewPairs g.table → (held_by g).values ≤ 1024 * (held_by g).entries
   held_values few = by (frames_of g) (chain_of g) g.place.unfinished g.padding keeps.stands (few_values (context g) g.table few (rows_before (frames_of g) (chain_of g)) rows_here)
     where
-      by : (fs : List Frame) (ts : Forest) (o : Option UnfinishedEntry) (ws : List ℕ) → PlaceFits (context g) g.table fs ts o ws → values_in (rows_before fs ts) ≤ 1024 * entries_in (rows_before fs ts)
-          → values_in (rows_before fs ts) + unfinished_values o ≤ 1024 * (entries_in (rows_before fs ts) + unfinished_entries o)
+      by : (fs : List Frame) (ts : Forest) (o : Option UnfinishedEntry) (ws : List ℕ) → PlaceFits (context g) g.table fs ts o ws → count_values (rows_before fs ts) ≤ 1024 * count_entries (rows_before fs ts)
+          → count_values (rows_before fs ts) + unfinished_values o ≤ 1024 * (count_entries (rows_before fs ts) + unfinished_entries o)
       by fs ts None ws h m = omega (arith, m)
       by fs ts (Some r) ws h m = omega (arith, m, h.spot_fits.short, few_declared g.table few r.code.value)
 

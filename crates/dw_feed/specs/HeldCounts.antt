@@ -1,6 +1,6 @@
 -- What a feed holds, counted.
 use Rattle.std.specs.Prelude.{ℕ, ◌+◌, length}
-use Rattle.dw_tree.specs.Counts.{unfinished_entries, entries_at, values_at}
+use Rattle.dw_tree.specs.Counts.{unfinished_entries, entries_counted, values_counted}
 use Rattle.dw_tree.specs.PoolBytes.{held_in}
 use Rattle.dw_feed.specs.BodyFeed.{PartialUnit, BodyFeed, Reading, Refused, Finished}
 
@@ -17,8 +17,8 @@ abbrev pub held_by : PartialUnit → HeldCounts
 held_by g = record {
   pending = length g.pending;
   nested = length g.place.spot.above + unfinished_entries g.place.unfinished;
-  entries = entries_at g.place;
-  values = values_at g.place;
+  entries = entries_counted g.place;
+  values = values_counted g.place;
   pool = length (held_in g.place);
 }
 

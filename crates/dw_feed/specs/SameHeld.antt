@@ -24,7 +24,7 @@ use Rattle.dw_tree.specs.Steps.{FirstsFit, first_values, next_pairs, unfinished_
 use Rattle.dw_tree.specs.ReadTree.{read_values}
 use Rattle.dw_tree.specs.DecideTree.{values_decides}
 use Rattle.dw_tree.specs.DraftInvariant.{EntryFits, TokenFits}
-use Rattle.dw_tree.specs.Counts.{value_count, entries_in, values_in, unfinished_entries, unfinished_values}
+use Rattle.dw_tree.specs.Counts.{value_count, count_entries, count_values, unfinished_entries, unfinished_values}
 use Rattle.dw_unit.specs.Unit.{UnitBreaksUnder}
 use Rattle.dw_unit.specs.UnitLaws.{one_break}
 use Rattle.dw_feed.specs.PlaceBytes.{open_bytes, place_bytes}
@@ -382,6 +382,6 @@ module _ (g h : PartialUnit) (same : SameUnit g h) (a : Kept (Reading g)) (b : K
       record {
         part = part_is;
         nested = omega (arith, ap (λ (s : Spot). length s.above) spot_is, counts.0);
-        entries = omega (arith, ap (λ (s : Spot). entries_in (rows_before s.above s.left)) spot_is, counts.0);
-        values = omega (arith, ap (λ (s : Spot). values_in (rows_before s.above s.left)) spot_is, counts.1);
+        entries = omega (arith, ap (λ (s : Spot). count_entries (rows_before s.above s.left)) spot_is, counts.0);
+        values = omega (arith, ap (λ (s : Spot). count_values (rows_before s.above s.left)) spot_is, counts.1);
       }

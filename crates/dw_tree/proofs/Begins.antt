@@ -20,7 +20,7 @@ use Rattle.dw_tree.specs.PoolBytes.{joined, held, held_in, partial_bytes}
 use Rattle.dw_tree.specs.RowHeads.{heads, rows_heads, unfinished_heads, heads_in, Account}
 use Rattle.dw_tree.specs.Sizes.{AreShort}
 use Rattle.dw_abbrev.specs.FewPairs.{FewPairs}
-use Rattle.dw_tree.specs.Counts.{AreCounted, entries_in, values_in, entries_at, values_at, few_entries, few_values}
+use Rattle.dw_tree.specs.Counts.{AreCounted, count_entries, count_values, entries_counted, values_counted, few_entries, few_values}
 use Rattle.dw_tree.specs.DraftInvariant.{AreGiven, pairs_given, entry_with, HasRoom}
 use Rattle.dw_tree.specs.DraftView.{front, partial_of, place_with, given, growing, IsGiven, HasPartial, IsDraft}
 use Rattle.dw_tree.proofs.Spelled.{all_tokens_fit}
@@ -229,19 +229,19 @@ counts_room a d idle few =
     let xs : List Token = d.given.tokens in
     let l = d.given.lists in
     let are = counted_with a (front a.partial a.pool.items) d.given None idle in
-    let rows : entries_in xs < 2 ^ 63 = omega (arith, few_entries xs, l.is_spelled.long, (draft_short a d).rows_short, d.given.near) in
+    let rows : count_entries xs < 2 ^ 63 = omega (arith, few_entries xs, l.is_spelled.long, (draft_short a d).rows_short, d.given.near) in
     let values = few_values a.context a.table.value few xs (all_tokens_fit a.context a.table.value a.start 1 a.rows.items xs l.stand) in
-    (omega (arith, are.entries_are, ap entries_in l.is_spelled.spelled, rows), omega (arith, are.asked_are, ap values_in l.is_spelled.spelled, values, rows))
+    (omega (arith, are.entries_are, ap count_entries l.is_spelled.spelled, rows), omega (arith, are.asked_are, ap count_values l.is_spelled.spelled, values, rows))
 
 -- a partial value isn't counted
 pub entries_given : (o : Option StoredPartial) (pool : List ℕ) (vs : List Attribute) (q : Option Unfinished) (s : Spot)
-    → entries_at (record { spot = s; unfinished = option_map (entry_with vs) q }) ≡ entries_at (place_with o pool (record { spot = s; unfinished = option_map (entry_with vs) q }))
+    → entries_counted (record { spot = s; unfinished = option_map (entry_with vs) q }) ≡ entries_counted (place_with o pool (record { spot = s; unfinished = option_map (entry_with vs) q }))
 entries_given None pool vs q s = refl
 entries_given (Some b) pool vs None s = refl
 entries_given (Some b) pool vs (Some r) s = refl
 
 pub values_given : (o : Option StoredPartial) (pool : List ℕ) (vs : List Attribute) (q : Option Unfinished) (s : Spot)
-    → values_at (record { spot = s; unfinished = option_map (entry_with vs) q }) ≡ values_at (place_with o pool (record { spot = s; unfinished = option_map (entry_with vs) q }))
+    → values_counted (record { spot = s; unfinished = option_map (entry_with vs) q }) ≡ values_counted (place_with o pool (record { spot = s; unfinished = option_map (entry_with vs) q }))
 values_given None pool vs q s = refl
 values_given (Some b) pool vs None s = refl
 values_given (Some b) pool vs (Some r) s = refl

@@ -15,17 +15,17 @@ use Rattle.dw_tree.specs.Steps.{settled, settle}
 use Rattle.dw_tree.specs.DraftInvariant.{TokenFits}
 
 -- the entries among rows, and their values
-abbrev pub entries_in : List Token → ℕ
-entries_in [] = 0
-entries_in (leaf_row code vs ∷ xs) = 1 + entries_in xs
-entries_in (branch_row code vs ∷ xs) = 1 + entries_in xs
-entries_in (null_row w ∷ xs) = entries_in xs
+abbrev pub count_entries : List Token → ℕ
+count_entries [] = 0
+count_entries (leaf_row code vs ∷ xs) = 1 + count_entries xs
+count_entries (branch_row code vs ∷ xs) = 1 + count_entries xs
+count_entries (null_row w ∷ xs) = count_entries xs
 
-abbrev pub values_in : List Token → ℕ
-values_in [] = 0
-values_in (leaf_row code vs ∷ xs) = length vs + values_in xs
-values_in (branch_row code vs ∷ xs) = length vs + values_in xs
-values_in (null_row w ∷ xs) = values_in xs
+abbrev pub count_values : List Token → ℕ
+count_values [] = 0
+count_values (leaf_row code vs ∷ xs) = length vs + count_values xs
+count_values (branch_row code vs ∷ xs) = length vs + count_values xs
+count_values (null_row w ∷ xs) = count_values xs
 
 -- the unfinished entry, where there is one, and its values
 abbrev pub unfinished_entries : Option UnfinishedEntry → ℕ
@@ -37,15 +37,15 @@ unfinished_values None = 0
 unfinished_values (Some r) = length r.values
 
 -- all entries, and all values but a partial one
-abbrev pub entries_at : Place → ℕ
-entries_at p = entries_in (rows_before p.spot.above p.spot.left) + unfinished_entries p.unfinished
+abbrev pub entries_counted : Place → ℕ
+entries_counted p = count_entries (rows_before p.spot.above p.spot.left) + unfinished_entries p.unfinished
 
-abbrev pub values_at : Place → ℕ
-values_at p = values_in (rows_before p.spot.above p.spot.left) + unfinished_values p.unfinished
+abbrev pub values_counted : Place → ℕ
+values_counted p = count_values (rows_before p.spot.above p.spot.left) + unfinished_values p.unfinished
 
 -- ---- they are few
 
-pub few_entries : (xs : List Token) → entries_in xs ≤ length xs
+pub few_entries : (xs : List Token) → count_entries xs ≤ length xs
 few_entries [] = omega arith
 few_entries (leaf_row code vs ∷ xs) = omega (arith, few_entries xs)
 few_entries (branch_row code vs ∷ xs) = omega (arith, few_entries xs)
@@ -64,7 +64,7 @@ value_count k [] (v ∷ vs) fits = absurd fits
 value_count k (p ∷ ps) [] fits = absurd fits
 value_count k (p ∷ ps) (v ∷ vs) fits = ap suc (value_count k ps vs fits.1)
 
-pub few_values : (k : Ctx) (t : Table) → FewPairs t → (xs : List Token) → AllByRecursion (TokenFits k t) xs → values_in xs ≤ 1024 * entries_in xs
+pub few_values : (k : Ctx) (t : Table) → FewPairs t → (xs : List Token) → AllByRecursion (TokenFits k t) xs → count_values xs ≤ 1024 * count_entries xs
 few_values k t few [] h = omega arith
 few_values k t few (leaf_row code vs ∷ xs) h = omega (arith, few_values k t few xs h.1, few_declared t few code.value, value_count k (declared_pairs (declared t code.value)) vs h.0.0.values_fit)
 few_values k t few (branch_row code vs ∷ xs) h = omega (arith, few_values k t few xs h.1, few_declared t few code.value, value_count k (declared_pairs (declared t code.value)) vs h.0.0.values_fit)
@@ -77,16 +77,16 @@ asked_by t None = 0
 asked_by t (Some r) = length (declared_pairs (declared t r.code.value))
 
 pub record AreCounted (t : Table) (p : Place) (entries asked : ℕ) : Type 0 where
-  pub entries_are : entries ≡ entries_at p
-  pub asked_are : asked ≡ values_in (rows_before p.spot.above p.spot.left) + asked_by t p.unfinished
+  pub entries_are : entries ≡ entries_counted p
+  pub asked_are : asked ≡ count_values (rows_before p.spot.above p.spot.left) + asked_by t p.unfinished
 
-entries_joined : (xs ys : List Token) → entries_in (xs ++ ys) ≡ entries_in xs + entries_in ys
+entries_joined : (xs ys : List Token) → count_entries (xs ++ ys) ≡ count_entries xs + count_entries ys
 entries_joined [] ys = omega arith
 entries_joined (leaf_row code vs ∷ xs) ys = omega (arith, entries_joined xs ys)
 entries_joined (branch_row code vs ∷ xs) ys = omega (arith, entries_joined xs ys)
 entries_joined (null_row w ∷ xs) ys = entries_joined xs ys
 
-values_joined : (xs ys : List Token) → values_in (xs ++ ys) ≡ values_in xs + values_in ys
+values_joined : (xs ys : List Token) → count_values (xs ++ ys) ≡ count_values xs + count_values ys
 values_joined [] ys = omega arith
 values_joined (leaf_row code vs ∷ xs) ys = omega (arith, values_joined xs ys)
 values_joined (branch_row code vs ∷ xs) ys = omega (arith, values_joined xs ys)
@@ -97,8 +97,8 @@ pub closed_counted : (t : Table) (xs : List Token) (w entries asked : ℕ) → x
     → xs ++ null_row w ∷ [] ≡ rows_before (spot_after (xs ++ null_row w ∷ [])).above (spot_after (xs ++ null_row w ∷ [])).left
     → AreCounted t (record { spot = spot_after xs; unfinished = None }) entries asked → AreCounted t (record { spot = spot_after (xs ++ null_row w ∷ []); unfinished = None }) entries asked
 closed_counted t xs w entries asked old new are = record {
-  entries_are = omega (arith, are.entries_are, ap entries_in old, ap entries_in new, entries_joined xs (null_row w ∷ []));
-  asked_are = omega (arith, are.asked_are, ap values_in old, ap values_in new, values_joined xs (null_row w ∷ []));
+  entries_are = omega (arith, are.entries_are, ap count_entries old, ap count_entries new, entries_joined xs (null_row w ∷ []));
+  asked_are = omega (arith, are.asked_are, ap count_values old, ap count_values new, values_joined xs (null_row w ∷ []));
 }
 
 -- an entry that its declaration asks for so many values
@@ -107,7 +107,7 @@ module _ (t : Table) (s : Spot) (code : Unsigned) (d : Declaration) (known : dec
   asks = ap (λ (o : Option Declaration). length (declared_pairs o)) known
 
   -- with these values, where it may have all
-  settles : (vs : List Attribute) (entries asked : ℕ) → entries ≡ entries_in (rows_before s.above s.left) + 1 → asked ≡ values_in (rows_before s.above s.left) + length d.pairs → AreCounted t (settle t s code vs) entries asked
+  settles : (vs : List Attribute) (entries asked : ℕ) → entries ≡ count_entries (rows_before s.above s.left) + 1 → asked ≡ count_values (rows_before s.above s.left) + length d.pairs → AreCounted t (settle t s code vs) entries asked
   settles vs entries asked e a = rw known (by (length vs == length d.pairs) d.children (eqb-true (length vs) (length d.pairs)))
     where
       xs : List Token
@@ -121,8 +121,8 @@ module _ (t : Table) (s : Spot) (code : Unsigned) (d : Declaration) (known : dec
       by true false all =
           let is = rows_before-push s.above s.left (leaf code vs) in
           record {
-            entries_are = omega (arith, e, ap entries_in is, entries_joined xs (leaf_row code vs ∷ []));
-            asked_are = omega (arith, a, all refl, ap values_in is, values_joined xs (leaf_row code vs ∷ []));
+            entries_are = omega (arith, e, ap count_entries is, entries_joined xs (leaf_row code vs ∷ []));
+            asked_are = omega (arith, a, all refl, ap count_values is, values_joined xs (leaf_row code vs ∷ []));
           }
       by false children all = record { entries_are = e; asked_are = omega (arith, a, asks) }
 

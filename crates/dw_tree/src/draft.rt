@@ -12,7 +12,7 @@ ghost use Rattle.dw_tree.specs.DraftView.{partial_of};
 ghost use Rattle.dw_tree.specs.Flat.{with_end as row_ending};
 ghost use Rattle.dw_tree.specs.PoolBytes.{held_in, partial_bytes};
 ghost use Rattle.dw_tree.specs.RowHeads.{heads_in};
-ghost use Rattle.dw_tree.specs.Counts.{entries_at, values_at};
+ghost use Rattle.dw_tree.specs.Counts.{entries_counted, values_counted};
 ghost use Rattle.dw_tree.specs.Emptiness.{is_bare};
 ghost use Rattle.dw_tree.specs.declared.row.RowKind.TheVariants.{Null};
 ghost use Rattle.dw_tree.specs.Completed.{one_given, row_with, settled_rows, settled_open, settled_unfinished};
@@ -364,8 +364,8 @@ impl TreeDraft {
 
     /// How many entries it has, an unfinished one included, and how many values that are whole. In constant time.
     pub fn counts(&self) -> (usize, u128)
-        ensures entries { result.0 ≡ entries_at self.now.place }
-        ensures values { result.1 ≡ values_at self.now.place }
+        ensures entries { result.0 ≡ entries_counted self.now.place }
+        ensures values { result.1 ≡ values_counted self.now.place }
     {
         match &self.unfinished {
             Some(unfinished) => {

@@ -387,7 +387,7 @@ impl Draft {
     }
 
     /// The tree that grows. What a draft takes in memory are its lists, whose lengths the tree tells:
-    /// `row_count`, `heads` and `content`.
+    /// `row_count`, `heads` and `content`. It tells how many entries and values it has, too (`counts`).
     pub fn tree(&self) -> &TreeDraft
         ensures { result.now ≡ tree_in self.now }
     {

@@ -7,21 +7,21 @@ use Rattle.dw_tree.specs.Place.{spot_after}
 use Rattle.dw_tree.specs.Steps.{Growing}
 use Rattle.dw_tree.specs.DraftInvariant.{IsUnfinished, AreGiven, entry_with}
 use Rattle.dw_tree.specs.DraftView.{front, growing, IsDraft}
-use Rattle.dw_tree.specs.Counts.{entries_at, values_at}
+use Rattle.dw_tree.specs.Counts.{entries_counted, values_counted}
 use Rattle.dw_tree.proofs.Begins.{counted_with, entries_given, values_given, view_is}
 use Rattle.dw_tree.proofs.draft.TreeDraft.counts.Goals as goal
 
-all_entries : (a : Inside) (d : IsDraft a) (g : Growing) → growing a ≡ g → a.entries ≡ entries_at g.place
+all_entries : (a : Inside) (d : IsDraft a) (g : Growing) → growing a ≡ g → a.entries ≡ entries_counted g.place
 all_entries a d g e =
     d.given.counted.entries_are
     ∙ entries_given a.partial a.pool.items d.given.values a.unfinished (spot_after d.given.tokens)
-    ∙ ap (λ (w : Growing). entries_at w.place) (sym (view_is a d) ∙ e)
+    ∙ ap (λ (w : Growing). entries_counted w.place) (sym (view_is a d) ∙ e)
 
-all_values : (a : Inside) (d : IsDraft a) (g : Growing) → growing a ≡ g → (o : Option Unfinished) → a.unfinished ≡ o → values_at (record { spot = spot_after d.given.tokens; unfinished = option_map (entry_with d.given.values) o }) ≡ values_at g.place
+all_values : (a : Inside) (d : IsDraft a) (g : Growing) → growing a ≡ g → (o : Option Unfinished) → a.unfinished ≡ o → values_counted (record { spot = spot_after d.given.tokens; unfinished = option_map (entry_with d.given.values) o }) ≡ values_counted g.place
 all_values a d g e o is =
-    ap (λ (q : Option Unfinished). values_at (record { spot = spot_after d.given.tokens; unfinished = option_map (entry_with d.given.values) q })) (sym is)
+    ap (λ (q : Option Unfinished). values_counted (record { spot = spot_after d.given.tokens; unfinished = option_map (entry_with d.given.values) q })) (sym is)
     ∙ values_given a.partial a.pool.items d.given.values a.unfinished (spot_after d.given.tokens)
-    ∙ ap (λ (w : Growing). values_at w.place) (sym (view_is a d) ∙ e)
+    ∙ ap (λ (w : Growing). values_counted w.place) (sym (view_is a d) ∙ e)
 
 pub returns-in-Some-clause-entries : goal.returns-in-Some-clause-entries
 returns-in-Some-clause-entries c = all_entries c.self.inside c.self.invariant c.args.self.now c.self.view_is
