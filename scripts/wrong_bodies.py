@@ -461,8 +461,10 @@ def work_in(top, given):
 def try_all(work, folder, given):
     """Tries the edits of all these crates in clones in this folder, and returns what went wrong with the script itself. The libraries are built
     in the first clone, from the lowest on. The rounds of a crate begin as soon as those stand that it needs, in another clone."""
-    first = f"{folder}/1"
+    first, kept = f"{folder}/1", f"{folder}/kept"
     clones.clone(clones.TOP, first)
+    # (nothing ever runs in this one, so it may be copied at any time)
+    clones.clone(clones.TOP, kept)
     taken = [] if given.from_nothing else clones.take_kept(clones.TOP, first, clones.with_all_below([it.crate for it in work]))
     if taken:
         print(f"taken over from the tree at hand: what was kept of {', '.join(taken)}", flush=True)
@@ -476,12 +478,13 @@ def try_all(work, folder, given):
     def begin_what_can(built):
         for one in [it for it in waiting if all(that in built for that in wanted[it.crate.name])]:
             waiting.remove(one)
-            runs.append(pool.submit(try_apart, one, first, wanted[one.crate.name], given.logs, rooms))
+            runs.append(pool.submit(try_apart, one, kept, wanted[one.crate.name], given.logs, rooms))
 
     def build_all():
         for count, crate in enumerate(libraries):
             begin_what_can(libraries[:count])
             print(f"{crate.name}: library, {clones.build(first, crate):.0f} s of processor", flush=True)
+            clones.take_kept(first, kept, [crate])
         begin_what_can(libraries)
 
     with tempfile.TemporaryDirectory(prefix="wrong-bodies-self-") as own, ThreadPoolExecutor(max(1, given.side_by_side)) as pool:
@@ -503,24 +506,24 @@ class Room:
     folder: str
     taken: set = field(default_factory=set)
 
-    def take(self, first, libraries):
-        clones.take_kept(first, self.folder, [it for it in libraries if it.name not in self.taken])
+    def take(self, kept, libraries):
+        clones.take_kept(kept, self.folder, [it for it in libraries if it.name not in self.taken])
         self.taken |= {it.name for it in libraries}
 
-    def take_again(self, first, crate):
+    def take_again(self, kept, crate):
         """Takes what a library kept once more: else what one round changed is proved anew in the next."""
         if crate.name in self.taken:
             shutil.rmtree(f"{crate.path(self.folder)}/out")
-            clones.take_kept(first, self.folder, [crate])
+            clones.take_kept(kept, self.folder, [crate])
 
 
-def try_apart(one, first, libraries, logs, rooms):
-    """Tries the edits of a crate in a clone that is free, over the libraries that stand in the first one."""
+def try_apart(one, kept, libraries, logs, rooms):
+    """Tries the edits of a crate in a clone that is free, over what the libraries kept."""
     room = rooms.get()
     try:
-        room.take(first, libraries)
-        try_crate(one, room.folder, logs, lambda: room.take_again(first, one.crate))
-        room.take_again(first, one.crate)
+        room.take(kept, libraries)
+        try_crate(one, room.folder, logs, lambda: room.take_again(kept, one.crate))
+        room.take_again(kept, one.crate)
     finally:
         rooms.put(room)
 
