@@ -28,7 +28,7 @@ use Rattle.dw_feed.specs.FieldReader.{PlaceBehind, by_code, read_value, read_fie
 use Rattle.dw_feed.specs.PartialValues.{none_kept}
 use Rattle.dw_feed.specs.PlainFeed.{field_at, ran, fault_at, root_if_whole, unit_with}
 use Rattle.dw_feed.specs.FieldTurns.{longest_of, longest, turns}
-use Rattle.dw_feed.specs.FieldSteps.{Waits, Standing, HasPart, HasNext, FieldPart, ValuePart, StepSays, keeps_stands, next_here, has_moment, same_wants}
+use Rattle.dw_feed.specs.FieldSteps.{Waits, Standing, HasPart, HoldsPart, HasNext, FieldPart, ValuePart, StepSays, keeps_stands, next_here, has_moment, same_wants}
 
 -- with a byte less
 pub byte_less : (m n a b l : ℕ) → m < n → a ≤ l → m * suc l + a < n * suc l + b
@@ -246,7 +246,7 @@ module _ (g0 : PartialUnit) (piece : List ℕ) (g : PartialUnit) (rest : List �
 
   -- ---- a step that stops
 
-  pub wanting_says : (new : PartialUnit) → StepSays g (part g ++ rest) steps.Wanting new → RanSays g0 piece (ran answers.More (Reading new) 0) × HasPart new
+  pub wanting_says : (new : PartialUnit) → StepSays g (part g ++ rest) steps.Wanting new → RanSays g0 piece (ran answers.More (Reading new) 0) × HoldsPart new
   wanting_says new says = (more_says g0 piece new bytes (at_same_field g0 piece g new bytes says.0 at) says.1 (omega (arith, says.2, same_wants g new says.0 (next_here g (keeps_stands g at.keeps)) bytes)), says.3)
 
   pub refused_says : (over : ℕ) (reason : Reason) (new : PartialUnit) → StepSays g (part g ++ rest) (steps.Refused over reason) new → RanSays g0 piece (ran (answers.Fault (fault_at g reason)) (Refused (fault_at g reason)) over)

@@ -31,7 +31,7 @@ use Rattle.dw_feed.specs.FieldOutcomes.{value_broken}
 use Rattle.dw_feed.specs.FieldReader.{read_field}
 use Rattle.dw_feed.specs.NextField.{next_moment, next_value_moment}
 use Rattle.dw_feed.specs.PlainFeed.{field_at, held_keeps, keeps_held}
-use Rattle.dw_feed.specs.FieldSteps.{Standing, keeps_stands, ValuePart, FieldPart, HasPart, HasNext, HasNextHere, StepSays, same_left, same_wants, step_same, has_moment}
+use Rattle.dw_feed.specs.FieldSteps.{Standing, keeps_stands, ValuePart, FieldPart, ValueWaits, FieldWaits, KeepsNoWhole, HasPart, HasNext, HasNextHere, StepSays, same_left, same_wants, step_same, has_moment}
 use Rattle.dw_feed.specs.declared.step.Step.TheVariants as steps
 
 -- how many bytes there are for more of a text, where one has begun
@@ -87,6 +87,10 @@ here_has g b h short =
     let w : FieldPart g (Some h.entry) = subst (λ (o : Option PartialValue). ValuePart g (next_pairs g.table h.entry) o) (sym h.partial) (subst (λ (ps : List Pair). ValuePart g ps (Some b)) (sym h.next) v) in
     subst (FieldPart g) (sym h.unfinished) w
 
+-- its length field stands in it
+pub here_waits : (g : PartialUnit) (b : PartialValue) → PartialHere g b → KeepsNoWhole g
+here_waits g b h = subst (FieldWaits g) (sym h.unfinished) (subst (λ (o : Option PartialValue). ValueWaits g o (next_pairs g.table h.entry)) (sym h.partial) tt)
+
 -- ---- more of its bytes are taken
 
 module _ (g : PartialUnit) (b : PartialValue) (h : PartialHere g b) (bytes : List ℕ) where
@@ -122,7 +126,7 @@ module _ (g : PartialUnit) (b : PartialValue) (h : PartialHere g b) (bytes : Lis
         taking_stays g bytes,
         all,
         omega (arith, wait, ap length all, ap (wanted (taking g bytes)) all, same_wants g (taking g bytes) (taking_stays g bytes) next_is (part g ++ bytes)),
-        here_has (taking g bytes) (longer bytes b) m short,
+        (here_has (taking g bytes) (longer bytes b) m short, here_waits (taking g bytes) (longer bytes b) m),
       )
 
 -- ---- what is short of the whole

@@ -34,7 +34,7 @@ use Rattle.dw_form.specs.Pieces.{form_in, via_bytes}
 use Rattle.dw_feed.specs.BodyFeed.{PartialUnit, Reading, Refused, Finished, EndsBody, started, value_part, part}
 use Rattle.dw_feed.specs.FeedInvariant.{Keeps, Kept, body_so_far, frames_of, chain_of, context, left, wanted, moved_to}
 use Rattle.dw_feed.specs.PlainFeed.{ran, fault_at, root_if_whole, unit_with, field_at, holding, held_left, held_wanted}
-use Rattle.dw_feed.specs.PartialValues.{IsPartialAs, NamedFits, FewKeptIf, IsIncomplete, lim_behind}
+use Rattle.dw_feed.specs.PartialValues.{IsPartialAs, NamedFits, FewKeptIf, FewerKeptIf, IsIncomplete, lim_behind}
 
 -- ---- a place that stands, where the unit may be whole
 
@@ -62,6 +62,28 @@ FieldPart g (Some r) = ValuePart g (next_pairs g.table r) r.partial
 abbrev pub HasPart : PartialUnit → Type 0
 HasPart g = FieldPart g g.place.unfinished
 
+-- Nothing that is whole is kept as bytes: of a value whose text or block hasn't begun neither the number of the form that it names nor a
+-- length field
+abbrev pub ValueWaits : PartialUnit → Option PartialValue → List Pair → Type 0
+ValueWaits g (Some b) ps = Unit {0}
+ValueWaits g None [] = Unit {0}
+ValueWaits g None (p ∷ ps) = FewerKeptIf (shape (form_in p.form.value g.named) (context g).address_size (context g).format) g.pending (lim_behind g.named (left g))
+
+abbrev pub FieldWaits : PartialUnit → Option UnfinishedEntry → Type 0
+FieldWaits g None = Unit {0}
+FieldWaits g (Some r) = ValueWaits g r.partial (next_pairs g.table r)
+
+abbrev pub KeepsNoWhole : PartialUnit → Type 0
+KeepsNoWhole g = FieldWaits g g.place.unfinished
+
+-- what is there where more is wanted
+abbrev pub HoldsPart : PartialUnit → Type 0
+HoldsPart g = HasPart g × KeepsNoWhole g
+
+-- of a code nothing whole is kept
+pub code_waits : (g : PartialUnit) → g.place.unfinished ≡ None → KeepsNoWhole g
+code_waits g free = subst (FieldWaits g) (sym free) tt
+
 -- no fewer bytes of the field stand: with one less it waits
 abbrev pub FrontsWait : PartialUnit → List ℕ → Type 0
 FrontsWait g bytes = (front : List ℕ) (b : ℕ) → bytes ≡ front ++ b ∷ [] → length front < wanted g front
@@ -72,7 +94,7 @@ FrontsWait g bytes = (front : List ℕ) (b : ℕ) → bytes ≡ front ++ b ∷ [
 -- over; it wants more, and all of them are kept; or it is refused for good, and so many are left over.
 abbrev pub StepSays : PartialUnit → List ℕ → Step → PartialUnit → Type 0
 StepSays g bytes (steps.Found over) new = (q : PlaceBehind) × (size : ℕ) × (field_at g bytes (left g) ≡ Found q size) × (over + size ≡ length bytes) × (new ≡ moved_to q.0 q.1 g)
-StepSays g bytes steps.Wanting new = (holding g [] ≡ holding new []) × (part new ≡ bytes) × (length bytes < wanted g bytes) × HasPart new
+StepSays g bytes steps.Wanting new = (holding g [] ≡ holding new []) × (part new ≡ bytes) × (length bytes < wanted g bytes) × HoldsPart new
 StepSays g bytes (steps.Refused over reason) new = (own : ℕ) × (field_at g bytes (left g) ≡ Broken own reason) × (reason ≢ Truncated) × (over + wanted g bytes ≡ length bytes)
 StepSays g bytes steps.NoMemory new = Unit {0}
 
@@ -282,7 +304,7 @@ waits_fronts g (inr none_there) front b e = absurd (omega (arith, ap length (sym
 
 -- what a call made of its piece
 abbrev pub TakenSays : PartialUnit → List ℕ → Taken → PartialUnit → Type 0
-TakenSays g piece takes.More new = RanSays g piece (ran answers.More (Reading new) 0) × HasPart new
+TakenSays g piece takes.More new = RanSays g piece (ran answers.More (Reading new) 0) × HoldsPart new
 TakenSays g piece (takes.Whole over) new = (x : Tree) × (root_if_whole new ≡ Some x) × Standing new × RanSays g piece (ran (answers.Done (unit_with new x)) Finished over)
 TakenSays g piece (takes.Refused over fault) new = RanSays g piece (ran (answers.Fault fault) (Refused fault) over)
 TakenSays g piece takes.NoMemory new = Unit {0}

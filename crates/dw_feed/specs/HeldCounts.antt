@@ -1,5 +1,6 @@
 -- What a feed holds, counted.
-use Rattle.std.specs.Prelude.{ℕ, ◌+◌, length}
+use Rattle.std.specs.Prelude.{ℕ, ◌+◌, List, length}
+use Rattle.dw_tree.specs.Place.{Place}
 use Rattle.dw_tree.specs.Counts.{unfinished_entries, entries_counted, values_counted}
 use Rattle.dw_tree.specs.PoolBytes.{held_in}
 use Rattle.dw_feed.specs.BodyFeed.{PartialUnit, BodyFeed, Reading, Refused, Finished}
@@ -13,14 +14,18 @@ pub record HeldCounts : Type 0 where
   pub values : ℕ
   pub pool : ℕ
 
-abbrev pub held_by : PartialUnit → HeldCounts
-held_by g = record {
-  pending = length g.pending;
-  nested = length g.place.spot.above + unfinished_entries g.place.unfinished;
-  entries = entries_counted g.place;
-  values = values_counted g.place;
-  pool = length (held_in g.place);
+-- at a place, with these bytes
+abbrev pub held_at : Place → List ℕ → HeldCounts
+held_at p bytes = record {
+  pending = length bytes;
+  nested = length p.spot.above + unfinished_entries p.unfinished;
+  entries = entries_counted p;
+  values = values_counted p;
+  pool = length (held_in p);
 }
+
+abbrev pub held_by : PartialUnit → HeldCounts
+held_by g = held_at g.place g.pending
 
 abbrev pub nothing_held : HeldCounts
 nothing_held = record { pending = 0; nested = 0; entries = 0; values = 0; pool = 0 }

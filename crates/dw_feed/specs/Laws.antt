@@ -46,13 +46,10 @@ FaultsComeFromInside = FaultsComeFromInsideUnder Five
 
 -- ---- what a feed holds
 
--- these hold the same: the same bytes of the field at their place, as many entries and values before it, and as many entries whose
--- subtree hasn't ended
+-- these hold the same: the same bytes of the field at their place, and by each of the numbers as much
 pub record HoldsSame (g h : PartialUnit) : Type 0 where
   pub part : part g ≡ part h
-  pub nested : (held_by g).nested ≡ (held_by h).nested
-  pub entries : (held_by g).entries ≡ (held_by h).entries
-  pub values : (held_by g).values ≡ (held_by h).values
+  pub held : held_by g ≡ held_by h
 
 -- feeds of one unit that took the same bytes hold the same, however these were cut into pieces
 abbrev pub StreamTellsHeld : Type 0

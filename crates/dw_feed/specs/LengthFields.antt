@@ -19,7 +19,7 @@ use Rattle.dw_form.specs.Form.{ShapeFits, Block}
 use Rattle.dw_form.specs.ReadForm.{read_shaped}
 use Rattle.dw_form.specs.FormMoments.{shaped_moment, shaped_has, block_wants, block_faults, uleb_block_wants, uleb_block_faults}
 use Rattle.dw_feed.specs.BodyFeed.{count_if}
-use Rattle.dw_feed.specs.PartialValues.{ComesInPieces, IsIncomplete, FewKept}
+use Rattle.dw_feed.specs.PartialValues.{ComesInPieces, IsIncomplete, FewKept, FewerKept}
 
 -- what stands before the content, where it is whole: a block's length field, its width and count; of a text nothing
 abbrev pub HasLength : Order → Shape → Option ℕ → ℕ → List ℕ → ℕ → Type 0
@@ -150,6 +150,18 @@ module _ (k : Ctx) (c : Option Signed) (bytes : List ℕ) (lim : ℕ) where
     | inl h ↦ omega (arith, h, length-append bytes (b ∷ []))
     | inr h ↦ absurd (omega (arith, short, uleb_has.early bytes (b ∷ []) lim h))
   ]
+
+  -- so of it fewer bytes are there than it has
+  pub length_fewer : (s : Shape) → HasNoLength k.order s bytes lim → IsCut (read_shaped k c s bytes lim) → FewerKept s bytes lim
+  length_fewer shapes.Text h cut = absurd h
+  length_fewer (shapes.Counted n) h cut = counted_waits n h.0 h.1 cut
+  length_fewer shapes.CountedUleb h cut = uleb_waits h.0 h.1 cut
+  length_fewer (shapes.Fixed n) h cut = tt
+  length_fewer shapes.Uleb h cut = tt
+  length_fewer shapes.Sleb h cut = tt
+  length_fewer shapes.Present h cut = tt
+  length_fewer shapes.Implicit h cut = tt
+  length_fewer shapes.Indirect h cut = absurd (omega (arith, cut_short shapes.Indirect cut))
 
   pub length_waits : (s : Shape) → ShapeFits s → HasNoLength k.order s bytes lim → IsCut (read_shaped k c s bytes lim) → (length bytes < 16) × ((b : ℕ) → FewKept s (bytes ++ b ∷ []) lim)
   length_waits shapes.Text fits h cut = absurd h

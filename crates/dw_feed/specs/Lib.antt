@@ -32,6 +32,7 @@ pub mod PartialSteps
 pub mod PlaceRows
 pub mod HeldBounds
 pub mod HeldView
+pub mod SamePart
 pub mod SameHeld
 pub mod FieldSteps
 pub mod FaultFirst

@@ -16,16 +16,16 @@ use Rattle.dw_feed.specs.declared.step.Step.{Step}
 use Rattle.dw_feed.specs.BodyFeed.{PartialUnit, count_if, partial_taken, value_part, part}
 use Rattle.dw_feed.specs.BodyView.{coming}
 use Rattle.dw_feed.specs.FeedInvariant.{Keeps, context, left}
-use Rattle.dw_feed.specs.PartialValues.{shape_of_indirect, ComesInPieces, NamedFits, FewKept, FewKeptIf, IsIncomplete, lim_behind}
+use Rattle.dw_feed.specs.PartialValues.{shape_of_indirect, ComesInPieces, NamedFits, FewKept, FewKeptIf, FewerKeptIf, IsIncomplete, lim_behind}
 use Rattle.dw_feed.specs.PlainFeed.{holding, held_keeps, keeps_held}
-use Rattle.dw_feed.specs.FieldSteps.{ValuePart, FieldPart, HasPart, HasNextHere, HasNext, StepSays, step_same, same_left}
+use Rattle.dw_feed.specs.FieldSteps.{ValuePart, FieldPart, HasPart, ValueWaits, FieldWaits, KeepsNoWhole, HasNextHere, HasNext, StepSays, step_same, same_left}
 use Rattle.dw_leb.specs.declared.errors.Reason.TheVariants.{Truncated}
 use Rattle.dw_leb.specs.Reader.{Broken}
 use Rattle.dw_leb.specs.Moments.{IsCut}
 use Rattle.dw_form.specs.Form.{ShapeFits}
 use Rattle.dw_form.specs.ReadForm.{read_shaped_if, read_attribute}
 use Rattle.dw_feed.specs.NamedValues.{constant_behind, value_cut}
-use Rattle.dw_feed.specs.LengthFields.{HasLength, HasNoLength, length_opens, length_waits}
+use Rattle.dw_feed.specs.LengthFields.{HasLength, HasNoLength, length_opens, length_waits, length_fewer}
 use Rattle.dw_feed.specs.ContentSteps.{PartialHere, here_has}
 
 -- Of the value at the place, under this pair, the length field is all that is kept, or of a text nothing. There is room for the
@@ -233,6 +233,12 @@ module _ (g : PartialUnit) (h : ValueHere g) (named : h.pair.form.value ≡ 0x16
 
   waits_where : (s : Shape) → shape form (context g).address_size (context g).format ≡ Some s → ShapeFits s → HasNoLength (context g).order s g.pending lim → (length g.pending < 16) × ((b : ℕ) → FewKept s (g.pending ++ b ∷ []) lim)
   waits_where s e fits none = length_waits (context g) constant g.pending lim s fits none (shape_cut (Some s) e)
+
+  -- no length field is whole among the bytes that are kept
+  pub keeps_no_length : (s : Shape) → shape form (context g).address_size (context g).format ≡ Some s → HasNoLength (context g).order s g.pending lim → KeepsNoWhole g
+  keeps_no_length s e none =
+      let fewer : FewerKeptIf (shape form (context g).address_size (context g).format) g.pending lim = subst (λ (o : Option Shape). FewerKeptIf o g.pending lim) (sym e) (length_fewer (context g) constant g.pending lim s none (shape_cut (Some s) e)) in
+      subst (FieldWaits g) (sym h.unfinished) (subst (λ (o : Option PartialValue). ValueWaits g o (next_pairs g.table h.entry)) (sym h.none_partial) (subst (ValueWaits g None) (sym h.next) fewer))
 
   pub pending_room : (s : Shape) → shape form (context g).address_size (context g).format ≡ Some s → ShapeFits s → HasNoLength (context g).order s g.pending lim → length g.pending < 16
   pending_room s e fits none = (waits_where s e fits none).0

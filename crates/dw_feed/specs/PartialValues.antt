@@ -145,6 +145,27 @@ unnamed_kept address_size format form bytes lim e few = subst (λ (o : Option Sh
 pub unnamed_few : (address_size : ℕ) (format : Format) (form : ℕ) (bytes : List ℕ) (lim : ℕ) → form ≡ 0x16 → FewKeptIf (shape form address_size format) bytes lim → length bytes ≤ leb_moment bytes lim
 unnamed_few address_size format form bytes lim e few = subst (λ (o : Option Shape). FewKeptIf o bytes lim) (kept_of_form address_size format form e) few
 
+-- ---- what waits
+
+-- The number of a form that isn't named yet, or a length field, isn't whole, and a text has begun: with the bytes that are kept of a value
+-- nothing else begins.
+abbrev pub FewerKept : Shape → List ℕ → ℕ → Type 0
+FewerKept shapes.Text bytes lim = ⊥
+FewerKept (shapes.Counted n) bytes lim = length bytes < n
+FewerKept shapes.CountedUleb bytes lim = length bytes < leb_moment bytes lim
+FewerKept shapes.Indirect bytes lim = length bytes < leb_moment bytes lim
+FewerKept s bytes lim = Unit {0}
+
+abbrev pub FewerKeptIf : Option Shape → List ℕ → ℕ → Type 0
+FewerKeptIf None bytes lim = Unit {0}
+FewerKeptIf (Some s) bytes lim = FewerKept s bytes lim
+
+pub unnamed_fewer : (address_size : ℕ) (format : Format) (form : ℕ) (bytes : List ℕ) (lim : ℕ) → form ≡ 0x16 → length bytes < leb_moment bytes lim → FewerKeptIf (shape form address_size format) bytes lim
+unnamed_fewer address_size format form bytes lim e fewer = subst (λ (o : Option Shape). FewerKeptIf o bytes lim) (sym (kept_of_form address_size format form e)) fewer
+
+pub fewer_unnamed : (address_size : ℕ) (format : Format) (form : ℕ) (bytes : List ℕ) (lim : ℕ) → form ≡ 0x16 → FewerKeptIf (shape form address_size format) bytes lim → length bytes < leb_moment bytes lim
+fewer_unnamed address_size format form bytes lim e fewer = subst (λ (o : Option Shape). FewerKeptIf o bytes lim) (kept_of_form address_size format form e) fewer
+
 -- the form that is named may stand in an indirect value, within lim
 abbrev pub NamedFits : Option Unsigned → ℕ → Type 0
 NamedFits None lim = Unit {0}

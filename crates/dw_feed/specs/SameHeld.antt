@@ -1,5 +1,5 @@
 -- The bytes that a feed took tell what it holds: before its place the same entries and values stand.
-use Rattle.std.proofs.Common.{◌≡◌, ℕ, ◌<◌, true, false, List, [], ◌∷◌, ◌++◌, length, take, drop, map, Option, Some, None, refl, sym, ap, ap₂, subst, ◌∙◌, append_assoc, append-nil, arith, take_all, length-append, option_map}
+use Rattle.std.proofs.Common.{◌≡◌, ℕ, ◌<◌, ◌-◌, true, false, List, [], ◌∷◌, ◌++◌, length, take, drop, map, Option, Some, None, refl, sym, ap, ap₂, subst, ◌∙◌, append_assoc, append-nil, arith, take_all, length-append, option_map}
 use Rattle.std.specs.Prelude.{fold}
 use Rattle.std.proofs.lemmas.List.{take_at, drop_at}
 use Rattle.dw_leb.specs.declared.errors.Reason.{Reason}
@@ -19,12 +19,12 @@ use Rattle.dw_tree.specs.Tree.{Tree, leaf, branch, Forest, none, more, values, d
 use Rattle.dw_tree.specs.Spelling.{entry_bytes, forest_bytes}
 use Rattle.dw_tree.specs.Row.{Token, leaf_row, branch_row, null_row, row_bytes, rows_bytes, rows_of, all_rows, push, join, join-none}
 use Rattle.dw_tree.specs.RowBytes.{bytes_append}
-use Rattle.dw_tree.specs.Place.{Frame, Spot, UnfinishedEntry, add, enter, step, nowhere, spot_after, rows_before}
+use Rattle.dw_tree.specs.Place.{Frame, Spot, Place, UnfinishedEntry, add, enter, step, nowhere, spot_after, rows_before}
 use Rattle.dw_tree.specs.Steps.{FirstsFit, first_values, next_pairs, unfinished_bytes, given_partial}
 use Rattle.dw_tree.specs.ReadTree.{read_values}
 use Rattle.dw_tree.specs.DecideTree.{values_decides}
 use Rattle.dw_tree.specs.DraftInvariant.{EntryFits, TokenFits}
-use Rattle.dw_tree.specs.Counts.{value_count, count_entries, count_values, unfinished_entries, unfinished_values}
+use Rattle.dw_tree.specs.Counts.{value_count}
 use Rattle.dw_unit.specs.Unit.{UnitBreaksUnder}
 use Rattle.dw_unit.specs.UnitLaws.{one_break}
 use Rattle.dw_feed.specs.PlaceBytes.{open_bytes, place_bytes}
@@ -37,6 +37,10 @@ use Rattle.dw_feed.specs.FeedAnswers.{same_breaks}
 use Rattle.dw_feed.specs.Laws.{HoldsSame}
 use Rattle.dw_feed.specs.FeedInvariant.{Kept, frames_of, chain_of, context, left, next, refused, body_so_far}
 use Rattle.dw_feed.specs.PlainFeed.{fault_at}
+use Rattle.dw_feed.specs.FieldSteps.{HoldsPart}
+use Rattle.dw_feed.specs.SamePart.{same_kept}
+use Rattle.dw_feed.specs.HeldCounts.{held_at}
+use Rattle.dw_unit.specs.Unit.{left_behind}
 use Rattle.dw_feed.specs.EveryCut.{not_all_there}
 
 -- ---- rows lead to the place behind them
@@ -321,17 +325,9 @@ waits_for g kept = by g.place.unfinished refl kept.0.stands.spot_fits
     by None e h = tt
     by (Some r) e h = record { code_fits = h.begins.fits; not_null = h.begins.some; firsts = h.values_fit; short = h.short; never = never r e (next_pairs g.table r) refl }
 
-same_counts : (o p : Option UnfinishedEntry) → option_map (given_partial None) o ≡ option_map (given_partial None) p → (unfinished_entries o ≡ unfinished_entries p) × (unfinished_values o ≡ unfinished_values p)
-same_counts None None e = (refl, refl)
-same_counts None (Some s) e = absurd cc
-same_counts (Some r) None e = absurd cc
-same_counts (Some r) (Some s) e =
-    let a : given_partial None r ≡ given_partial None s = cc in
-    (refl, ap (λ (u : UnfinishedEntry). length u.values) a)
-
 -- ---- two feeds of a unit that took the same bytes
 
-module _ (g h : PartialUnit) (same : SameUnit g h) (a : Kept (Reading g)) (b : Kept (Reading h)) (e : stream g ≡ stream h) where
+module _ (g h : PartialUnit) (same : SameUnit g h) (a : Kept (Reading g)) (b : Kept (Reading h)) (here : HoldsPart g) (there : HoldsPart h) (e : stream g ≡ stream h) where
   abbrev n : ℕ
   n = length (before g)
 
@@ -375,13 +371,15 @@ module _ (g h : PartialUnit) (same : SameUnit g h) (a : Kept (Reading g)) (b : K
   spot_is : spot (frames_of g) (chain_of g) ≡ spot (frames_of h) (chain_of h)
   spot_is = same_spot (context g) g.table (frames_of g) (frames_of h) (chain_of g) (chain_of h) g.place.unfinished h.place.unfinished g.padding h.padding a.0.stands fits_there (waits_for g a) waits_there bytes_there
 
-  -- so it holds the same entries and values, and as many are nested
+  left_is : left g ≡ left h
+  left_is = ap₂ (λ (m n : ℕ). m - n) (sym (ap₂ left_behind same.0 same.1)) (ap length body_is)
+
+  kept_is : (g.place.unfinished ≡ h.place.unfinished) × (g.pending ≡ h.pending)
+  kept_is = same_kept g h (sym context_is) (sym same.2) left_is rows_are.unfinished here.0 there.0 here.1 there.1 part_is
+
+  -- so they stand at the same place, and the same is kept there
+  place_is : g.place ≡ h.place
+  place_is = ap₂ (λ (s : Spot) (o : Option UnfinishedEntry). record { spot = s; unfinished = o }) spot_is kept_is.0
+
   pub holds_same : HoldsSame g h
-  holds_same =
-      let counts = same_counts g.place.unfinished h.place.unfinished rows_are.unfinished in
-      record {
-        part = part_is;
-        nested = omega (arith, ap (λ (s : Spot). length s.above) spot_is, counts.0);
-        entries = omega (arith, ap (λ (s : Spot). count_entries (rows_before s.above s.left)) spot_is, counts.0);
-        values = omega (arith, ap (λ (s : Spot). count_values (rows_before s.above s.left)) spot_is, counts.1);
-      }
+  holds_same = record { part = part_is; held = ap₂ (λ (p : Place) (bytes : List ℕ). held_at p bytes) place_is kept_is.1 }

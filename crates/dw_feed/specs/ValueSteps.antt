@@ -32,9 +32,9 @@ use Rattle.dw_feed.specs.FieldReader.{PlaceBehind, read_value, read_field}
 use Rattle.dw_feed.specs.FeedInvariant.{context, frames_of, chain_of, left, wanted, moved_to, Keeps}
 use Rattle.dw_feed.specs.PlainFeed.{field_at, holding}
 use Rattle.dw_feed.specs.FeedSteps.{cut_wants}
-use Rattle.dw_feed.specs.PartialValues.{NamedFits, FewKeptIf, lim_behind, none_kept, unnamed_kept, unnamed_few}
+use Rattle.dw_feed.specs.PartialValues.{NamedFits, FewKeptIf, FewerKeptIf, lim_behind, none_kept, unnamed_kept, unnamed_few, unnamed_fewer}
 use Rattle.dw_feed.specs.LengthFields.{one_more}
-use Rattle.dw_feed.specs.FieldSteps.{Standing, ValuePart, FieldPart, HasPart, HasNextHere, FrontsWait, StepSays, keeps_stands, step_same, stop_found, stop_broken, wait_more}
+use Rattle.dw_feed.specs.FieldSteps.{Standing, ValuePart, FieldPart, ValueWaits, FieldWaits, KeepsNoWhole, HasPart, HasNextHere, FrontsWait, StepSays, keeps_stands, step_same, stop_found, stop_broken, wait_more}
 
 -- ---- an attempt to read the value at the front of bytes
 
@@ -158,6 +158,22 @@ module _ (g : PartialUnit) (between : partial_in g.place.unfinished ≡ None) wh
       by None e none_there h = absurd cc
       by (Some r) e none_there h = let is_next = next_of g.table r p e in value (next_pairs g.table r) is_next.0 r.partial is_next.1 none_there h
 
+  -- where that number isn't whole, nothing whole is kept
+  pub form_waits : (p : Pair) → next_pair g.table g.place.unfinished ≡ Some p → p.form.value ≡ 0x16 → g.named ≡ None → length g.pending < leb_moment g.pending (left g) → KeepsNoWhole g
+  form_waits p next is unnamed fewer = by g.place.unfinished next
+    where
+      value : (ps qs : List Pair) (o : Option PartialValue) → ps ≡ p ∷ qs → ValueWaits g o ps
+      value ps qs (Some b) same = tt
+      value [] qs None same = tt
+      value (q ∷ ps) qs None same =
+          let first : q ≡ p = cc in
+          subst (λ (o : Option Unsigned). FewerKeptIf (shape (form_in q.form.value o) (context g).address_size (context g).format) g.pending (lim_behind o (left g))) (sym unnamed)
+          (unnamed_fewer (context g).address_size (context g).format q.form.value g.pending (left g) (ap (λ (x : Pair). x.form.value) first ∙ is) fewer)
+
+      by : (o : Option UnfinishedEntry) → next_pair g.table o ≡ Some p → FieldWaits g o
+      by None e = tt
+      by (Some r) e = let is_next = next_of g.table r p e in value (next_pairs g.table r) is_next.0 r.partial is_next.1
+
   -- and no others
   pub form_few : (p : Pair) → next_pair g.table g.place.unfinished ≡ Some p → p.form.value ≡ 0x16 → g.named ≡ None → HasPart g → length g.pending ≤ leb_moment g.pending (left g)
   form_few p next is unnamed has = by g.place.unfinished next between has
@@ -198,11 +214,14 @@ form_ends bytes u lim few taken =
     nil_from_length (drop u.width bytes) (omega (arith, length-drop u.width bytes, few, moment, taken.is_size))
 
 -- a number of a form that is cut off wants more
-pub form_more : (k : Ctx) (bytes : List ℕ) (lim : ℕ) → checked read_uleb bad_inner bytes lim ≡ Broken 0 Truncated → (b : ℕ) → length (bytes ++ b ∷ []) ≤ leb_moment (bytes ++ b ∷ []) lim
-form_more k bytes lim e b = elim (fewer_or_enough (length bytes) (leb_moment bytes lim)) [
-  | inl short ↦ one_more k None bytes lim b short
+pub form_short : (bytes : List ℕ) (lim : ℕ) → checked read_uleb bad_inner bytes lim ≡ Broken 0 Truncated → length bytes < leb_moment bytes lim
+form_short bytes lim e = elim (fewer_or_enough (length bytes) (leb_moment bytes lim)) [
+  | inl short ↦ short
   | inr enough ↦ absurd ((checked_moment read_uleb bad_inner (λ u. refuses_where (u.value == 0x16 || u.value == 0x21) BadIndirect (λ q. cc)) leb_moment uleb_has).stands bytes lim enough (subst IsCut (sym e) refl))
 ]
+
+pub form_more : (k : Ctx) (bytes : List ℕ) (lim : ℕ) → checked read_uleb bad_inner bytes lim ≡ Broken 0 Truncated → (b : ℕ) → length (bytes ++ b ∷ []) ≤ leb_moment (bytes ++ b ∷ []) lim
+form_more k bytes lim e b = one_more k None bytes lim b (form_short bytes lim e)
 
 -- ---- a loop over the bytes of a value
 
@@ -224,10 +243,10 @@ module _ (g0 : PartialUnit) (b : List ℕ) (p : Pair) (g : PartialUnit) (rest : 
   value_step s new h = subst (λ (bs : List ℕ). StepSays g0 bs s new) i.all (step_same g0 g i.same i.first (part g ++ rest) s new h)
 
   -- all bytes are kept, and the value wants more
-  pub value_wants : rest ≡ [] → read_attribute (context g) p.form.value p.constant (part g) (left g) ≡ Broken 0 Truncated → StepSays g0 (part g0 ++ b) steps.Wanting g
-  value_wants none_left e =
+  pub value_wants : rest ≡ [] → read_attribute (context g) p.form.value p.constant (part g) (left g) ≡ Broken 0 Truncated → KeepsNoWhole g → StepSays g0 (part g0 ++ b) steps.Wanting g
+  value_wants none_left e none_whole =
       let all : part g ≡ part g ++ rest = sym (append-nil (part g)) ∙ ap (λ (bs : List ℕ). part g ++ bs) (sym none_left) in
-      value_step steps.Wanting g (subst (λ (bs : List ℕ). StepSays g bs steps.Wanting g) all (refl, refl, value_short g p (keeps_stands g i.keeps) i.next (part g) e, i.has))
+      value_step steps.Wanting g (subst (λ (bs : List ℕ). StepSays g bs steps.Wanting g) all (refl, refl, value_short g p (keeps_stands g i.keeps) i.next (part g) e, (i.has, none_whole)))
 
   -- one more byte is kept
   pub value_goes_on : (x : ℕ) (others : List ℕ) → rest ≡ x ∷ others → read_attribute (context g) p.form.value p.constant (part g) (left g) ≡ Broken 0 Truncated → HasPart (keeping g (g.pending ++ x ∷ [])) → InValue g0 b p (keeping g (g.pending ++ x ∷ [])) others

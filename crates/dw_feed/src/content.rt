@@ -11,7 +11,7 @@ ghost use Rattle.dw_tree.specs.Steps.{next_pair, partial_in};
 ghost use Rattle.dw_feed.specs.BodyFeed.{part};
 ghost use Rattle.dw_feed.specs.FeedInvariant.{Keeps, context, left as left_of};
 ghost use Rattle.dw_feed.specs.PartialValues.{NamedFits, lim_behind};
-ghost use Rattle.dw_feed.specs.FieldSteps.{Standing, HasPart, StepSays};
+ghost use Rattle.dw_feed.specs.FieldSteps.{Standing, HasPart, KeepsNoWhole, StepSays};
 ghost use Rattle.dw_feed.specs.Openings.{OpensHere, with_byte};
 ghost use Rattle.dw_feed.specs.LengthFields.{HasLength, HasNoLength};
 ghost use Rattle.dw_feed.specs.ContentSteps.{room_of_text, HasNoZero, ZeroIn};
@@ -36,6 +36,7 @@ impl Coming {
         ensures some { IfSome result (λ x. OpensHere self.now x.0 x.1) }
         ensures none { result ≡ None → length self.now.pending < 16 }
         ensures more { result ≡ None → (b : ℕ) → HasPart (with_byte self.now b) }
+        ensures waits { result ≡ None → KeepsNoWhole self.now }
     {
         let context = self.draft.header().context();
         match Shape::of(

@@ -16,7 +16,7 @@ pub fn units_end_as_their_length_says()
 {}
 
 /// Two feeds of one unit that took the same bytes hold the same, however these were cut into pieces: `held` answers the
-/// same entries, values and nested entries for both, and of the field at their place the same bytes are there.
+/// same numbers for both, each of them, and of the field at their place the same bytes are there.
 pub fn held_is_told_by_the_bytes()
     ensures { StreamTellsHeld }
 {}

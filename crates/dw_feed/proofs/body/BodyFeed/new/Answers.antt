@@ -7,4 +7,4 @@ use Rattle.dw_feed.proofs.body.BodyFeed.new.Goals as goal
 pub invariant_of-result : goal.invariant_of-result
 invariant_of-result c =
     let g : PartialUnit = started c.args.header c.args.length c.args.table.value in
-    subst (λ (x : PartialUnit). IsBodyFeed (Reading x)) (sym c.new.ensures) ((start_keeps c.args.header c.args.length c.args.table.value c.requires, tt, inr refl), (refl, refl))
+    subst (λ (x : PartialUnit). IsBodyFeed (Reading x)) (sym c.new.ensures) ((start_keeps c.args.header c.args.length c.args.table.value c.requires, tt, inr refl), ((refl, refl), tt))

@@ -14,7 +14,7 @@ use Rattle.std.specs.Prelude.{option_map}
 use Rattle.dw_feed.specs.BodyView.{coming, drafted}
 use Rattle.dw_feed.specs.FeedInvariant.{left as left_of, frames_of, chain_of}
 use Rattle.dw_feed.specs.PlainFeed.{holding}
-use Rattle.dw_feed.specs.FieldSteps.{Standing, StepSays, CodeStands, if_no_memory, code_stands, stands_same, FrontsWait, HasPart, FieldPart, code_meaning, keeps_stands, code_part, code_step, code_refused, code_short, step_same, next_here, wait_more, told, told_not}
+use Rattle.dw_feed.specs.FieldSteps.{Standing, StepSays, CodeStands, if_no_memory, code_stands, stands_same, FrontsWait, HasPart, FieldPart, code_meaning, keeps_stands, code_part, code_step, code_refused, code_short, code_waits, step_same, next_here, wait_more, told, told_not}
 use Rattle.dw_feed.specs.ValueSteps.{keeping}
 use Rattle.dw_feed.proofs.coming.Coming.code_in_parts.Goals as goal
 
@@ -64,7 +64,7 @@ returns-in-None-clause-says c =
     let has : HasPart g = subst (λ o. FieldPart g o) (sym i.free) (i.named, i.to_come) in
     let all : part g ≡ part c.args.self.now ++ c.args.b.now = sym (append-nil (part g)) ∙ ap (λ (bs : List ℕ). part g ++ bs) (sym (nil_from_length c.loop-code.rest.now c.in-None.ensures.cases)) ∙ i.all in
     subst (λ (bs : List ℕ). StepSays c.args.self.now bs steps.Wanting g) all
-    (step_same c.args.self.now g i.same (next_here c.args.self.now (keeps_stands c.args.self.now c.requires.stands)) (part g) steps.Wanting g (refl, refl, code_short g i.free (part g) read, has))
+    (step_same c.args.self.now g i.same (next_here c.args.self.now (keeps_stands c.args.self.now c.requires.stands)) (part g) steps.Wanting g (refl, refl, code_short g i.free (part g) read, (has, code_waits g i.free)))
 
 pub loop-code-preserved : goal.loop-code-preserved
 loop-code-preserved c =

@@ -20,7 +20,7 @@ use Rattle.dw_feed.specs.BodyFeed.{PartialUnit, part}
 use Rattle.dw_feed.specs.BodyView.{coming}
 use Rattle.dw_feed.specs.FeedInvariant.{context, left as left_of}
 use Rattle.dw_feed.specs.FieldSteps.{keeps_stands, told, told_not}
-use Rattle.dw_feed.specs.ValueSteps.{InValue, keeping, part_free, form_refused, value_step, value_refused, value_wants, value_goes_on, value_named, form_kept, form_more}
+use Rattle.dw_feed.specs.ValueSteps.{InValue, keeping, part_free, form_refused, value_step, value_refused, value_wants, value_goes_on, value_named, form_kept, form_more, form_short, form_waits}
 use Rattle.dw_feed.proofs.coming.Coming.named_form.Goals as goal
 
 -- what the call refused of the bytes that are kept is refused of the value
@@ -79,7 +79,9 @@ returns-in-None c =
     let kept : c.as_slice.result.now ≡ g.pending = c.as_slice.ensures.value ∙ ap (λ (x : PartialUnit). x.pending) c.self-in-loop-form.view_is in
     let cut : c.in-Err.reason ≡ Truncated = told c.is_cut.result c.is_cut.ensures c.if-not-is_cut.false in
     let read = refused_here g p i.indirect i.at.between i.unnamed c.as_slice.result.now kept c.left-lim.result i.lim_is Truncated (c.in-Err.ensures.exact ∙ ap (λ (r : Reason). broken Unsigned 0 r) cut) in
+    let cut_form : checked read_uleb bad_inner g.pending (left_of g) ≡ Broken 0 Truncated = ap₂ (λ (bs : List ℕ) (n : ℕ). checked read_uleb bad_inner bs n) (sym kept) (sym i.lim_is) ∙ (c.in-Err.ensures.exact ∙ ap (λ (r : Reason). broken Unsigned 0 r) cut) in
     value_wants c.args.self.now c.args.b.now p g c.loop-form.rest.now i.at (nil_from_length c.loop-form.rest.now c.in-None.ensures.cases) read
+    (form_waits g i.at.between p i.at.next i.indirect i.unnamed (form_short g.pending (left_of g) cut_form))
 
 pub loop-form-preserved : goal.loop-form-preserved
 loop-form-preserved c =

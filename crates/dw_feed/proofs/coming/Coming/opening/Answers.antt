@@ -19,7 +19,7 @@ use Rattle.dw_feed.specs.FeedInvariant.{context, left as left_of}
 use Rattle.dw_feed.specs.FieldSteps.{HasPart}
 use Rattle.dw_feed.specs.PartialValues.{lim_behind}
 use Rattle.dw_feed.specs.LengthFields.{HasLength, HasNoLength}
-use Rattle.dw_feed.specs.Openings.{ValueHere, value_here, OpensHere, known_here, opens_here, pending_room, byte_has}
+use Rattle.dw_feed.specs.Openings.{ValueHere, value_here, OpensHere, known_here, opens_here, pending_room, byte_has, keeps_no_length}
 use Rattle.dw_feed.proofs.coming.Coming.opening.Goals as goal
 
 -- where the value begins, under the pair that is handed in
@@ -105,3 +105,16 @@ returns-clause-more c none =
     let bytes = c.as_slice.ensures.value ∙ ap (λ (u : PartialUnit). u.pending) c.self.view_is in
     let lim = c.behind-lim.ensures ∙ ap₂ lim_behind n c.left.ensures in
     byte_has g b.here b.named b.cut s e c.in-Some.ensures.sizes (carried (λ (o : Order) (bs : List ℕ) (l : ℕ). HasNoLength o s bs l) _ _ _ _ _ _ (ap (λ (x : Ctx). x.order) k) bytes lim (c.length_at.ensures.none none))
+
+pub returns-clause-waits : goal.returns-clause-waits
+returns-clause-waits c none =
+    let g : PartialUnit = c.args.self.now in
+    let p : Pair = pair_of c.args.pair.now in
+    let b = begins g p c.requires.next c.requires.has c.requires.between c.requires.named c.requires.cut in
+    let k = c.context-context.ensures.context ∙ ap context_of c.header.ensures ∙ ap context c.self.view_is in
+    let n = ap (λ (u : PartialUnit). u.named) c.self.view_is in
+    let s = c.in-Some.shape in
+    let e = shape_here g p b.here.pair c.form_of.result c.context-context.result (option_map uleb_of c.self.inside.named) (Some s) b.pair_is n c.form_of.ensures k c.in-Some.ensures.shape in
+    let bytes = c.as_slice.ensures.value ∙ ap (λ (u : PartialUnit). u.pending) c.self.view_is in
+    let lim = c.behind-lim.ensures ∙ ap₂ lim_behind n c.left.ensures in
+    keeps_no_length g b.here b.named b.cut s e (carried (λ (o : Order) (bs : List ℕ) (l : ℕ). HasNoLength o s bs l) _ _ _ _ _ _ (ap (λ (x : Ctx). x.order) k) bytes lim (c.length_at.ensures.none none))

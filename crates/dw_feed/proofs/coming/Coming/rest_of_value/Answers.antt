@@ -21,7 +21,7 @@ pub returns-in-Some : goal.returns-in-Some
 returns-in-Some c = value_step c.args.self.now c.args.b.now (pair_of c.args.pair.now) c.loop-width.self c.loop-width.rest.now c.loop-width.invariant.at c.open.result c.open.new.self c.open.ensures
 
 pub returns-in-None : goal.returns-in-None
-returns-in-None c = value_wants c.args.self.now c.args.b.now (pair_of c.args.pair.now) c.loop-width.self c.loop-width.rest.now c.loop-width.invariant.at (nil_from_length c.loop-width.rest.now c.in-None.ensures.cases) c.loop-width.invariant.cut
+returns-in-None c = value_wants c.args.self.now c.args.b.now (pair_of c.args.pair.now) c.loop-width.self c.loop-width.rest.now c.loop-width.invariant.at (nil_from_length c.loop-width.rest.now c.in-None.ensures.cases) c.loop-width.invariant.cut (c.opening.ensures.waits c.in_default.is)
 
 pub give_front-requires-clause-next : goal.give_front-requires-clause-next
 give_front-requires-clause-next c =
