@@ -5,10 +5,10 @@
 #
 # Usage: scripts/misuse.sh [CLONE]
 #
-# Each is a small crate in a clone of this tree, over its libraries, of which `rt check` judges it. CLONE is one in which the libraries
-# stand and nothing runs, as scripts/wrong_bodies.py --clones leaves it; where there is none, one is made by scripts/clones.py, over what
-# the tree at hand kept, and is gone at the end. What passed isn't tried again while all that it stands on is the same. The last line counts
-# the callers that were judged rightly.
+# They are modules of a small crate in a clone of this tree, over its libraries: one check judges the sound ones, another
+# the others. CLONE is one in which the libraries stand and nothing runs, as scripts/wrong_bodies.py --clones leaves it;
+# where there is none, one is made by scripts/clones.py, over what the tree at hand kept, and is gone at the end. What
+# passed isn't tried again while all that it stands on is the same. The last line counts the callers that were judged rightly.
 set -euo pipefail
 clone=${1:+$(realpath -m "$1")}
 cd "$(dirname "$0")/.."
@@ -37,24 +37,39 @@ crate=$clone/crates/misuse
 mkdir -p "$crate/src"
 grep -q '^misuse:' "$clone/crates.txt" || echo "misuse: $libraries" >> "$clone/crates.txt"
 
-# Whether `rt check` takes this caller.
-passes() {
-    cp "misuse/$1.txt" "$crate/src/lib.rt"
+# Puts these callers into the crate, each as a module of its own, and lets `rt check` judge them all.
+check() {
+    rm -f "$crate"/src/*.rt
+    printf '//! Callers that use what was lent.\n#![tactic(auto)]\n\n' > "$crate/src/lib.rt"
+    for caller; do
+        grep -v '^#!\[tactic(auto)\]$' "misuse/$caller.txt" > "$crate/src/$caller.rt"
+        echo "pub mod $caller;" >> "$crate/src/lib.rt"
+    done
     (cd "$crate" && rt check) > "$scratch/answer" 2>&1
 }
 
-passed=0
-for pair in "an_entry unit" "an_entry section" "a_text strings"; do
-    read -r lent owner <<< "$pair"
-    echo "misuse: checking a caller that uses ${lent/_/ } before it drops its $owner"
-    if ! passes "${lent}_within_its_$owner"; then
+# What is lent of which owner, by the names of the callers' files.
+lent="an_entry:unit an_entry:section a_text:strings"
+sound="" unsound="" passed=0
+for each in $lent; do
+    sound+=" ${each%:*}_within_its_${each#*:}"
+    unsound+=" ${each%:*}_outlives_its_${each#*:}"
+done
+
+echo "misuse: checking the callers that use it before they drop its owner"
+if ! check $sound; then
+    cat "$scratch/answer"
+    stop "a sound counterpart was refused"
+fi
+echo "misuse: checking those that use it after they drop its owner"
+if check $unsound; then
+    stop "what outlives its owner was not refused"
+fi
+for each in $lent; do
+    caller=${each%:*}_outlives_its_${each#*:}
+    if ! grep -q "^src/$caller.rt:.*borrow-e0505.*\`${each#*:}\`" "$scratch/answer"; then
         cat "$scratch/answer"
-        stop "the sound counterpart was refused"
-    fi
-    echo "misuse: checking a caller that uses ${lent/_/ } after it drops its $owner"
-    if passes "${lent}_outlives_its_$owner" || ! grep -q "borrow-e0505.*\`$owner\`" "$scratch/answer"; then
-        cat "$scratch/answer"
-        stop "${lent/_/ } that outlives its $owner was not refused as such"
+        stop "$caller was not refused as such"
     fi
     passed=$((passed + 2))
 done

@@ -55,6 +55,15 @@ ONLY_NAMES = re.compile(r"has no field|is not in scope|has no `|was not admitted
 # The front end refuses a text, or the prover can't read it.
 UNREAD = re.compile(r"(?m)^(?:.*\berror\[|(?:\./)?(?:src|specs)/\S+:\d+:\d+: error: (?:(?!`[^`]*`: )|.*(?:is not in scope|has no field|is no name))).*$")
 
+# What a body calls, with the type that it is called by, or passes by its name.
+CALL = re.compile(r"(?:(\w+)::)?\b(\w+)(?:::<[^>]*>)?\(|(?<=[(,])\s*(?:\w+::)*(\w+)\s*(?=[,)])")
+
+# A round takes as long as it takes to prove so many functions, besides those that it proves.
+ROUND = 10
+
+# So often the edits are dealt out to rounds.
+PASSES = 4
+
 # So few rounds are tried without a library of their crate, where no other crate needs it.
 FEW_ROUNDS = 2
 
@@ -74,7 +83,8 @@ class Judged:
 
 @dataclass
 class Function:
-    """A function of a file: its path below the crate, the key of its proof (its name, or that of its cycle of calls), and its body."""
+    """A function of a file: its path below the crate, the key of its proof (its path, or its cycle of calls, and its name there where it
+    isn't the only one), and its body."""
 
     name: str
     key: str
@@ -167,8 +177,14 @@ def functions_in(crate, path, text):
         cycle = re.search(r"#\[cycle\((\w+)\)\]", text[text.rfind("\n\n", 0, match.start()) + 1 : match.start()])
         calls = r"\b(?:self\.|Self::)" if match[1] else r"(?<![\w.:])"
         itself = re.search(rf"{calls}({match[2]})\(", text[slice(*body)])
-        found.append(Function(name, f"+{(cycle or itself)[1]}" if cycle or itself else name, *body))
+        key = f"+{cycle[1]}::{match[2]}" if cycle else f"+{itself[1]}" if itself else name
+        found.append(Function(name, key, *body))
     return found
+
+
+@functools.lru_cache(maxsize=None)
+def all_functions(crate):
+    return [(path, it) for path in sources(crate) for it in functions_in(crate, path, text_of(crate, path))]
 
 
 def applied(crate, edits, count=None):
@@ -220,7 +236,7 @@ def find_functions(edit, named):
         edit.within |= {it.key for it in around[-1:]}
         edit.is_alone = edit.is_alone or not around
     if named:
-        keys = {it.name: it.key for path in sources(crate) for it in functions_in(crate, path, text_of(crate, path))}
+        keys = {it.name: it.key for _, it in all_functions(crate)}
         edit.functions = {it: keys.get(it, it) for it in named}
         edit.is_alone = False
     elif edit.is_alone:
@@ -230,18 +246,52 @@ def find_functions(edit, named):
 # ---- a round
 
 
+@functools.lru_cache(maxsize=None)
+def below(crate):
+    """By the names of the functions those that each calls, and that these call, as far as the text tells: it is planned by this, and nothing is judged."""
+    bodies = {it.name: text_of(crate, path)[it.begin : it.end] for path, it in all_functions(crate)}
+    named, calls = {}, {}
+    for name in bodies:
+        named.setdefault(name.rpartition("::")[2], []).append(name)
+    for name, body in bodies.items():
+        calls[name] = set()
+        for owner, called, passed in CALL.findall(body):
+            of_owner = f"{owner}::" if owner[:1].isupper() and owner != "Self" else ""
+            calls[name] |= {it for it in named.get(called or passed, []) if it.rpartition("::")[0].endswith(of_owner[:-2])}
+    for middle in bodies:
+        for its in calls.values():
+            its |= calls[middle] if middle in its else set()
+    return calls
+
+
+def again(crate, edits):
+    """The functions that a round proves again though none of the edits changes them: a changed one calls them, and they call a changed one."""
+    changed = {name for it in edits for name in it.functions}
+    called = set().union(*(below(crate).get(it, set()) for it in changed)) - changed
+    return [it for it in called if not changed.isdisjoint(below(crate)[it])]
+
+
+def cost(crate, edits):
+    """What a round costs besides the functions that its edits change, counted in functions that are proved."""
+    return ROUND + len(again(crate, edits)) if edits else 0
+
+
+def fits(crate, edits, edit):
+    """Whether an edit may go into this round."""
+    taken = set().union(*(it.keys() for it in edits))
+    is_alone = edit.is_alone or any(it.is_alone for it in edits)
+    return not edits or taken.isdisjoint(edit.keys()) and not is_alone and not applied(crate, [*edits, edit])[1]
+
+
 def plan(crate, edits):
-    """Rounds of edits, each of other proofs."""
+    """Rounds of edits, each of other proofs: few of them, in which few functions are proved again that no edit changes."""
     rounds = []
-    for edit in edits:
-        for others in rounds:
-            taken = set().union(*(it.keys() for it in others))
-            is_free = taken.isdisjoint(edit.keys()) and not applied(crate, [*others, edit])[1]
-            if is_free and not edit.is_alone and not others[0].is_alone:
-                others.append(edit)
-                break
-        else:
-            rounds.append([edit])
+    # (where one was put, another place may cost less when all have one)
+    for edit in edits * PASSES:
+        rounds = [others for others in ([it for it in some if it is not edit] for some in rounds) if others]
+        free = [*(it for it in rounds if fits(crate, it, edit)), []]
+        best = min(free, key=lambda it: cost(crate, [*it, edit]) - cost(crate, it))
+        rounds = [*(it for it in rounds if it is not best), [*best, edit]]
     return rounds
 
 
@@ -274,21 +324,25 @@ def put_text(path, text):
 
 def refusals(crate, said):
     """By the key of a proof the goals that are refused there, each with whether that says something of the contract."""
-    found = {}
-    for path, goal, why in PROOF_ERROR.findall(said):
-        *_, key = [path.replace("/", "::"), *re.findall(r"\+\w+", path)]
+    found, keys = {}, {it.key for _, it in all_functions(crate)}
+
+    def refuse(key, cycle, goal, is_real):
+        # (in a cycle of several functions a goal begins with the name of its own)
+        *_, key = [key, *cycle, *(it for it in (f"{one}::{goal.partition('-')[0]}" for one in cycle) if it in keys)]
         goals = found.setdefault(key, {})
-        goals[goal] = goals.get(goal, False) or not ONLY_NAMES.search(why)
+        goals[goal] = goals.get(goal, False) or is_real
+
+    for path, goal, why in PROOF_ERROR.findall(said):
+        refuse(path.replace("/", "::"), re.findall(r"\+\w+", path), goal, not ONLY_NAMES.search(why))
     # (an edit is one line for one, so the lines are the file's own)
     for path, line, goal in LEFT.findall(said):
         text = text_of(crate, path)
         at = len("".join(text.splitlines(True)[: int(line)]))
         keys = [it.key for it in functions_in(crate, path, text) if at <= it.end + 2][:1]
-        found.setdefault([*keys, path][0], {})[goal] = True
+        refuse([*keys, path][0], [], goal, True)
     for name, _, rest in VERDICT.findall(said):
-        *_, key = [name, *re.findall(r"expected answers in \S*/(\+\w+)/", rest)]
-        for goals in NO_PROOF_FOUND.findall(rest):
-            found.setdefault(key, {}).update(dict.fromkeys(re.findall(r"`([^`]+)`", goals), True))
+        for goal in re.findall(r"`([^`]+)`", " ".join(NO_PROOF_FOUND.findall(rest))):
+            refuse(name, re.findall(r"expected answers in \S*/(\+\w+)/", rest), goal, True)
     return found
 
 
