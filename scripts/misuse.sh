@@ -23,7 +23,7 @@ scratch=$(mktemp -d)
 trap 'rm -rf "$scratch"' EXIT
 trap 'exit 1' INT TERM HUP
 
-sum=$( (scripts/clones.py sum $libraries && cat "$0" misuse/*.txt) | sha256sum | cut -d ' ' -f 1) || exit 1
+sum=$( (scripts/clones.py sum $libraries && cat scripts/misuse.sh misuse/*.txt) | sha256sum | cut -d ' ' -f 1) || exit 1
 kept=${XDG_CACHE_HOME:-${HOME:-/tmp}/.cache}/misuse/$sum
 if [ -f "$kept" ]; then
     cat "$kept"

@@ -264,16 +264,17 @@ def below(crate):
     return calls
 
 
-def again(crate, edits):
-    """The functions that a round proves again though none of the edits changes them: a changed one calls them, and they call a changed one."""
+def again(crate, edits, is_built=True):
+    """The functions that a round proves though none of its edits changes them: those that a changed one calls, and where the library of the crate
+    is built those of them alone that call a changed one."""
     changed = {name for it in edits for name in it.functions}
     called = set().union(*(below(crate).get(it, set()) for it in changed)) - changed
-    return [it for it in called if not changed.isdisjoint(below(crate)[it])]
+    return [it for it in called if not is_built or not changed.isdisjoint(below(crate)[it])]
 
 
-def cost(crate, edits):
+def cost(crate, edits, is_built):
     """What a round costs besides the functions that its edits change, counted in functions that are proved."""
-    return ROUND + len(again(crate, edits)) if edits else 0
+    return ROUND + len(again(crate, edits, is_built)) if edits else 0
 
 
 def fits(crate, edits, edit):
@@ -283,14 +284,14 @@ def fits(crate, edits, edit):
     return not edits or taken.isdisjoint(edit.keys()) and not is_alone and not applied(crate, [*edits, edit])[1]
 
 
-def plan(crate, edits):
-    """Rounds of edits, each of other proofs: few of them, in which few functions are proved again that no edit changes."""
+def plan(crate, edits, is_built=True):
+    """Rounds of edits, each of other proofs: few of them, in which few functions are proved that no edit changes."""
     rounds = []
     # (where one was put, another place may cost less when all have one)
     for edit in edits * PASSES:
         rounds = [others for others in ([it for it in some if it is not edit] for some in rounds) if others]
         free = [*(it for it in rounds if fits(crate, it, edit)), []]
-        best = min(free, key=lambda it: cost(crate, [*it, edit]) - cost(crate, it))
+        best = min(free, key=lambda it: cost(crate, [*it, edit], is_built) - cost(crate, it, is_built))
         rounds = [*(it for it in rounds if it is not best), [*best, edit]]
     return rounds
 
@@ -441,13 +442,13 @@ class Work:
                 put_text(self.place(edit), edit.what)
 
 
-def try_crate(work, clone, logs, as_built):
+def try_crate(work, clone, logs, as_built, is_built):
     """Tries the edits of a crate that aren't judged yet, in a clone in which the libraries below it stand. `as_built` puts back what its
-    own library kept."""
+    own library kept, if that is built."""
     judged = Judged(work.crate.name, work.crate.path(clone), logs)
     for edit in work.edits:
         edit.crate = judged
-    rounds = plan(judged, work.to_try())
+    rounds = plan(judged, work.to_try(), is_built)
     for number, some in enumerate(rounds):
         if number:
             as_built()
@@ -576,7 +577,7 @@ def try_apart(one, kept, libraries, logs, rooms):
     room = rooms.get()
     try:
         room.take(kept, libraries)
-        try_crate(one, room.folder, logs, lambda: room.take_again(kept, one.crate))
+        try_crate(one, room.folder, logs, lambda: room.take_again(kept, one.crate), one.crate in libraries)
         room.take_again(kept, one.crate)
     finally:
         rooms.put(room)
@@ -585,7 +586,7 @@ def try_apart(one, kept, libraries, logs, rooms):
 def libraries_for(work):
     """The crates whose libraries are built first: those below, and those of many rounds, which then begin over what that kept."""
     below = [it for one in work for it in one.crate.below]
-    of_many = [one.crate for one in work if len(plan(one.edits[0].crate, one.to_try())) > FEW_ROUNDS]
+    of_many = [one.crate for one in work if len(plan(one.edits[0].crate, one.to_try(), is_built=False)) > FEW_ROUNDS]
     return [it for it in clones.with_all_below([it.crate for it in work]) if it in below or it in of_many]
 
 
