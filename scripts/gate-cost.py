@@ -10,8 +10,8 @@ docs/proving.md holds one. The status is the command's.
 Whole commands are timed and nothing else: `.ci/run` tells what each step took, and `scripts/wrong_bodies.py` what each `rt lib` took and
 the checks of each crate's rounds. What `rt ci` does of one crate (its proofs, its tests, its must-fail edits, its programs) isn't told apart.
 
-Before it, the yardstick is measured: `rt lib` of dw_leb, from nothing with nothing beside it. The sum is told as it is and by the
-yardstick, that is divided by how much longer dw_leb took than its YARDSTICK minutes.
+Before it and behind it, the yardstick is measured: `rt lib` of dw_leb, from nothing with nothing beside it. The sum is told as it is and by the
+yardstick, that is divided by how much longer dw_leb took than its YARDSTICK minutes, in the mean of both: a machine may change while it runs.
 """
 
 import glob
@@ -93,11 +93,13 @@ def processor():
 
 def main():
     os.chdir(clones.TOP)
-    stick = yardstick()
+    before = yardstick()
     whole, passed, status, lines = minutes_of(sys.argv[1:] or [".ci/run"], ".")
     print_table(lines)
+    after = yardstick()
+    stick = (before + after) / 2
     print(f"| all | **{whole:.1f}** | {passed:.1f} |\n\nOn {len(os.sched_getaffinity(0))} processors ({processor()}).")
-    print(f"The library of dw_leb took {stick:.2f} minutes alone, {stick / YARDSTICK:.2f} times the yardstick; by that all took {whole * YARDSTICK / stick:.1f}.")
+    print(f"The library of dw_leb took {before:.2f} minutes alone before it and {after:.2f} behind it, {stick / YARDSTICK:.2f} times the yardstick; by that all took {whole * YARDSTICK / stick:.1f}.")
     return status
 
 
