@@ -59,7 +59,7 @@ UNREAD = re.compile(r"(?m)^(?:.*\berror\[|(?:\./)?(?:src|specs)/\S+:\d+:\d+: err
 CALL = re.compile(r"(?:(\w+)::)?\b(\w+)(?:::<[^>]*>)?\(|(?<=[(,])\s*(?:\w+::)*(\w+)\s*(?=[,)])")
 
 # A round takes as long as it takes to prove so many functions, besides those that it proves.
-ROUND = 10
+ROUND = 15
 
 # So often the edits are dealt out to rounds.
 PASSES = 4
