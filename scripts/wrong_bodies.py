@@ -325,11 +325,11 @@ def put_text(path, text):
 
 def refusals(crate, said):
     """By the key of a proof the goals that are refused there, each with whether that says something of the contract."""
-    found, keys = {}, {it.key for _, it in all_functions(crate)}
+    found, known = {}, {it.key for _, it in all_functions(crate)}
 
     def refuse(key, cycle, goal, is_real):
         # (in a cycle of several functions a goal begins with the name of its own)
-        *_, key = [key, *cycle, *(it for it in (f"{one}::{goal.partition('-')[0]}" for one in cycle) if it in keys)]
+        *_, key = [key, *cycle, *(it for it in (f"{one}::{goal.partition('-')[0]}" for one in cycle) if it in known)]
         goals = found.setdefault(key, {})
         goals[goal] = goals.get(goal, False) or is_real
 
@@ -339,8 +339,8 @@ def refusals(crate, said):
     for path, line, goal in LEFT.findall(said):
         text = text_of(crate, path)
         at = len("".join(text.splitlines(True)[: int(line)]))
-        keys = [it.key for it in functions_in(crate, path, text) if at <= it.end + 2][:1]
-        refuse([*keys, path][0], [], goal, True)
+        around = [it.key for it in functions_in(crate, path, text) if at <= it.end + 2][:1]
+        refuse([*around, path][0], [], goal, True)
     for name, _, rest in VERDICT.findall(said):
         for goal in re.findall(r"`([^`]+)`", " ".join(NO_PROOF_FOUND.findall(rest))):
             refuse(name, re.findall(r"expected answers in \S*/(\+\w+)/", rest), goal, True)
