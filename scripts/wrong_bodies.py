@@ -291,7 +291,8 @@ def plan(crate, edits, is_built=True):
     for edit in edits * PASSES:
         rounds = [others for others in ([it for it in some if it is not edit] for some in rounds) if others]
         free = [*(it for it in rounds if fits(crate, it, edit)), []]
-        best = min(free, key=lambda it: cost(crate, [*it, edit], is_built) - cost(crate, it, is_built))
+        # (one large round takes less time than the same bodies in two)
+        best = min(free, key=lambda it: (cost(crate, [*it, edit], is_built) - cost(crate, it, is_built), -len(it)))
         rounds = [*(it for it in rounds if it is not best), [*best, edit]]
     return rounds
 
