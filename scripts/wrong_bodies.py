@@ -2,23 +2,28 @@
 """Tries wrong bodies in rounds, many of them in one check: the prover has to refuse each.
 
 Usage: scripts/wrong_bodies.py [NAME..] [--must-fail] [--edit EDIT] [--from-nothing] [--clones FOLDER] [--side-by-side N] [--anew]
-                               [--cache FOLDER] [--logs FOLDER]
+                               [--cache FOLDER] [--logs FOLDER] [--unchanged]
 
 A wrong body is a file crates/NAME/wrong/*.edit (with --must-fail crates/NAME/must-fail/*.edit too): lines `file: src/a.rt`, and then
 pairs `old: TEXT` and `new: TEXT`, where TEXT stands in that file exactly once. Where no body holds the text, a line `fn: a::T::f ..` names
 what is checked, all whose proofs the edit can change; without one it is tried alone, over the whole crate. A line `clause: GOAL` names a goal that
 has to be among the refused ones.
 
-The goals of a function stand on the contracts of what it calls, and not on the bodies. So a round changes the bodies of many functions, at
-most one each, and one `rt check` tells what is refused of each function. An edit passes where a goal of
-its own function is refused. It fails where the function is proved (NOT REFUSED); where only a callee is refused, or nothing is told (NOT
-TRIED); where its proof file just names what the edit took away, or another goal than `clause:` is refused (WEAK); and where it
-can't be applied or compiled (BAD EDIT). A line is printed for each, with the function and the goals.
+The goals of a function stand on the contracts of what it calls, and not on the bodies. So a wrong body stands beside the right one, in a copy of the
+function that has its contract, its attributes and its proof files, and a name of its own: nothing calls the copy, so nothing else is proved anew. What can't
+be copied (a function of a trait or of a cycle of calls, and what stands in no body) is changed in its place, at most one body a function in a
+round. One `rt check` tells what is refused of each function of a round. An edit passes where a goal of its own function is refused. It fails where
+the function is proved (NOT REFUSED); where only a callee is refused, or nothing is told (NOT TRIED); where its proof file just names what the edit took
+away, or another goal than `clause:` is refused (WEAK); and where it can't be applied or compiled (BAD EDIT). A line is printed for each, with the
+function and the goals.
 
 The rounds work in clones of the tree at hand (scripts/clones.py), and never in the tree itself. The libraries are built in one of them, over
 what `rt lib` and `rt check` kept in the tree at hand, where nothing may run then; with --from-nothing all is proved anew. A crate is
 tried in another clone, as soon as the libraries stand that it needs. The clones are gone at the end, unless --clones names the folder that they
 are made in.
+
+With --unchanged each function that would be changed in a copy is copied as it is, once, and passes where the copy is proved. So it shows that a copy
+is refused for its body alone.
 
 What passed is kept by a sum of all that it stands on, and not tried again without --anew. The last line is `N passed, M failed`, and the
 status is 0 where none failed and some passed, else 1.
@@ -51,7 +56,7 @@ LEFT = re.compile(r"(?m)^note: (src/\S+):(\d+):\d+: (?:it is not proved that|`\w
 NO_PROOF_FOUND = re.compile(r"`search` did not prove (`[^`]+`(?:, `[^`]+`)*)")
 NO_FUNCTION = re.compile(r"(?m)^rattle: error: .*`(\S+)`: help: write the name that a check prints.*$")
 # The proof file names what is gone, or cites what is refused: that says nothing of the contract.
-ONLY_NAMES = re.compile(r"has no field|is not in scope|has no `|was not admitted|that depends? on ")
+ONLY_NAMES = re.compile(r"has no field|is not in scope|has no `|was not admitted|that depends? on |is private to ")
 # The front end refuses a text, or the prover can't read it.
 UNREAD = re.compile(r"(?m)^(?:.*\berror\[|(?:\./)?(?:src|specs)/\S+:\d+:\d+: error: (?:(?!`[^`]*`: )|.*(?:is not in scope|has no field|is no name))).*$")
 
@@ -84,12 +89,15 @@ class Judged:
 @dataclass
 class Function:
     """A function of a file: its path below the crate, the key of its proof (its path, or its cycle of calls, and its name there where it
-    isn't the only one), and its body."""
+    isn't the only one), where it begins with its docs, where its name ends, where its body begins and ends, and whether it can be copied."""
 
     name: str
     key: str
+    first: int
+    named: int
     begin: int
     end: int
+    can_be_copied: bool
 
 
 @dataclass
@@ -105,12 +113,14 @@ class Edit:
     functions: dict = field(default_factory=dict)
     # The keys of the functions in which it stands, as this script names them: rattle's names, in `functions`, may be others.
     within: set = field(default_factory=set)
+    # The functions that it changes in copies, by their names, each with its file.
+    copied: dict = field(default_factory=dict)
     is_alone: bool = False
     kind: str = ""
     what: str = ""
 
     def __str__(self):
-        return f"{self.crate.name} {self.name}: {' '.join(self.functions) or 'the crate'}: {self.kind}{self.what}"
+        return f"{self.crate.name} {self.name}: {' '.join(self.copied or self.functions) or 'the crate'}: {self.kind}{self.what}"
 
     def set(self, kind, what=""):
         self.kind, self.what = kind, what
@@ -118,6 +128,10 @@ class Edit:
     def keys(self):
         """The proofs of what it changes."""
         return self.within.union(self.functions.values())
+
+    def in_place(self):
+        """The functions that it changes where they stand."""
+        return set() if self.copied else set(self.functions)
 
 
 # ---- where an edit stands
@@ -154,6 +168,16 @@ def owner_of(crate, path, head):
     return [*module_of([*homes, path][0]), "".join([*name, *last_word(trait), *(last_word(given[1]) if given else [])])]
 
 
+def first_of(text, at):
+    """Where that begins of which the line at `at` is the last: with its docs and its attributes, on lines of their own."""
+    while at:
+        before = text.rfind("\n", 0, at - 1) + 1
+        if not text[before:at].lstrip().startswith(("//", "#[")):
+            break
+        at = before
+    return at
+
+
 def body_of(text, match):
     """Where the body of a function begins and ends, if it has one."""
     end = re.compile(rf"(?m)^{match[1]}}}$").search(text, match.end())
@@ -174,11 +198,13 @@ def functions_in(crate, path, text):
         heads = [None, *OWNER.finditer(text, 0, match.start())]
         owner = owner_of(crate, path, heads[-1]) if match[1] else module_of(path)
         name = "::".join([*owner, match[2]])
-        cycle = re.search(r"#\[cycle\((\w+)\)\]", text[text.rfind("\n\n", 0, match.start()) + 1 : match.start()])
+        first = first_of(text, match.start())
+        cycle = re.search(r"#\[cycle\((\w+)\)\]", text[first : match.start()])
         calls = r"\b(?:self\.|Self::)" if match[1] else r"(?<![\w.:])"
         itself = re.search(rf"{calls}({match[2]})\(", text[slice(*body)])
         key = f"+{cycle[1]}::{match[2]}" if cycle else f"+{itself[1]}" if itself else name
-        found.append(Function(name, key, *body))
+        is_of_trait = match[1] and heads[-1] and (heads[-1][2] or " for " in heads[-1][1])
+        found.append(Function(name, key, first, match.end(2), *body, key == name and not is_of_trait))
     return found
 
 
@@ -198,6 +224,45 @@ def applied(crate, edits, count=None):
             return {}, f": an old: text is in {path} {text.count(old)} times and not once, or nothing is changed"
         texts[path] = text.replace(old, new)
     return texts, "" if texts else ": it has no old: and new: pair"
+
+
+def texts_with(crate, edits):
+    """The texts of all files that a round changes or makes: what its edits change in place, and what they change in copies."""
+    texts = applied(crate, [it for it in edits if not it.copied])[0]
+    copies = {}
+    for edit in edits:
+        for name, path in edit.copied.items():
+            copies.setdefault(path, {}).setdefault(name, []).append(copy_of(crate, edit, path, name))
+            texts |= proofs_of_copy(crate, edit, name)
+    for path, of_file in copies.items():
+        text = texts.get(path) or text_of(crate, path)
+        for it in reversed(functions_in(crate, path, text)):
+            at = behind(text, it)
+            text = text[:at] + "".join(f"\n{one}" for one in of_file.get(it.name, [])) + text[at:]
+        texts[path] = text
+    return texts
+
+
+def copy_of(crate, edit, path, name):
+    """The text of a function as the edit changes it, under a name of its own."""
+    text = applied(crate, [edit])[0].get(path) or text_of(crate, path)
+    it = next(it for it in functions_in(crate, path, text) if it.name == name)
+    return f"{text[it.first : it.named]}_{edit.name}{text[it.named : behind(text, it)]}"
+
+
+def behind(text, function):
+    """Where the line behind a function begins."""
+    return text.find("\n", function.end) + 1
+
+
+def proofs_of_copy(crate, edit, name):
+    """The proof files of a function, for its copy."""
+    folder, found = f"proofs/{name.replace('::', '/')}", {}
+    for path in (f"{folder}/{it}.antt" for it in ("Answers", "Invariants", "Proof")):
+        if os.path.isfile(f"{crate.folder}/{path}"):
+            module = folder.replace("/", ".")
+            found[path.replace(folder, f"{folder}_{edit.name}")] = text_of(crate, path).replace(f".{module}.", f".{module}_{edit.name}.")
+    return found
 
 
 def read(crate, file):
@@ -227,7 +292,7 @@ def read(crate, file):
 
 def find_functions(edit, named):
     """Sets the functions that an edit changes, or those that it names."""
-    crate = edit.crate
+    crate, copied = edit.crate, {}
     for count, (path, old, _) in enumerate(edit.pairs):
         text = applied(crate, [edit], count)[0].get(path) or text_of(crate, path)
         at = text.find(old)
@@ -235,7 +300,12 @@ def find_functions(edit, named):
         edit.functions |= {it.name: it.key for it in around[-1:]}
         edit.within |= {it.key for it in around[-1:]}
         edit.is_alone = edit.is_alone or not around
-    if named:
+        copied |= {it.name: path for it in around[-1:] if it.can_be_copied}
+    if not named and not edit.is_alone and copied.keys() == edit.functions.keys():
+        edit.copied = copied
+        edit.within = {f"{it}_{edit.name}" for it in copied}
+        edit.functions = {it: it for it in edit.within}
+    elif named:
         keys = {it.name: it.key for _, it in all_functions(crate)}
         edit.functions = {it: keys.get(it, it) for it in named}
         edit.is_alone = False
@@ -265,10 +335,10 @@ def below(crate):
 
 
 def again(crate, edits, is_built=True):
-    """The functions that a round proves though none of its edits changes them: those that a changed one calls, and where the library of the crate
-    is built those of them alone that call a changed one."""
-    changed = {name for it in edits for name in it.functions}
-    called = set().union(*(below(crate).get(it, set()) for it in changed)) - changed
+    """The functions that a round proves though none of its edits changes them: those that a changed one or a copy calls, and where the library of
+    the crate is built those of them alone that call one that is changed in its place."""
+    changed = set().union(*(it.in_place() for it in edits))
+    called = set().union(*(below(crate).get(name, set()) for it in edits for name in it.copied or it.functions)) - changed
     return [it for it in called if not is_built or not changed.isdisjoint(below(crate)[it])]
 
 
@@ -281,7 +351,8 @@ def fits(crate, edits, edit):
     """Whether an edit may go into this round."""
     taken = set().union(*(it.keys() for it in edits))
     is_alone = edit.is_alone or any(it.is_alone for it in edits)
-    return not edits or taken.isdisjoint(edit.keys()) and not is_alone and not applied(crate, [*edits, edit])[1]
+    in_place = [it for it in edits if not it.copied]
+    return not edits or taken.isdisjoint(edit.keys()) and not is_alone and bool(edit.copied or not in_place or not applied(crate, [*in_place, edit])[1])
 
 
 def plan(crate, edits, is_built=True):
@@ -299,8 +370,8 @@ def plan(crate, edits, is_built=True):
 
 def check(crate, edits):
     """What `rt check` says of the crate with these edits, and its status. The crate's files are then as they were."""
-    texts = applied(crate, edits)[0]
-    before = {path: text_of(crate, path) for path in texts}
+    texts = texts_with(crate, edits)
+    before = {path: text_of(crate, path) if os.path.isfile(f"{crate.folder}/{path}") else None for path in texts}
     only = [word for name in sorted({name for it in edits for name in it.functions}) for word in ("--only", name)]
     try:
         put(crate, texts)
@@ -315,8 +386,14 @@ def check(crate, edits):
 
 
 def put(crate, texts):
+    """Writes files, or where there is no text takes them and their folder away."""
     for path, text in texts.items():
-        put_text(f"{crate.folder}/{path}", text)
+        file = f"{crate.folder}/{path}"
+        if text is None:
+            shutil.rmtree(os.path.dirname(file), ignore_errors=True)
+        else:
+            os.makedirs(os.path.dirname(file), exist_ok=True)
+            put_text(file, text)
 
 
 def put_text(path, text):
@@ -324,8 +401,8 @@ def put_text(path, text):
         file.write(text)
 
 
-def refusals(crate, said):
-    """By the key of a proof the goals that are refused there, each with whether that says something of the contract."""
+def refusals(crate, said, texts):
+    """By the key of a proof the goals that are refused there, each with whether that says something of the contract. These texts were checked."""
     found, known = {}, {it.key for _, it in all_functions(crate)}
 
     def refuse(key, cycle, goal, is_real):
@@ -335,10 +412,9 @@ def refusals(crate, said):
         goals[goal] = goals.get(goal, False) or is_real
 
     for path, goal, why in PROOF_ERROR.findall(said):
-        refuse(path.replace("/", "::"), re.findall(r"\+\w+", path), goal, not ONLY_NAMES.search(why))
-    # (an edit is one line for one, so the lines are the file's own)
+        refuse(path.replace("/", "::"), re.findall(r"\+\w+", path), goal, bool(goal) and not ONLY_NAMES.search(why))
     for path, line, goal in LEFT.findall(said):
-        text = text_of(crate, path)
+        text = texts.get(path) or text_of(crate, path)
         at = len("".join(text.splitlines(True)[: int(line)]))
         around = [it.key for it in functions_in(crate, path, text) if at <= it.end + 2][:1]
         refuse([*around, path][0], [], goal, True)
@@ -402,7 +478,7 @@ def halves(edits):
 
 def judge_all(crate, edits, said):
     """Judges the edits of a round, and returns the rounds that have to follow."""
-    refused = refusals(crate, said)
+    refused = refusals(crate, said, texts_with(crate, edits))
     for edit in edits:
         judge(edit, said, refused)
     # Where a function that no edit changes has a refused goal of its own, an edit reaches further than its body.
@@ -433,13 +509,13 @@ class Work:
         return [it for it in self.edits if not it.kind]
 
     def take_kept(self):
-        for edit in self.edits:
+        for edit in self.edits if self.cache else []:
             if not edit.kind and os.path.isfile(self.place(edit)):
                 edit.set(REFUSED, clones.text_of(self.place(edit)))
 
     def keep(self, edits):
         for edit in edits:
-            if edit.kind == REFUSED:
+            if self.cache and edit.kind == REFUSED:
                 put_text(self.place(edit), edit.what)
 
 
@@ -459,23 +535,43 @@ def try_crate(work, clone, logs, as_built, is_built):
     print("\n".join([*map(str, work.edits), spent]), flush=True)
 
 
+# A crate of this script's own: its functions, by their bodies, and the proof file of the one with a loop.
+OWN = {"low": "n", "high": "low(n)", "highest": "high(n)", "apart": "let m = n; m", "counted": "let mut m = 0; while m < n { m += 1; } m"}
+OWN_LOOP = """use Rattle.std.proofs.Common.{◌≤◌, ◌-◌}
+use Rattle.own.proofs.counted.Given as goal
+
+abbrev pub invariant-loop-m : goal.invariant-loop-m
+invariant-loop-m l = l.m ≤ l.n
+
+abbrev pub decreases-loop-m : goal.decreases-loop-m
+decreases-loop-m l = l.n - l.m
+"""
+
+# Its edits, each with whether it has to be refused: a wrong body in a copy and one in its place, a body that means the same and calls a wrong one, and
+# two copies that mean the same, one of them with a proof file.
+OWN_EDITS = {
+    "low": ("old:     n\nnew:     1\n", REFUSED),
+    "low_in_place": ("fn: low\nold:     n\nnew:     2\n", REFUSED),
+    "high_in_place": ("fn: high\nold: low(n)\nnew: let n = low(n); n\n", ACCEPTED),
+    "apart": ("old: let m = n; m\nnew: n\n", ACCEPTED),
+    "counted": ("old: m += 1;\nnew: m = m + 1;\n", ACCEPTED),
+}
+
+
 def fails_itself(folder):
-    """Tries a crate of this script's own: a wrong body, one that means the same, and one that means the same and calls the wrong one. Only
-    the first may be refused, and not what stands above it unchanged. Returns what went otherwise."""
+    """Tries the crate of this script's own. Returns what went otherwise than it has to."""
     text = "//! Tried.\n#![tactic(auto)]\n\nghost use Rattle.std.specs.Prelude.{◌≡◌};\n"
-    for name, body in {"low": "n", "high": "low(n)", "highest": "high(n)", "apart": "let m = n; m"}.items():
+    for name, body in OWN.items():
         text += f"\npub fn {name}(n: u8) -> u8\n    ensures {{ result ≡ n }}\n{{\n    {body}\n}}\n"
-    os.makedirs(f"{folder}/crates/own/src")
-    files = {"crates.txt": "own:\n", "crates/own/src/lib.rt": text}
-    for name, old, new in (("low", "    n", "    1"), ("high", "    low(n)", "    let n = low(n); n"), ("apart", "let m = n; m", "n")):
-        files[f"{name}.edit"] = f"file: src/lib.rt\nold: {old}\nnew: {new}\n"
-    for path, content in files.items():
-        put_text(f"{folder}/{path}", content)
     crate = Judged("own", f"{folder}/crates/own")
-    edits = [read(crate, f"{folder}/{it}.edit") for it in ("low", "high", "apart")]
+    put(crate, {"../../crates.txt": "own:\n", "src/lib.rt": text, "proofs/counted/Invariants.antt": OWN_LOOP})
+    edits = []
+    for name, (lines, _) in OWN_EDITS.items():
+        put_text(f"{folder}/{name}.edit", f"file: src/lib.rt\n{lines}")
+        edits.append(read(crate, f"{folder}/{name}.edit"))
     for some in plan(crate, edits):
         try_round(crate, some)
-    return "" if [it.kind for it in edits] == [REFUSED, ACCEPTED, ACCEPTED] else "\n".join(map(str, edits))
+    return "" if [it.kind for it in edits] == [kind for _, kind in OWN_EDITS.values()] else "\n".join(map(str, edits))
 
 
 # ---- all of them
@@ -492,6 +588,7 @@ def asked():
     ask.add_argument("--anew", action="store_true", help="try what passed before, too")
     ask.add_argument("--cache", default=f"{os.environ.get('XDG_CACHE_HOME') or os.path.expanduser('~/.cache')}/wrong_bodies")
     ask.add_argument("--logs", default="", help="a folder for what each check says")
+    ask.add_argument("--unchanged", action="store_true", help="copy the functions as they are, which has to be proved")
     return ask.parse_args()
 
 
@@ -507,11 +604,23 @@ def work_in(top, given):
         found |= {os.path.basename(it).removesuffix(".edit") for it in files}
         if files:
             edits = [read(Judged(name, crate.path(top)), it) for it in files]
+            edits = unchanged(edits) if given.unchanged else edits
             work.append(Work(crate, files, edits, given.cache, clones.sum_of(top, [crate]) + scripts))
     for name in given.edit:
         if name not in found:
             raise Stop(f"there is no edit {name}")
     return work
+
+
+def unchanged(edits):
+    """Of the edits that change copies one for each function, which then changes nothing."""
+    found, seen = [], set()
+    for edit in edits:
+        if edit.copied.keys() - seen:
+            seen |= edit.copied.keys()
+            edit.pairs = []
+            found.append(edit)
+    return found
 
 
 def try_all(work, folder, given):
@@ -593,6 +702,7 @@ def libraries_for(work):
 
 def main():
     given = asked()
+    given.cache, right = ("", ACCEPTED) if given.unchanged else (given.cache, REFUSED)
     for folder in filter(None, (given.cache, given.logs)):
         os.makedirs(folder, exist_ok=True)
     work = work_in(clones.TOP, given)
@@ -608,10 +718,10 @@ def main():
         with clones.folder_for_clones(given.clones) as folder:
             wrong = try_all(pending, folder, given)
     kinds = [edit.kind for one in work for edit in one.edits]
-    failed = len(kinds) - kinds.count(REFUSED) + bool(wrong)
+    failed = len(kinds) - kinds.count(right) + bool(wrong)
     if wrong:
         print(f"the self-test failed, so nothing of this counts:\n{wrong}")
-    print(f"{kinds.count(REFUSED)} passed, {failed} failed")
+    print(f"{kinds.count(right)} passed, {failed} failed")
     return 1 if failed or not kinds else 0
 
 

@@ -41,7 +41,11 @@ fn print(alloc: Global, input: &str, text: &mut String) -> Result<(), CaseError>
 fn print_decl(alloc: Global, input: &str, text: &mut String) -> Result<(), CaseError> {
     allow(input, &["debug", "pair"])?;
     let mut decl = decl_of(alloc, words(input, "debug")?)?;
-    put_pairs(&mut decl, input, text)?;
+    print_with_pairs(&mut decl, input, text)
+}
+
+fn print_with_pairs(decl: &mut Decl, input: &str, text: &mut String) -> Result<(), CaseError> {
+    put_pairs(decl, input, text)?;
     Ok(write!(text, "{decl:?}")?)
 }
 
@@ -50,33 +54,55 @@ fn print_lines(alloc: Global, input: &str, text: &mut String) -> Result<(), Case
     allow(input, &["debug-lines", "pair"])?;
     let mut decl = decl_of(alloc, words(input, "debug-lines")?)?;
     put_pairs(&mut decl, input, text)?;
+    append_lines(&decl, alloc, text)
+}
+
+fn append_lines(decl: &Decl, alloc: Global, text: &mut String) -> Result<(), CaseError> {
     let printed = format!(in alloc; "{decl:#?}")?;
-    for line in printed.as_str().lines() {
+    append_each_line(printed.as_str(), text)
+}
+
+fn append_each_line(printed: &str, text: &mut String) -> Result<(), CaseError> {
+    for line in printed.lines() {
         write!(text, "{line}|")?;
     }
     Ok(())
 }
 
 fn print_table(alloc: Global, input: &str, text: &mut String) -> Result<(), CaseError> {
-    let table = built(alloc, input, text)?;
+    append_debug(&built(alloc, input, text)?, text)
+}
+
+fn append_debug(table: &Table, text: &mut String) -> Result<(), CaseError> {
     Ok(write!(text, "{table:?}")?)
 }
 
 fn print_builder(alloc: Global, input: &str, text: &mut String) -> Result<(), CaseError> {
     let mut builder = TableBuilder::new(alloc);
-    add_all(alloc, input, &mut builder, text)?;
+    print_with_decls(alloc, input, &mut builder, text)
+}
+
+fn print_with_decls(
+    alloc: Global,
+    input: &str,
+    builder: &mut TableBuilder,
+    text: &mut String,
+) -> Result<(), CaseError> {
+    add_all(alloc, input, builder, text)?;
     Ok(write!(text, "{builder:?}")?)
 }
 
 /// `1 0x11 no 1 1`: a code, a tag, whether there are children, and the widths of the zeros.
 fn decl_of(alloc: Global, words: &str) -> Result<Decl, CaseError> {
-    let mut words = words.split_whitespace();
-    let code = uleb_of(words.next().unwrap_or(""))?;
-    let tag = uleb_of(words.next().unwrap_or(""))?;
-    let children = words.next() == Some("yes");
-    let first = small_of(words.next().unwrap_or(""))?;
-    let second = small_of(words.next().unwrap_or(""))?;
-    Ok(Decl::new(alloc, code, tag, children, (first, second))?)
+    let code = uleb_of(word_at(words, 0))?;
+    let tag = uleb_of(word_at(words, 1))?;
+    let children = word_at(words, 2) == "yes";
+    let zeros = (small_of(word_at(words, 3))?, small_of(word_at(words, 4))?);
+    Ok(Decl::new(alloc, code, tag, children, zeros)?)
+}
+
+fn word_at(words: &str, index: usize) -> &str {
+    words.split_whitespace().nth(index).unwrap_or("")
 }
 
 /// Puts the pairs of the case, and says which ones are refused.
@@ -160,16 +186,15 @@ fn add_words(
 /// `1 0x11 no 1 1 with 3 of 3 8`: a declaration with three pairs.
 fn decl_with_pairs(alloc: Global, words: &str) -> Result<Decl, CaseError> {
     let (head, pairs) = words.split_once(" with ").unwrap_or((words, "0 of "));
-    let (count, pair) = pairs.split_once(" of ").ok_or(CaseError::NoSuchCase)?;
-    let count = number_of(count)?;
     let mut decl = decl_of(alloc, head)?;
-    put_often(&mut decl, pair, count)?;
+    put_often(&mut decl, pairs)?;
     Ok(decl)
 }
 
 /// Puts the same pair so often.
-fn put_often(decl: &mut Decl, pair: &str, count: u64) -> Result<(), CaseError> {
-    for _ in 0..count {
+fn put_often(decl: &mut Decl, pairs: &str) -> Result<(), CaseError> {
+    let (count, pair) = pairs.split_once(" of ").ok_or(CaseError::NoSuchCase)?;
+    for _ in 0..number_of(count)? {
         put(decl, pair)?;
     }
     Ok(())
@@ -195,11 +220,26 @@ fn add_each(
     builder: &mut TableBuilder,
     text: &mut String,
 ) -> Result<(), CaseError> {
-    let (first, last) = words.split_once(' ').ok_or(CaseError::NoSuchCase)?;
-    for code in number_of(first)?..number_of(last)?.saturating_add(1) {
-        add(one_pair(alloc, code)?, builder, text)?;
+    let (first, behind) = codes_of(words)?;
+    for code in first..behind {
+        add_one(alloc, code, builder, text)?;
     }
     Ok(())
+}
+
+/// `1 400`: the first of some codes, and the one behind the last.
+fn codes_of(words: &str) -> Result<(u64, u64), CaseError> {
+    let (first, last) = words.split_once(' ').ok_or(CaseError::NoSuchCase)?;
+    Ok((number_of(first)?, number_of(last)?.saturating_add(1)))
+}
+
+fn add_one(
+    alloc: Global,
+    code: u64,
+    builder: &mut TableBuilder,
+    text: &mut String,
+) -> Result<(), CaseError> {
+    add(one_pair(alloc, code)?, builder, text)
 }
 
 /// A declaration of this code with one pair.
@@ -216,15 +256,27 @@ fn finished(
     text: &mut String,
 ) -> Result<Table, CaseError> {
     for word in widths.split_whitespace() {
-        match builder.finish(small_of(word)?) {
+        match finish_or_say(builder, small_of(word)?, text)? {
             Ok(table) => return Ok(table),
-            Err((refusal, back)) => {
-                builder = back;
-                write!(text, "{refusal}; ")?;
-            }
+            Err(back) => builder = back,
         }
     }
     Err(CaseError::NoSuchCase)
+}
+
+/// The table, or its builder, that is handed back.
+fn finish_or_say(
+    builder: TableBuilder,
+    width: u8,
+    text: &mut String,
+) -> Result<Result<Table, TableBuilder>, CaseError> {
+    match builder.finish(width) {
+        Ok(table) => Ok(Ok(table)),
+        Err((refusal, back)) => {
+            write!(text, "{refusal}; ")?;
+            Ok(Err(back))
+        }
+    }
 }
 
 /// Appends the bytes of a table and what the case asks it for, and the same of the table that is read of them.
@@ -262,15 +314,15 @@ fn append_asked(input: &str, table: &Table, text: &mut String) -> Result<(), Cas
 }
 
 fn append_count(words: &str, table: &Table, text: &mut String) -> Result<(), CaseError> {
-    let (first, last) = words.split_once(' ').ok_or(CaseError::NoSuchCase)?;
-    let count = count_one_pair(table, number_of(first)?, number_of(last)?);
+    let (first, behind) = codes_of(words)?;
+    let count = count_one_pair(table, first, behind);
     Ok(write!(text, "; {count} of one pair")?)
 }
 
 /// How many of the codes have a declaration with one pair.
-fn count_one_pair(table: &Table, first: u64, last: u64) -> u64 {
+fn count_one_pair(table: &Table, first: u64, behind: u64) -> u64 {
     let mut count = 0u64;
-    for code in first..last.saturating_add(1) {
+    for code in first..behind {
         if has_one_pair(table, code) {
             count = count.saturating_add(1);
         }

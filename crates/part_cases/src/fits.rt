@@ -48,10 +48,8 @@ fn judged(alloc: Global, ctx: Ctx, input: &str, text: &mut String) -> Result<(),
     requires { IsContext ctx }
 {
     allow(input, &KEYS)?;
-    let form = number(input, "form")?;
-    let is_fitting = is_fitting(alloc, ctx, form, input, input)?;
-    text.push_str(if is_fitting { "fits" } else { "does not fit" })?;
-    Ok(())
+    let is_fitting = is_fitting(alloc, ctx, number(input, "form")?, input, input)?;
+    Ok(text.push_str(if is_fitting { "fits" } else { "does not fit" })?)
 }
 
 /// Whether a value has a spelling under a form where the case says.
@@ -78,10 +76,11 @@ fn has_spelling(
 ) -> Result<bool, CaseError>
     requires { IsContext ctx }
 {
-    let via = unsigned(input, "via")?;
-    let constant = signed(input, "constant")?;
-    let value = value_of(told, content)?;
-    Ok(fits(ctx, form, constant, &AttrValue { via, value }))
+    let value = AttrValue {
+        via: unsigned(input, "via")?,
+        value: value_of(told, content)?,
+    };
+    Ok(fits(ctx, form, signed(input, "constant")?, &value))
 }
 
 /// Which of the kinds have a value with a spelling.
@@ -92,10 +91,18 @@ fn kinds(alloc: Global, ctx: Ctx, input: &str, text: &mut String) -> Result<(), 
     let form = number(input, "kinds")?;
     for told in KINDS {
         if is_fitting(alloc, ctx, form, input, told)? {
-            separate(", ", text)?;
-            text.push_str(told)?;
+            append_told(told, text)?;
         }
     }
+    append_none(text)
+}
+
+fn append_told(told: &str, text: &mut String) -> Result<(), CaseError> {
+    separate(", ", text)?;
+    Ok(text.push_str(told)?)
+}
+
+fn append_none(text: &mut String) -> Result<(), CaseError> {
     if text.is_empty() {
         text.push_str("none")?;
     }

@@ -28,8 +28,16 @@ fn read(
     allow(input, &["header", "header-of-4-or-5", "order"])?;
     let mut bytes = Vec::new(alloc);
     append_clause(input, verb(input), &mut bytes)?;
-    let order = order(input)?;
-    let b = bytes.as_slice();
+    read_front(alloc, order(input)?, versions, bytes.as_slice(), text)
+}
+
+fn read_front(
+    alloc: Global,
+    order: Order,
+    versions: Versions,
+    b: &[u8],
+    text: &mut String,
+) -> Result<(), CaseError> {
     let answer = read_header_as(order, versions, b);
     remark(
         versions != Versions::Five || answer == read_header(order, b),
@@ -125,11 +133,14 @@ fn append_kind(kind: Kind, text: &mut String) -> Result<(), CaseError> {
 /// A header of fields.
 fn make(input: &str, text: &mut String) -> Result<(), CaseError> {
     allow(input, &["make", "order", "format", "address", "table"])?;
-    let kind = kind_of(words(input, "make")?)?;
+    make_of(kind_of(words(input, "make")?)?, input, text)
+}
+
+fn make_of(kind: Kind, input: &str, text: &mut String) -> Result<(), CaseError> {
     let format = format_of(words(input, "format")?)?;
     let address_size = small_of(words(input, "address")?)?;
-    let order = order(input)?;
-    match Header::new(order, format, kind, address_size, number(input, "table")?) {
+    let table = number(input, "table")?;
+    match Header::new(order(input)?, format, kind, address_size, table) {
         Some(header) => append_header(header, text),
         None => Ok(text.push_str("no header")?),
     }

@@ -89,12 +89,23 @@ fn put_into(
     put_head(value, front, &mut heads, pool)?;
     let head = heads.as_slice();
     append_parts(head, pool.as_slice(), text)?;
-    remark(
-        is_found(alloc, value, front, head)?,
-        ", found otherwise",
-        text,
-    )?;
-    let lent = lend_head(under.ctx, under.form, None, head, pool.as_slice());
+    let is_found = is_found(alloc, value, front, head)?;
+    remark(is_found, ", found otherwise", text)?;
+    append_lent(under, value, head, pool.as_slice(), size, text)
+}
+
+/// Says where a head lends another value, or tells another size.
+fn append_lent(
+    under: Under,
+    value: &AttrValue<'_>,
+    head: &[u8],
+    pool: &[u8],
+    size: usize,
+    text: &mut String,
+) -> Result<(), CaseError>
+    requires { IsContext under.ctx }
+{
+    let lent = lend_head(under.ctx, under.form, None, head, pool);
     remark(lent == Some((*value, head.len())), ", lent otherwise", text)?;
     remark(has_size(value, head, size), ", measured otherwise", text)
 }

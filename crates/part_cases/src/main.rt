@@ -26,7 +26,7 @@ use crate::error::CaseError;
 use case_file::{Case, case_of, is_answered};
 use dw_form::Ctx;
 use dw_leb::{Format, Order};
-use std::alloc::Global;
+use std::alloc::{AllocError, Global};
 use std::rt::Files;
 use std::{fs, io};
 
@@ -122,12 +122,37 @@ fn judge(
     requires { IsContext ctx }
 {
     let mut text = String::new(rt.alloc());
-    if let Err(error) = answer(rt.alloc(), file, ctx, case.input, &mut text) {
-        write!(text, "{error}")?;
-    }
+    answer_or_say(rt.alloc(), file, ctx, case.input, &mut text)?;
+    compare(rt, file, index, case, text.as_str())
+}
+
+/// Prints an answer that isn't the one of the case.
+fn compare(
+    rt: &impl Print,
+    file: &str,
+    index: usize,
+    case: Case<'_>,
+    answer: &str,
+) -> io::Result<()> {
     let line = index.saturating_add(1);
-    let _is_as_stated = is_answered(rt, file, line, case, text.as_str().trim())?;
+    let _is_as_stated = is_answered(rt, file, line, case, answer.trim())?;
     Ok(())
+}
+
+/// Appends the answer to a case, or why there is none.
+fn answer_or_say(
+    alloc: Global,
+    file: &str,
+    ctx: Ctx,
+    input: &str,
+    text: &mut String,
+) -> Result<(), AllocError>
+    requires { IsContext ctx }
+{
+    match answer(alloc, file, ctx, input, text) {
+        Ok(()) => Ok(()),
+        Err(error) => write!(text, "{error}"),
+    }
 }
 
 /// Appends what the library answers to a case of this file.

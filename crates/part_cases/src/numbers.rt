@@ -59,20 +59,25 @@ fn spelled_signed(input: &str, text: &mut String) -> Result<(), CaseError> {
 /// A number at the front of bytes.
 fn read(alloc: Global, input: &str, text: &mut String) -> Result<(), CaseError> {
     let mut bytes = Vec::new(alloc);
+    append_clause(input, key_of_bytes(input), &mut bytes)?;
+    read_front(input, bytes.as_slice(), text)
+}
+
+/// The key of the clause that spells the bytes.
+fn key_of_bytes(input: &str) -> &'static str {
+    match verb(input) {
+        "uleb" => "uleb",
+        "sleb" => "sleb",
+        _ => "bytes",
+    }
+}
+
+fn read_front(input: &str, b: &[u8], text: &mut String) -> Result<(), CaseError> {
     let lim = number(input, "within")?;
     match verb(input) {
-        "uleb" => {
-            append_clause(input, "uleb", &mut bytes)?;
-            read_unsigned(input, bytes.as_slice(), lim, text)
-        }
-        "sleb" => {
-            append_clause(input, "sleb", &mut bytes)?;
-            read_signed(input, bytes.as_slice(), lim, text)
-        }
-        _ => {
-            append_clause(input, "bytes", &mut bytes)?;
-            read_of_size(input, bytes.as_slice(), lim, text)
-        }
+        "uleb" => read_unsigned(input, b, lim, text),
+        "sleb" => read_signed(input, b, lim, text),
+        _ => read_of_size(input, b, lim, text),
     }
 }
 

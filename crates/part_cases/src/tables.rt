@@ -66,8 +66,7 @@ fn ask_each(
     text: &mut String,
 ) -> Result<(), CaseError> {
     for word in words(input, "at")?.split_whitespace() {
-        separate(" | ", text)?;
-        ask(alloc, input, section, number_of(word)?, tables, text)?;
+        ask(alloc, input, section, word, tables, text)?;
     }
     Ok(())
 }
@@ -76,10 +75,12 @@ fn ask(
     alloc: Global,
     input: &str,
     section: &[u8],
-    offset: u64,
+    word: &str,
     tables: &mut Tables<'_>,
     text: &mut String,
 ) -> Result<(), CaseError> {
+    separate(" | ", text)?;
+    let offset = number_of(word)?;
     match tables.get(offset) {
         Ok(table) => append_table(alloc, input, section, offset, &table, text),
         Err(error) => Ok(write!(text, "{error}")?),
@@ -93,31 +94,35 @@ fn ask_anew(
     section: &[u8],
     text: &mut String,
 ) -> Result<(), CaseError> {
-    let times = number(input, "times")?;
-    let offsets = words(input, "at")?;
-    let count = count_anew(
-        alloc,
-        offsets,
-        times,
-        section,
-        &mut Tables::new(alloc, section),
-    )?;
+    let mut tables = Tables::new(alloc, section);
+    let count = count_anew(alloc, input, section, &mut tables)?;
     Ok(write!(text, "{count} as read anew")?)
 }
 
 fn count_anew(
     alloc: Global,
-    offsets: &str,
-    times: u64,
+    input: &str,
     section: &[u8],
     tables: &mut Tables<'_>,
 ) -> Result<u64, CaseError> {
     let mut count = 0u64;
-    for _ in 0..times {
-        for word in offsets.split_whitespace() {
-            let is_alike = is_as_anew(alloc, section, number_of(word)?, tables)?;
-            count = count.saturating_add(u64::from(is_alike));
-        }
+    for _ in 0..number(input, "times")? {
+        let alike = count_anew_once(alloc, words(input, "at")?, section, tables)?;
+        count = count.saturating_add(alike);
+    }
+    Ok(count)
+}
+
+fn count_anew_once(
+    alloc: Global,
+    offsets: &str,
+    section: &[u8],
+    tables: &mut Tables<'_>,
+) -> Result<u64, CaseError> {
+    let mut count = 0u64;
+    for word in offsets.split_whitespace() {
+        let is_alike = is_as_anew(alloc, section, number_of(word)?, tables)?;
+        count = count.saturating_add(u64::from(is_alike));
     }
     Ok(count)
 }
@@ -174,13 +179,28 @@ fn append_table(
     table: &Table,
     text: &mut String,
 ) -> Result<(), CaseError> {
+    append_codes(input, table, text)?;
+    let bytes = written(alloc, table)?;
+    append_size(section, offset, bytes.as_slice(), text)
+}
+
+fn append_codes(input: &str, table: &Table, text: &mut String) -> Result<(), CaseError> {
     for word in clause(input, "codes").unwrap_or("").split_whitespace() {
         append_code(table, number_of(word)?, text)?;
         text.push_str("; ")?;
     }
-    let bytes = written(alloc, table)?;
+    Ok(())
+}
+
+/// Appends how many bytes a table has, which stand at an offset of the section.
+fn append_size(
+    section: &[u8],
+    offset: u64,
+    bytes: &[u8],
+    text: &mut String,
+) -> Result<(), CaseError> {
     write!(text, "{} bytes", bytes.len())?;
-    let is_there = stands_at(section, offset, bytes.as_slice());
+    let is_there = stands_at(section, offset, bytes);
     remark(is_there, ", written otherwise", text)
 }
 

@@ -47,20 +47,29 @@ fn front(
     requires { IsContext under.ctx }
 {
     match lend_value(under.ctx, under.form, under.constant, b, lim) {
-        Ok((value, size)) => {
-            append_attribute(&value, text)?;
-            write!(text, ", {size} bytes")?;
-            Ok(())
-        }
-        Err(reason) => {
-            refused(reason, text)?;
-            remark(
-                leaves_a_pool(alloc, under, b, lim, reason)?,
-                ", stored otherwise",
-                text,
-            )
-        }
+        Ok((value, size)) => append_front(&value, size, text),
+        Err(reason) => append_refusal(alloc, under, b, lim, reason, text),
     }
+}
+
+fn append_front(value: &AttrValue<'_>, size: usize, text: &mut String) -> Result<(), CaseError> {
+    append_attribute(value, text)?;
+    Ok(write!(text, ", {size} bytes")?)
+}
+
+fn append_refusal(
+    alloc: Global,
+    under: Under,
+    b: &[u8],
+    lim: u64,
+    reason: Reason,
+    text: &mut String,
+) -> Result<(), CaseError>
+    requires { IsContext under.ctx }
+{
+    refused(reason, text)?;
+    let leaves_a_pool = leaves_a_pool(alloc, under, b, lim, reason)?;
+    remark(leaves_a_pool, ", stored otherwise", text)
 }
 
 /// Whether a pool of three bytes and no more room isn't touched where a value is refused for this reason.
@@ -103,19 +112,29 @@ fn whole(alloc: Global, under: Under, b: &[u8], text: &mut String) -> Result<(),
         Ok((value, size)) => {
             append_attribute(&value, text)?;
             remark(size == b.len(), ", and bytes behind it", text)?;
-            remark(
-                is_written_back(alloc, under, b)?,
-                ", measured or written otherwise",
-                text,
-            )?;
-            remark(
-                is_read_anywhere(alloc, under, b, &value)?,
-                ", read otherwise where the input or the unit ends elsewhere",
-                text,
-            )
+            append_remarks(alloc, under, b, &value, text)
         }
         Err(reason) => refused(reason, text),
     }
+}
+
+/// Says where the value that the bytes spell is written or read otherwise.
+fn append_remarks(
+    alloc: Global,
+    under: Under,
+    b: &[u8],
+    value: &AttrValue<'_>,
+    text: &mut String,
+) -> Result<(), CaseError>
+    requires { IsContext under.ctx }
+{
+    let is_written_back = is_written_back(alloc, under, b)?;
+    remark(is_written_back, ", measured or written otherwise", text)?;
+    remark(
+        is_read_anywhere(alloc, under, b, value)?,
+        ", read otherwise where the input or the unit ends elsewhere",
+        text,
+    )
 }
 
 /// Whether the value that the bytes spell is measured and written as these.
