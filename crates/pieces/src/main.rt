@@ -52,12 +52,29 @@ fn every_size(
     let abbreviations = fs::read(rt, abbrev)?;
     let info = fs::read(rt, info)?;
     let mut tables = Tables::new(rt.alloc(), abbreviations.as_slice());
+    push_in_every_size(rt, &mut tables, info.as_slice())
+}
+
+fn push_in_every_size(
+    rt: &(impl AllocGlobal + Print),
+    tables: &mut Tables<'_>,
+    info: &[u8],
+) -> Result<(), PiecesError> {
     for size in [1, 2, 3, 7, 16, 17, 4096] {
-        let unit = pushed(rt.alloc(), &mut tables, info.as_slice(), size)?;
-        let same = is_front(rt.alloc(), &unit, info.as_slice())?;
-        println!(rt; "{size}: {same}")?;
+        let unit = pushed(rt.alloc(), tables, info, size)?;
+        tell_whether_same(rt, &unit, info, size)?;
     }
     Ok(())
+}
+
+fn tell_whether_same(
+    rt: &(impl AllocGlobal + Print),
+    unit: &Unit,
+    info: &[u8],
+    size: usize,
+) -> Result<(), PiecesError> {
+    let same = is_front(rt.alloc(), unit, info)?;
+    Ok(println!(rt; "{size}: {same}")?)
 }
 
 fn one_size(
@@ -69,12 +86,21 @@ fn one_size(
     let abbreviations = fs::read(rt, abbrev)?;
     let info = fs::read(rt, info)?;
     let mut tables = Tables::new(rt.alloc(), abbreviations.as_slice());
-    let unit = match size {
-        0 => at_hand(rt.alloc(), &mut tables, info.as_slice())?,
-        size => pushed(rt.alloc(), &mut tables, info.as_slice(), size)?,
-    };
-    println!(rt; "{} bytes", unit.size())?;
-    Ok(())
+    let unit = unit_of(rt.alloc(), &mut tables, info.as_slice(), size)?;
+    Ok(println!(rt; "{} bytes", unit.size())?)
+}
+
+/// The unit in pieces of so many bytes, or with 0 at hand.
+fn unit_of(
+    alloc: Global,
+    tables: &mut Tables<'_>,
+    info: &[u8],
+    size: usize,
+) -> Result<Unit, PiecesError> {
+    match size {
+        0 => at_hand(alloc, tables, info),
+        size => pushed(alloc, tables, info, size),
+    }
 }
 
 fn at_hand(alloc: Global, tables: &mut Tables<'_>, bytes: &[u8]) -> Result<Unit, PiecesError> {

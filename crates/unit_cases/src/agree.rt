@@ -32,7 +32,19 @@ fn reads<R: Read>(
     requires { fault_of reader.old ≡ None }
 {
     let mut tables = Tables::new(alloc, input.section);
-    match read_unit_from_as(alloc, input.order, input.versions, &mut tables, reader) {
+    reads_over(alloc, input, &mut tables, reader, outcome)
+}
+
+fn reads_over<R: Read>(
+    alloc: Global,
+    input: Input<'_>,
+    tables: &mut Tables<'_>,
+    reader: &mut Watched<R>,
+    outcome: Outcome,
+) -> bool
+    requires { fault_of reader.old ≡ None }
+{
+    match read_unit_from_as(alloc, input.order, input.versions, tables, reader) {
         Ok(unit) => is_unit(alloc, input, &unit, outcome),
         Err(error) => outcome == Err(error),
     }

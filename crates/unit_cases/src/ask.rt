@@ -21,14 +21,8 @@ struct Ask<'a> {
 fn ask_of(input: &str) -> Option<Ask<'_>> {
     let (head, bytes) = input.split_once(':')?;
     let (head, table) = head.split_once(" over ")?;
-    let (order, head) = match head.strip_prefix("big ") {
-        Some(rest) => (Order::Big, rest),
-        None => (Order::Little, head),
-    };
-    let (versions, question) = match head.strip_prefix("four ") {
-        Some(rest) => (Versions::FourAndFive, rest),
-        None => (Versions::Five, head),
-    };
+    let (order, head) = order_of(head);
+    let (versions, question) = versions_of(head);
     Some(Ask {
         order,
         versions,
@@ -36,6 +30,22 @@ fn ask_of(input: &str) -> Option<Ask<'_>> {
         table,
         bytes,
     })
+}
+
+/// The order that words begin with, and the words behind it.
+fn order_of(words: &str) -> (Order, &str) {
+    match words.strip_prefix("big ") {
+        Some(rest) => (Order::Big, rest),
+        None => (Order::Little, words),
+    }
+}
+
+/// The same of the versions.
+fn versions_of(words: &str) -> (Versions, &str) {
+    match words.strip_prefix("four ") {
+        Some(rest) => (Versions::FourAndFive, rest),
+        None => (Versions::Five, words),
+    }
 }
 
 /// Appends the answer to what is asked of a unit.

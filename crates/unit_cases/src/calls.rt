@@ -12,13 +12,23 @@ const MOST_CALLS: u64 = 100;
 /// none: `0 4 12 in all`.
 pub fn append_calls(alloc: Global, unit: &Unit, answer: &mut String) -> Result<(), AllocError> {
     for after in 0..MOST_CALLS {
-        let (size, is_whole) = written_by(alloc, unit, after);
-        write!(answer, "{size} ")?;
-        if is_whole {
+        if append_size_by(alloc, unit, after, answer)? {
             return answer.push_str("in all");
         }
     }
     answer.push_str("and more")
+}
+
+/// Appends how many bytes such a writer has, and tells whether the unit was written.
+fn append_size_by(
+    alloc: Global,
+    unit: &Unit,
+    calls: u64,
+    answer: &mut String,
+) -> Result<bool, AllocError> {
+    let (size, is_whole) = written_by(alloc, unit, calls);
+    write!(answer, "{size} ")?;
+    Ok(is_whole)
 }
 
 /// How many bytes a writer has that takes so many calls whole and fails at the next, and whether the unit was written.

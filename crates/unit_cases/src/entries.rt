@@ -8,7 +8,7 @@
 //!   `next_bare` gives, with `other` for each attribute at which it gives none.
 use crate::show::{append_attribute, append_entry, separate};
 use crate::unit::number_of;
-use dw_unit::{EntryRef, NumberRef, Unit};
+use dw_unit::{AttrRef, EntryRef, NumberRef, Unit};
 use std::alloc::AllocError;
 
 pub fn append_entries(unit: &Unit, words: &[&str], answer: &mut String) -> Result<(), AllocError> {
@@ -33,10 +33,14 @@ fn entry_at<'a>(unit: &'a Unit, offset: &str) -> Option<EntryRef<'a>> {
 
 fn append_all(unit: &Unit, answer: &mut String) -> Result<(), AllocError> {
     for entry in unit.entries() {
-        separate(answer)?;
-        append_entry(&entry, answer)?;
+        append_next_entry(&entry, answer)?;
     }
     Ok(())
+}
+
+fn append_next_entry(entry: &EntryRef<'_>, answer: &mut String) -> Result<(), AllocError> {
+    separate(answer)?;
+    append_entry(entry, answer)
 }
 
 fn append_last(unit: &Unit, answer: &mut String) -> Result<(), AllocError> {
@@ -65,8 +69,7 @@ fn append_of(
 
 fn append_children(entry: &EntryRef<'_>, answer: &mut String) -> Result<(), AllocError> {
     for child in entry.children() {
-        separate(answer)?;
-        write!(answer, "{}", child.offset())?;
+        append_next_offset(child.offset(), answer)?;
     }
     if answer.is_empty() {
         answer.push_str("none")?;
@@ -74,12 +77,21 @@ fn append_children(entry: &EntryRef<'_>, answer: &mut String) -> Result<(), Allo
     Ok(())
 }
 
+fn append_next_offset(offset: u64, answer: &mut String) -> Result<(), AllocError> {
+    separate(answer)?;
+    write!(answer, "{offset}")
+}
+
 fn append_attributes(entry: &EntryRef<'_>, answer: &mut String) -> Result<(), AllocError> {
     for attr in entry.attrs() {
-        separate(answer)?;
-        append_attribute(&attr, answer)?;
+        append_next(&attr, answer)?;
     }
     Ok(())
+}
+
+fn append_next(attr: &AttrRef<'_>, answer: &mut String) -> Result<(), AllocError> {
+    separate(answer)?;
+    append_attribute(attr, answer)
 }
 
 fn append_named(entry: &EntryRef<'_>, name: &str, answer: &mut String) -> Result<(), AllocError> {
@@ -98,13 +110,17 @@ fn append_numbers(entry: &EntryRef<'_>, answer: &mut String) -> Result<(), Alloc
         let Some(number) = attrs.next_number() else {
             return Ok(());
         };
-        separate(answer)?;
         append_number(&number, answer)?;
     }
-    match attrs.next_number() {
-        Some(_) => answer.push_str("; and one more"),
-        None => Ok(()),
+    append_more(attrs.next_number().is_some(), answer)
+}
+
+/// Says that there is more where nothing is left.
+fn append_more(is_more: bool, answer: &mut String) -> Result<(), AllocError> {
+    if is_more {
+        answer.push_str("; and one more")?;
     }
+    Ok(())
 }
 
 /// Appends a number as an attribute, which has to be the same one.
@@ -112,6 +128,7 @@ fn append_number(number: &NumberRef, answer: &mut String) -> Result<(), AllocErr
     let attr = number.attribute();
     let is_same = (attr.name, attr.form, attr.offset) == (number.name, number.form, number.offset)
         && attr.attr.as_number() == Some(number.number);
+    separate(answer)?;
     if !is_same {
         answer.push_str("another ")?;
     }
@@ -121,17 +138,19 @@ fn append_number(number: &NumberRef, answer: &mut String) -> Result<(), AllocErr
 fn append_bare(entry: &EntryRef<'_>, answer: &mut String) -> Result<(), AllocError> {
     let mut attrs = entry.attrs();
     for _ in entry.attrs() {
-        separate(answer)?;
-        match attrs.next_bare() {
-            Some(bare) => append_attribute(&bare, answer)?,
-            None => {
-                let _other = attrs.next();
-                answer.push_str("other")?;
-            }
+        let bare = attrs.next_bare();
+        if bare.is_none() {
+            let _other = attrs.next();
         }
+        append_bare_or_other(bare, answer)?;
     }
-    match attrs.next_bare() {
-        Some(_) => answer.push_str("; and one more"),
-        None => Ok(()),
+    append_more(attrs.next_bare().is_some(), answer)
+}
+
+fn append_bare_or_other(bare: Option<AttrRef<'_>>, answer: &mut String) -> Result<(), AllocError> {
+    separate(answer)?;
+    match bare {
+        Some(bare) => append_attribute(&bare, answer),
+        None => answer.push_str("other"),
     }
 }

@@ -89,10 +89,8 @@ pub fn front(bytes: &[u8], size: usize) -> &[u8] {
 
 /// Whether the unit is written as these bytes.
 pub fn is_written_as(alloc: Global, unit: &Unit, bytes: &[u8]) -> bool {
-    match written(alloc, unit) {
-        Ok(found) => found.as_slice() == bytes,
-        Err(_) => false,
-    }
+    let mut writer = Watched::new(Vec::new(alloc));
+    write_unit(unit, &mut writer).is_ok() && writer.into_inner().as_slice() == bytes
 }
 
 /// The bytes of a unit, as it is written.

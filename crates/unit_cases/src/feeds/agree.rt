@@ -13,9 +13,13 @@ use dw_abbrev::Tables;
 use std::alloc::{AllocError, Global};
 
 fn at_hand(alloc: Global, input: Input<'_>) -> Outcome {
-    let Setting { order, versions } = input.setting;
     let mut tables = Tables::new(alloc, input.section);
-    match dw_feed::read_unit_as(alloc, order, versions, &mut tables, input.bytes) {
+    at_hand_over(alloc, input, &mut tables)
+}
+
+fn at_hand_over(alloc: Global, input: Input<'_>, tables: &mut Tables<'_>) -> Outcome {
+    let Setting { order, versions } = input.setting;
+    match dw_feed::read_unit_as(alloc, order, versions, tables, input.bytes) {
         Ok((unit, _)) => Outcome::of_unit(alloc, input, &unit),
         Err(error) => Outcome::Refused(error),
     }

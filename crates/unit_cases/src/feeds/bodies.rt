@@ -53,16 +53,27 @@ fn append_pieces(
         if !append_named(file, words, &mut bytes)? {
             return answer.push_str("no such bytes");
         }
-        separate(answer)?;
-        append_said(alloc, feed, bytes.as_slice(), before, answer)?;
-        if is_held {
-            append_held(feed, answer)?;
-        }
+        append_piece(alloc, feed, (bytes.as_slice(), before), is_held, answer)?;
     }
     Ok(())
 }
 
-/// Pushes what the bytes have behind those before, and appends what is said.
+/// Pushes what the bytes have behind those before, and appends what is said and held.
+fn append_piece(
+    alloc: Global,
+    feed: &mut BodyFeed,
+    (bytes, before): (&[u8], usize),
+    is_held: bool,
+    answer: &mut String,
+) -> Result<(), AllocError> {
+    separate(answer)?;
+    append_said(alloc, feed, bytes, before, answer)?;
+    if is_held {
+        append_held(feed, answer)?;
+    }
+    Ok(())
+}
+
 fn append_said(
     alloc: Global,
     feed: &mut BodyFeed,

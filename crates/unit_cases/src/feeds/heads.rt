@@ -52,10 +52,14 @@ fn append_pieces(
         if !append_named(file, words, &mut piece)? {
             return answer.push_str("no such bytes");
         }
-        separate(answer)?;
-        append_said(feed.feed(piece.as_slice()), answer)?;
+        append_next(feed.feed(piece.as_slice()), answer)?;
     }
     Ok(())
+}
+
+fn append_next(said: Answer, answer: &mut String) -> Result<(), AllocError> {
+    separate(answer)?;
+    append_said(said, answer)
 }
 
 fn append_said((count, said): Answer, answer: &mut String) -> Result<(), AllocError> {

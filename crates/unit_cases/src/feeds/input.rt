@@ -1,10 +1,11 @@
 //! Bytes over a section of tables, how they are read, and what came of it.
 use crate::reading::{front, is_written_as};
-use dw_abbrev::Tables;
+use dw_abbrev::{Table, Tables};
 use dw_feed::BodyFeed;
 use dw_leb::{Order, ReadError};
 use dw_unit::{Unit, Versions, read_header_as};
 use std::alloc::Global;
+use std::rc::Rc;
 
 /// How bytes are read.
 #[derive(Clone, Copy)]
@@ -47,10 +48,13 @@ impl Outcome {
 pub fn feed_behind(alloc: Global, input: Input<'_>) -> Option<BodyFeed> {
     let Setting { order, versions } = input.setting;
     let (header, length) = read_header_as(order, versions, input.bytes).ok()?;
-    let table = Tables::new(alloc, input.section)
-        .get(header.abbrev_offset())
-        .ok()?;
+    let table = table_at(alloc, input.section, header.abbrev_offset())?;
     Some(BodyFeed::new(alloc, header, length, table))
+}
+
+fn table_at(alloc: Global, section: &[u8], offset: u64) -> Option<Rc<Table>> {
+    let mut tables = Tables::new(alloc, section);
+    tables.get(offset).ok()
 }
 
 /// What the input has behind the header at its front.

@@ -33,9 +33,20 @@ pub fn read_by(alloc: Global, input: Input<'_>, count: usize) -> (Outcome, usize
 fn read_from<R: Read>(alloc: Global, input: Input<'_>, reader: &mut Watched<R>) -> Outcome
     requires { fault_of reader.old ≡ None }
 {
-    let Setting { order, versions } = input.setting;
     let mut tables = Tables::new(alloc, input.section);
-    match read_unit_from_as(alloc, order, versions, &mut tables, reader) {
+    read_over(alloc, input, &mut tables, reader)
+}
+
+fn read_over<R: Read>(
+    alloc: Global,
+    input: Input<'_>,
+    tables: &mut Tables<'_>,
+    reader: &mut Watched<R>,
+) -> Outcome
+    requires { fault_of reader.old ≡ None }
+{
+    let Setting { order, versions } = input.setting;
+    match read_unit_from_as(alloc, order, versions, tables, reader) {
         Ok(unit) => Outcome::of_unit(alloc, input, &unit),
         Err(error) => Outcome::Refused(error),
     }
@@ -53,6 +64,16 @@ pub fn append_read(
     let (outcome, left) = read_by(alloc, input, count);
     append_outcome(outcome, answer)?;
     write!(answer, ", {left} left")?;
+    append_others(alloc, input, outcome, answer)
+}
+
+/// Says where readers that give other counts of bytes come to another outcome.
+fn append_others(
+    alloc: Global,
+    input: Input<'_>,
+    outcome: Outcome,
+    answer: &mut String,
+) -> Result<(), AllocError> {
     for other in [1, 2, 3, 16, 4096] {
         if read_by(alloc, input, other).0 != outcome {
             write!(answer, ", but not by {other}")?;
