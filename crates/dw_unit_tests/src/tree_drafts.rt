@@ -120,25 +120,48 @@ fn closed(draft: &mut TreeDraft, width: u8) -> Result<(), Fail>
     Ok(())
 }
 
+/// A child of the size 4, and behind it a null of this width.
+fn last_child(draft: &mut TreeDraft, null: u8) -> Result<(), Fail>
+    requires context { draft.old.context ≡ little }
+    requires table { draft.old.table ≡ two_codes_table }
+    requires free { draft.old.place.unfinished ≡ None }
+    requires inside { draft.old.place.spot.above ≢ [] }
+    requires level { length draft.old.place.spot.above < 10 }
+    ensures { OnOk result (draft.new ≡ closed_at null (with_size 1 draft.old)) }
+{
+    sized(draft, 1)?;
+    closed(draft, null)
+}
+
+/// An entry "a" in its place is begun and taken back.
+#[tactic(auto, unfolding(dw_tree::specs::Tree::nesting))]
+fn taken_back(draft: &mut TreeDraft) -> Result<(), Fail>
+    requires context { draft.old.context ≡ little }
+    requires table { draft.old.table ≡ two_codes_table }
+    requires free { draft.old.place.unfinished ≡ None }
+    requires level { length draft.old.place.spot.above < 10 }
+    ensures { OnOk result (draft.new ≡ draft.old) }
+{
+    near(draft)?;
+    draft.begin(in_width(1, 2)?)?;
+    draft.undo();
+    Ok(())
+}
+
 /// The root "a" with a child of the size 4; the root's code and its null in these widths.
 fn root_with_child(alloc: Global, code: u8, null: u8) -> Result<EntryTree, Fail> {
     let mut draft = TreeDraft::new(alloc, context(), two_codes(alloc)?, 12);
     named(&mut draft, code)?;
-    sized(&mut draft, 1)?;
-    closed(&mut draft, null)?;
+    last_child(&mut draft, null)?;
     Ok(draft.finish())
 }
 
 /// The same, after an entry in the child's place was taken back.
-#[tactic(auto, unfolding(dw_tree::specs::Tree::nesting))]
 fn child_begun_twice(alloc: Global) -> Result<EntryTree, Fail> {
     let mut draft = TreeDraft::new(alloc, context(), two_codes(alloc)?, 12);
     named(&mut draft, 1)?;
-    near(&draft)?;
-    draft.begin(in_width(1, 2)?)?;
-    draft.undo();
-    sized(&mut draft, 1)?;
-    closed(&mut draft, 1)?;
+    taken_back(&mut draft)?;
+    last_child(&mut draft, 1)?;
     Ok(draft.finish())
 }
 
@@ -146,8 +169,7 @@ fn child_begun_twice(alloc: Global) -> Result<EntryTree, Fail> {
 fn root_in_pieces(alloc: Global) -> Result<EntryTree, Fail> {
     let mut draft = TreeDraft::new(alloc, context(), two_codes(alloc)?, 12);
     named_in_pieces(&mut draft)?;
-    sized(&mut draft, 1)?;
-    closed(&mut draft, 1)?;
+    last_child(&mut draft, 1)?;
     Ok(draft.finish())
 }
 
@@ -156,10 +178,8 @@ fn three_levels(alloc: Global) -> Result<EntryTree, Fail> {
     let mut draft = TreeDraft::new(alloc, context(), two_codes(alloc)?, 12);
     named(&mut draft, 1)?;
     named(&mut draft, 1)?;
-    sized(&mut draft, 1)?;
-    closed(&mut draft, 1)?;
-    sized(&mut draft, 1)?;
-    closed(&mut draft, 1)?;
+    last_child(&mut draft, 1)?;
+    last_child(&mut draft, 1)?;
     Ok(draft.finish())
 }
 
@@ -221,22 +241,32 @@ fn a_name_in_pieces(rt: HostRuntime) -> Result<(), Fail> {
     Ok(writes(&rt, rt.alloc(), &tree, &WITH_A_CHILD)?)
 }
 
-#[test]
+/// A draft keeps the bytes of its one text, and no longer those of a text in an entry that is taken back.
 #[tactic(auto, unfolding(dw_tree::specs::Tree::nesting))]
+fn keeps_its_text(rt: &impl Abort, draft: &mut TreeDraft) -> Result<(), Fail>
+    requires context { draft.old.context ≡ little }
+    requires table { draft.old.table ≡ two_codes_table }
+    requires free { draft.old.place.unfinished ≡ None }
+    requires level { length draft.old.place.spot.above < 10 }
+{
+    same(rt, draft.content(), &[0x61]);
+    near(draft)?;
+    draft.begin(in_width(1, 1)?)?;
+    draft.start(None, None)?;
+    draft.bytes(&[0x62, 0x63])?;
+    same(rt, draft.content(), &[0x61, 0x62, 0x63]);
+    draft.undo();
+    same(rt, draft.content(), &[0x61]);
+    Ok(())
+}
+
+#[test]
 fn keeps_the_bytes_of_texts_alone(rt: HostRuntime) -> Result<(), Fail> {
     let alloc = rt.alloc();
     let mut draft = TreeDraft::new(alloc, context(), two_codes(alloc)?, 12);
     named(&mut draft, 1)?;
     sized(&mut draft, 1)?;
-    same(&rt, draft.content(), &[0x61]);
-    near(&draft)?;
-    draft.begin(in_width(1, 1)?)?;
-    draft.start(None, None)?;
-    draft.bytes(&[0x62, 0x63])?;
-    same(&rt, draft.content(), &[0x61, 0x62, 0x63]);
-    draft.undo();
-    same(&rt, draft.content(), &[0x61]);
-    Ok(())
+    keeps_its_text(&rt, &mut draft)
 }
 
 #[test]
