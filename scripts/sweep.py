@@ -7,8 +7,8 @@ PROGRAM is the built `dwarf` (crates/dwarf/out/dwarf). Handed over are, in turn,
 the grammar (scripts/made.py); the same changed; and the sections of a case in `cases/` changed, of those that have at most 300 bytes of
 .debug_info. Changed is one of the files: cut off, or with a byte changed, put in or taken out. Over each, `show`, `check` and `copy`, `find` by a
 name, and `type` and `set` at an entry or beside one have to write the same, say the same on standard error and end with the same status; a
-section that is made has no fault. Each difference is printed with its bytes. The last line is `N sections, N runs, M differ`, and the status is
-0 where none does.
+section that is made has no fault. Each difference is printed with its bytes. The last line is `N passed, M failed`, of the runs, and the status is
+0 where none failed.
 """
 
 import glob
@@ -115,6 +115,7 @@ def main(program, count="10000", seed="1"):
                 print(f"{' '.join(words)}{' --big' * is_big}{' --v4' * is_four}", *(f"{name} {it.hex()}" for name, it in files.items()), sep="\n  ")
                 print(f"  wanted {want}\n  came   {got}")
     print(f"{count} sections, {runs} runs, {differ} differ")
+    print(f"{runs - differ} passed, {differ} failed")
     return 1 if differ or not runs else 0
 
 

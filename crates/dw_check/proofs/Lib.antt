@@ -6,3 +6,5 @@ pub mod Kept
 pub mod LastZero
 pub mod Marking
 pub mod Stored
+pub mod Ordered
+pub mod Listed

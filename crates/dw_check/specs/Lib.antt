@@ -4,3 +4,4 @@ pub mod Kinds
 pub mod Marks
 pub mod Place
 pub mod Wrong
+pub mod Laws

@@ -5,6 +5,7 @@
 mod attribute;
 mod ends;
 mod finding;
+pub mod laws;
 mod marks;
 mod place;
 mod root;

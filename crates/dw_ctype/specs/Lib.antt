@@ -5,6 +5,7 @@ pub mod Ended
 pub mod InOrder
 pub mod Names
 pub mod Parts
+pub mod Texts
 pub mod Types
 pub mod View
 pub mod Visits

@@ -132,12 +132,12 @@ pub record SaysFault (g : PartialUnit) (piece : List ℕ) (n : ℕ) (f : Fault) 
   pub first : StandsFirst g (stream g ++ take n piece)
 
 -- One call with a piece: how many bytes of it were taken, what was answered, and the feed after it. A fault is answered again and
--- again, and so is that nothing is left to do; then no byte is taken.
+-- again, and so is that nothing is left to do; then no byte is taken, and none where a growth was refused.
 abbrev pub FeedsBody : BodyFeed → List ℕ → ℕ → Progress WholeUnit → BodyFeed → Type 0
 FeedsBody (Reading g) piece n answers.More (Reading g') = SaysMore g piece n g'
 FeedsBody (Reading g) piece n (answers.Done u) Finished = SaysDone g piece n u
 FeedsBody (Reading g) piece n (answers.Fault f) (Refused f') = (f' ≡ f) × SaysFault g piece n f
-FeedsBody (Reading g) piece n answers.NoMemory Finished = n ≤ length piece
+FeedsBody (Reading g) piece n answers.NoMemory Finished = n ≡ 0
 FeedsBody (Refused f) piece n (answers.Fault f') (Refused f'') = (n ≡ 0) × (f' ≡ f) × (f'' ≡ f)
 FeedsBody Finished piece n answers.Spent Finished = n ≡ 0
 FeedsBody old piece n answer new = ⊥

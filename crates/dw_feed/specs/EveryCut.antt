@@ -46,9 +46,9 @@ module _ (g0 : PartialUnit) (piece : List ℕ) where
     turn_says true e = short_says g bytes at (ltb-true _ _ e)
     turn_says false e = field_says (ltb-false _ _ e) (field_at g bytes (left g)) refl
 
-  run_says : (fuel : ℕ) → Goes (run fuel)
+  run_says : (fuel : ℕ) → Goes (run (length piece) fuel)
   run_says zero g bytes at = (omega arith, omega arith, tt)
-  run_says (suc fuel) g bytes at = turn_says (run fuel) (run_says fuel) g bytes at (nat_lt (length bytes) (wanted g bytes)) refl
+  run_says (suc fuel) g bytes at = turn_says (run (length piece) fuel) (run_says fuel) g bytes at (nat_lt (length bytes) (wanted g bytes)) refl
 
 -- a feed that keeps what it should says what it has to
 pub every_cut : (fuel : ℕ) (g : PartialUnit) (piece : List ℕ) → Kept (Reading g) → AreBytes piece → RanSays g piece (feed_plainly fuel g piece)

@@ -89,6 +89,13 @@ abbrev pub ReadsUpTo : {X : Type 0} → List ℕ → List ℕ → Option (List �
 ReadsUpTo held now old new most (Ok x) = (got : List ℕ) × (now ≡ held ++ got) × (length got ≤ most) × Consumes old new got × ((length got ≡ most) ⊎ IsAtEnd new)
 ReadsUpTo held now old new most (Err e) = FailsUpTo old new most e
 
+-- what is held after such a read failed: what was held, and behind it what was taken. Where a growth was refused, the
+-- bytes are lost for which it was wanted.
+abbrev pub HoldsTaken : List ℕ → List ℕ → Option (List ℕ) → Option (List ℕ) → ReadError → Type 0
+HoldsTaken held now old new (reads.Fault f) = ⊥
+HoldsTaken held now old new reads.NoMemory = (got lost : List ℕ) × (now ≡ held ++ got) × Consumes old new (got ++ lost)
+HoldsTaken held now old new (reads.Io kind) = (got : List ℕ) × (now ≡ held ++ got) × Consumes old new got
+
 -- the whole of a length field: twelve bytes, or four that are not ff ff ff ff
 abbrev pub IsField : List ℕ → Type 0
 IsField bytes = ((length bytes ≡ 4) × (bytes ≢ escape)) ⊎ (length bytes ≡ 12)

@@ -78,13 +78,14 @@ if_short go g bytes true = ran answers.More (Reading (holding g bytes)) 0
 if_short go g bytes false = by_field go g bytes (field_at g bytes (left g))
 
 -- The field at the place has the bytes so far and those of the piece behind it. More, where it wants more; else it is read.
-abbrev pub run : ℕ → PartialUnit → List ℕ → Ran
-run zero g bytes = ran answers.NoMemory Finished 0
-run (suc fuel) g bytes = if_short (run fuel) g bytes (nat_lt (length bytes) (wanted g bytes))
+-- Without fuel it gives up, and nothing is taken of the piece, which has so many bytes.
+abbrev pub run : ℕ → ℕ → PartialUnit → List ℕ → Ran
+run all zero g bytes = ran answers.NoMemory Finished all
+run all (suc fuel) g bytes = if_short (run all fuel) g bytes (nat_lt (length bytes) (wanted g bytes))
 
 -- a call with a piece
 abbrev pub feed_plainly : ℕ → PartialUnit → List ℕ → Ran
-feed_plainly fuel g piece = run fuel (holding g []) (part g ++ piece)
+feed_plainly fuel g piece = run (length piece) fuel (holding g []) (part g ++ piece)
 
 -- ---- what is there of the field at the place is no part of what is kept
 

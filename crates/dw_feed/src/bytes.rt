@@ -1,7 +1,7 @@
 //! Bytes that are taken from a reader and kept.
-ghost use Rattle.std.specs.Prelude.{◌≡◌, ◌≤◌, None, length, vec_items};
+ghost use Rattle.std.specs.Prelude.{◌≡◌, ◌≤◌, None, IfErr, length, vec_items};
 ghost use Rattle.dw_leb.specs.Watch.{inner_of, fault_of, reader_fault, KeptSome};
-ghost use Rattle.dw_feed.specs.Feed.{ReadsField, ReadsUpTo, IsEscape};
+ghost use Rattle.dw_feed.specs.Feed.{ReadsField, ReadsUpTo, HoldsTaken, IsEscape};
 
 use dw_leb::{ReadError, Watched};
 use std::alloc::Global;
@@ -16,6 +16,8 @@ const FEW: usize = 16;
 /// The bytes of an initial length (section 7.4): four, and eight more where those are ff ff ff ff. Fewer where the
 /// reader has no more. `NoMemory` is returned where a growth was refused, and only where at least a byte was
 /// taken.
+///
+/// A part of the reader of sections in `dw_section`, and no call for users.
 pub fn field_bytes<R: Read>(alloc: Global, reader: &mut Watched<R>) -> Result<Vec<u8>, ReadError>
     requires { fault_of reader.old ≡ None }
     ensures bytes { ReadsField vec_items
@@ -41,7 +43,10 @@ pub(crate) fn is_escape(bytes: &[u8]) -> bool
 }
 
 /// Appends the next `most` bytes of the reader to `bytes`, or fewer where it has no more. `bytes` grows by what
-/// comes. `NoMemory` is returned where a growth was refused, and only where at least a byte was taken.
+/// comes. `NoMemory` is returned where a growth was refused, and only where at least a byte was taken. After an error
+/// `bytes` has what it had, and behind it what was taken, without the bytes for which a growth was refused.
+///
+/// A part of the reader of sections in `dw_section`, and no call for users.
 pub fn read_up_to<R: Read>(
     reader: &mut Watched<R>,
     most: u64,
@@ -52,6 +57,9 @@ pub fn read_up_to<R: Read>(
         (R.remaining (inner_of reader.old))
         (R.remaining (inner_of reader.new))
         most result }
+    ensures kept { IfErr result (HoldsTaken bytes.old.items bytes.new.items
+        (R.remaining (inner_of reader.old))
+        (R.remaining (inner_of reader.new))) }
     ensures memory { KeptSome (R.remaining (inner_of reader.old)) (R.remaining (inner_of reader.new)) result }
     ensures fault { fault_of reader.new ≡ reader_fault result }
 {
@@ -87,6 +95,9 @@ fn read_few<R: Read>(
         (R.remaining (inner_of reader.old))
         (R.remaining (inner_of reader.new))
         most result }
+    ensures kept { IfErr result (HoldsTaken bytes.old.items bytes.new.items
+        (R.remaining (inner_of reader.old))
+        (R.remaining (inner_of reader.new))) }
     ensures memory { KeptSome (R.remaining (inner_of reader.old)) (R.remaining (inner_of reader.new)) result }
     ensures fault { fault_of reader.new ≡ reader_fault result }
 {

@@ -32,15 +32,15 @@ use Rattle.dw_unit.specs.Inside.{header_inside}
 use Rattle.dw_unit.specs.Unit.{WholeUnit, bytes_of, FailsUnder}
 use Rattle.dw_feed.specs.declared.progress.Progress.{Progress}
 use Rattle.dw_feed.specs.declared.progress.Progress.TheVariants.{More, Done, Fault, NoMemory, Spent}
-use Rattle.dw_feed.specs.Feed.{Had, behind, StartsWith, Takes, InUnit, IsField, FailsUpTo, FailsInField, TakesUnitUnder, TakesNoUnitBehind}
+use Rattle.dw_feed.specs.Feed.{Had, behind, StartsWith, Takes, InField, InUnit, IsField, FailsUpTo, FailsInField, TakesUnitUnder, TakesNoUnitBehind}
 use Rattle.dw_feed.specs.HeadFeed.{HeadFeed, HeadState, Reading, Refused, Finished, IsHeader, Answers, FeedsHead}
-use Rattle.dw_feed.specs.Taking.{left_of, left_at_end, takes_of, behind_taken}
+use Rattle.dw_feed.specs.Taking.{left_of, left_at_end, takes_of, behind_taken, field_longer}
 use Rattle.dw_feed.specs.Cut.{field_never_truncated, field_size, same_length}
 use Rattle.dw_section.specs.Item.{Item, Known, Other, item_bytes, least_length, marks_with, marks, ShowsKind, Begins, ItemFits, IsKnown, ItemFails}
 use Rattle.dw_section.specs.ItemPlace.{fits_alone, length_some, shows_more, known_there, other_there}
 use Rattle.dw_section.specs.Streamed.{length_fault, kind_fault, other_cut}
 use Rattle.dw_section.specs.FedItems.{fault_there}
-use Rattle.dw_section.specs.Reads.{TakesItem, TakesNoItem, IsItemError, HasLength, HasKind, moved_offset, moved, moved_error, fault_at}
+use Rattle.dw_section.specs.Reads.{TakesItem, TakesNoItem, InItem, IsItemError, HasLength, HasKind, moved_offset, moved, moved_error, fault_at}
 
 -- ---- bytes that were taken before
 
@@ -55,7 +55,7 @@ had_from None mid taken all h k = tt
 had_from (Some bytes) None taken all h k = absurd h
 had_from (Some bytes) (Some rest) taken all h k = h ∙ k
 
-pub takes_from : (old mid new : Option (List ℕ)) (taken all : List ℕ) → Consumes old mid taken → Takes (behind taken mid) new all → Takes old new all
+abbrev takes_from : (old mid new : Option (List ℕ)) (taken all : List ℕ) → Consumes old mid taken → Takes (behind taken mid) new all → Takes old new all
 takes_from old mid new taken all h k = record { taken = k.taken; rest = k.rest; had = had_from old mid taken all h k.had; split = k.split; consumed = consumes_from old mid new taken k.taken h k.consumed }
 
 pub item_from : (versions : Versions) (order : Order) (abbreviations : List ℕ) (start : ℕ) (old mid new : Option (List ℕ)) (taken : List ℕ) (x : Item) → Consumes old mid taken
@@ -64,7 +64,7 @@ item_from versions order abbreviations start old mid new taken x h k = record { 
 
 pub no_item_from : (versions : Versions) (order : Order) (abbreviations : List ℕ) (start : ℕ) (old mid new : Option (List ℕ)) (taken : List ℕ) (e : ReadError) → Consumes old mid taken
     → TakesNoItem versions order abbreviations start (behind taken mid) new e → TakesNoItem versions order abbreviations start old new e
-no_item_from versions order abbreviations start old mid new taken e h (all, takes, is) = (all, takes_from old mid new taken all h takes, is)
+no_item_from versions order abbreviations start old mid new taken e h (all, takes, is, inside) = (all, takes_from old mid new taken all h takes, is, inside)
 
 pub kept_error : (X Y : Type 0) (old mid new : Option (List ℕ)) (taken : List ℕ) (e : ReadError) → Consumes old mid taken → KeptSome {X = X} (behind taken mid) new (Err e) → KeptSome {X = Y} old new (Err e)
 kept_error X Y old mid new taken (reads.Fault f) h k = tt
@@ -86,8 +86,12 @@ begins_size order start bytes format n rest b = omega (arith, ap length b.split,
 pub begins_some : (order : Order) (start : ℕ) (bytes : List ℕ) (format : Format) (n : ℕ) (rest : List ℕ) → Begins order start bytes format n rest → 0 < length bytes
 begins_some order start bytes format n rest b = omega (arith, begins_size order start bytes format n rest b, length_some format)
 
+-- bytes that begin an item, and are no more than its length tells, are inside of it
+begun_inside : (order : Order) (start : ℕ) (bytes : List ℕ) (format : Format) (n : ℕ) (rest more : List ℕ) → Begins order start bytes format n rest → length rest ≤ n → InItem order start (bytes ++ more) (length bytes)
+begun_inside order start bytes format n rest more b le = inr (format, n, rest ++ more, begins_more order start bytes format n rest more b, omega (arith, begins_size order start bytes format n rest b, le))
+
 -- a whole length field that is read
-pub field_taken : (order : Order) (start : ℕ) (bytes : List ℕ) (format : Format) (n : ℕ) → Rattle.dw_feed.specs.Feed.InField bytes (length bytes) → Taken (initial_length order start) bytes length_limit (format, n) (length_size format) → HasLength order start n bytes
+pub field_taken : (order : Order) (start : ℕ) (bytes : List ℕ) (format : Format) (n : ℕ) → InField bytes (length bytes) → Taken (initial_length order start) bytes length_limit (format, n) (length_size format) → HasLength order start n bytes
 field_taken order start bytes format n inside h =
     let alone : Taken (initial_length order 0) bytes length_limit (format, n) (length_size format) = record { rest = h.rest; fits = fits_alone order start format n h.fits; split = h.split; is_size = h.is_size; within = h.within } in
     let size : length bytes ≡ length_size format = field_size order bytes format n inside alone in
@@ -100,9 +104,9 @@ field_taken order start bytes format n inside h =
     no_rest (x ∷ xs) e = absurd (omega (arith, e))
 
 -- one that is refused, or cut where the reader has no more
-pub field_refused : (versions : Versions) (order : Order) (abbreviations : List ℕ) (start : ℕ) (old new : Option (List ℕ)) (bytes : List ℕ) (reason : Reason) → Consumes old new bytes → IsField bytes ⊎ IsAtEnd new → 0 < length bytes
-    → (initial_length order start).Break bytes length_limit 0 reason → TakesNoItem versions order abbreviations start old new (fault_at start reason)
-field_refused versions order abbreviations start old new bytes reason took why some breaks =
+pub field_refused : (versions : Versions) (order : Order) (abbreviations : List ℕ) (start : ℕ) (old new : Option (List ℕ)) (bytes : List ℕ) (reason : Reason) → Consumes old new bytes → InField bytes (length bytes) → IsField bytes ⊎ IsAtEnd new
+    → 0 < length bytes → (initial_length order start).Break bytes length_limit 0 reason → TakesNoItem versions order abbreviations start old new (fault_at start reason)
+field_refused versions order abbreviations start old new bytes reason took inside why some breaks =
     let there : (initial_length order start).Break (bytes ++ left_of new) length_limit 0 reason = elim why [
       | inl is ↦ initial_length_stays order start bytes (left_of new) length_limit 0 reason (field_never_truncated order start bytes 0 reason is breaks) breaks
       | inr end ↦ subst (λ (x : List ℕ). (initial_length order start).Break x length_limit 0 reason) (sym (append-nil bytes) ∙ ap (λ (x : List ℕ). bytes ++ x) (sym (left_at_end new end))) breaks
@@ -114,24 +118,30 @@ field_refused versions order abbreviations start old new bytes reason took why s
         omega (arith, some, length-append bytes (left_of new)),
         subst (λ (q : ℕ). ItemFails versions order abbreviations start (bytes ++ left_of new) Info q reason) zero (length_fault versions order abbreviations start (bytes ++ left_of new) 0 reason there),
       ),
+      inl (field_longer bytes (left_of new) (length bytes) inside),
     )
 
 -- the reader failed in it, or there was no memory
 pub field_failed : (versions : Versions) (order : Order) (abbreviations : List ℕ) (start : ℕ) (old new : Option (List ℕ)) (e : ReadError) → FailsInField old new e → TakesNoItem versions order abbreviations start old new e
 field_failed versions order abbreviations start old new (reads.Fault f) h = absurd h
-field_failed versions order abbreviations start old new reads.NoMemory h = (h.0, h.1, tt)
-field_failed versions order abbreviations start old new (reads.Io kind) h = (h.0, h.1, tt)
+field_failed versions order abbreviations start old new reads.NoMemory h = (h.0, h.1, tt, inl h.2)
+field_failed versions order abbreviations start old new (reads.Io kind) h = (h.0, h.1, tt, inl h.2)
 
--- the same behind bytes that were taken
+-- the same behind bytes of the item that were taken
 pub rest_failed : (versions : Versions) (order : Order) (abbreviations : List ℕ) (start : ℕ) (old new : Option (List ℕ)) (taken : List ℕ) (most : ℕ) (e : ReadError) → FailsUpTo old new most e
-    → TakesNoItem versions order abbreviations start (behind taken old) new e
-rest_failed versions order abbreviations start old new taken most (reads.Fault f) h = absurd h
-rest_failed versions order abbreviations start old new taken most reads.NoMemory h =
-    let both = consumes_more (behind taken old) old new taken h.0 (behind_taken taken old) h.2 in
-    ((taken ++ h.0) ++ left_of new, takes_of (behind taken old) new (taken ++ h.0) both, tt)
-rest_failed versions order abbreviations start old new taken most (reads.Io kind) h =
-    let both = consumes_more (behind taken old) old new taken h.0 (behind_taken taken old) h.2 in
-    ((taken ++ h.0) ++ left_of new, takes_of (behind taken old) new (taken ++ h.0) both, tt)
+    → (format : Format) (n : ℕ) (rest : List ℕ) → Begins order start taken format n rest → length rest + most ≤ n → TakesNoItem versions order abbreviations start (behind taken old) new e
+rest_failed versions order abbreviations start old new taken most e h format n rest b le = by e h
+  where
+    took : (got : List ℕ) → Consumes old new got → Takes (behind taken old) new ((taken ++ got) ++ left_of new)
+    took got h = takes_of (behind taken old) new (taken ++ got) (consumes_more (behind taken old) old new taken got (behind_taken taken old) h)
+
+    inside : (got : List ℕ) → length got ≤ most → InItem order start ((taken ++ got) ++ left_of new) (length (taken ++ got))
+    inside got few = begun_inside order start (taken ++ got) format n (rest ++ got) (left_of new) (begins_more order start taken format n rest got b) (omega (arith, le, few, length-append rest got))
+
+    by : (f : ReadError) → FailsUpTo old new most f → TakesNoItem versions order abbreviations start (behind taken old) new f
+    by (reads.Fault f) k = absurd k
+    by reads.NoMemory (got, few, k) = ((taken ++ got) ++ left_of new, took got k, tt, inside got few)
+    by (reads.Io kind) (got, few, k) = ((taken ++ got) ++ left_of new, took got k, tt, inside got few)
 
 -- ---- what shows the kind
 
@@ -172,11 +182,11 @@ marks_whole versions order n bytes offset reason enough = by (nat_le (least_leng
         two.2.breaks
 
 -- the input ends before it shows the kind
-pub kind_cut : (versions : Versions) (order : Order) (abbreviations : List ℕ) (start n field : ℕ) (old new : Option (List ℕ)) (bytes got : List ℕ) (begun : HasLength order start n bytes) → field ≡ length bytes
+pub kind_cut : (versions : Versions) (order : Order) (abbreviations : List ℕ) (start n field : ℕ) (old new : Option (List ℕ)) (bytes got : List ℕ) (begun : HasLength order start n bytes) → field ≡ length bytes → length got ≤ n
     → Consumes old new got → ((n ≤ length got) ⊎ (3 ≤ length got)) ⊎ IsAtEnd new → (own : ℕ) (reason : Reason) → (marks versions order n).Break got n own reason
     → TakesNoItem versions order abbreviations start (behind bytes old) new (fault_at (start + field + own) reason)
-kind_cut versions order abbreviations start n field old new bytes got begun field_is took (inl whole) own reason breaks = absurd (marks_whole versions order n got own reason whole breaks)
-kind_cut versions order abbreviations start n field old new bytes got begun field_is took (inr end) own reason breaks =
+kind_cut versions order abbreviations start n field old new bytes got begun field_is inside took (inl whole) own reason breaks = absurd (marks_whole versions order n got own reason whole breaks)
+kind_cut versions order abbreviations start n field old new bytes got begun field_is inside took (inr end) own reason breaks =
     let f : Format = begun.format in
     let all : List ℕ = (bytes ++ got) ++ left_of new in
     let is : bytes ++ got ≡ all = sym (append-nil (bytes ++ got)) ∙ ap (λ (x : List ℕ). (bytes ++ got) ++ x) (sym (left_at_end new end)) in
@@ -188,6 +198,7 @@ kind_cut versions order abbreviations start n field old new bytes got begun fiel
         begins_some order start all f n got there,
         subst (λ (q : ℕ). ItemFails versions order abbreviations start all Info q reason) at (kind_fault versions order abbreviations start all f n got own reason there breaks),
       ),
+      begun_inside order start (bytes ++ got) f n got (left_of new) (begins_more order start bytes f n [] got begun.begins) inside,
     )
 
 -- what was taken shows it
@@ -258,6 +269,7 @@ module _ (versions : Versions) (order : Order) (start n field : ℕ) (old new : 
           begins_some order start all begun.format n (begun.rest ++ got) there,
           subst (λ (q : ℕ). ItemFails versions order abbreviations start all Info q Truncated) at (other_cut versions order abbreviations start all begun.format n (begun.rest ++ got) there all_show short),
         ),
+        begun_inside order start (bytes ++ got) begun.format n (begun.rest ++ got) (left_of new) all_begins (omega (arith, short)),
       )
 
 -- ---- an item of a known kind
@@ -303,7 +315,7 @@ fields_many order format = by
     by Four a o = of_four format a o
 
 module _ (versions : Versions) (order : Order) (start n field : ℕ) (bytes : List ℕ) (begun : HasKind versions order start n field bytes true) where
-  pub known_begins : (all : List ℕ) → StartsWith bytes all → IsKnown versions order start all
+  abbrev pub known_begins : (all : List ℕ) → StartsWith bytes all → IsKnown versions order start all
   known_begins all (more, is) = (
     begun.format,
     n,
@@ -374,6 +386,7 @@ module _ (versions : Versions) (order : Order) (start n field : ℕ) (bytes : Li
         all,
         takes_of (behind bytes old) old bytes (behind_taken bytes old),
         item_error versions order abbreviations start all f (known_begins all (left_of old, refl)) (known_some all (left_of old, refl)) fails,
+        begun_inside order start bytes begun.format n begun.rest (left_of old) begun.begins begun.inside,
       )
 
   -- it can't have the whole header
@@ -425,10 +438,18 @@ module _ (versions : Versions) (order : Order) (start n field : ℕ) (bytes : Li
           consumed = took;
         }
 
+    -- what is inside of the unit that stands alone is inside of the item
+    inside_there : (all : List ℕ) (k : ℕ) → StartsWith bytes all → InUnit order all k → InItem order start all k
+    inside_there all k front (inl field) = inl field
+    inside_there all k front (inr (x, stands, le)) =
+        let there = known_begins all front in
+        let one = same_length order x (begun.format, n) stands.rest there.2 stands.fits (fits_alone order start begun.format n begun.begins.fits) (sym stands.split ∙ there.3.split) in
+        inr (begun.format, n, there.2, there.3, subst (λ (y : Format × ℕ). k ≤ length_size y.0 + y.1) one.0 le)
+
     pub known_error : (e : ReadError) → TakesNoUnitBehind versions abbreviations order bytes old new e → TakesNoItem versions order abbreviations start (behind bytes old) new (moved_error start e)
-    known_error (reads.Fault f) (all, takes, is, inside, front) = (all, takes, item_error versions order abbreviations start all f (known_begins all front) (known_some all front) is)
-    known_error reads.NoMemory (all, takes, is, inside, front) = (all, takes, tt)
-    known_error (reads.Io kind) (all, takes, is, inside, front) = (all, takes, tt)
+    known_error (reads.Fault f) (all, takes, is, inside, front) = (all, takes, item_error versions order abbreviations start all f (known_begins all front) (known_some all front) is, inside_there all (length takes.taken) front inside)
+    known_error reads.NoMemory (all, takes, is, inside, front) = (all, takes, tt, inside_there all (length takes.taken) front inside)
+    known_error (reads.Io kind) (all, takes, is, inside, front) = (all, takes, tt, inside_there all (length takes.taken) front inside)
 
 -- a moved error is of the same kind
 pub moved_kept : (X Y : Type 0) (start : ℕ) (old mid new : Option (List ℕ)) (e m : ReadError) → m ≡ moved_error start e → mid ≡ old → KeptSome {X = X} mid new (Err e) → KeptSome {X = Y} old new (Err m)

@@ -1,5 +1,5 @@
 -- A section that is read item by item: what its loop keeps, and from there to what the read says.
-use Rattle.std.proofs.Common.{◌≡◌, ◌<◌, ◌-◌, ◌^◌, ℕ, List, [], ◌++◌, length, Option, Some, None, Err, refl, sym, ap, subst, ◌∙◌, append_assoc, append-nil, arith}
+use Rattle.std.proofs.Common.{◌≡◌, ◌<◌, ◌-◌, ◌^◌, ℕ, List, [], ◌∷◌, ◌++◌, length, Option, Some, None, Err, inl, refl, sym, ap, subst, ◌∙◌, append_assoc, append-nil, arith}
 use Rattle.std.proofs.lemmas.List.{length-append}
 use Rattle.std.specs.Io.KnownBytes.{Consumes, IsAtEnd}
 use Rattle.dw_leb.specs.declared.errors.ReadError.{ReadError}
@@ -47,9 +47,12 @@ module _ (versions : Versions) (order : Order) (abbreviations : List ℕ) (old n
   both_taken : (x : Item) → TakesItem versions order abbreviations start now new x → Consumes old new (section_bytes (with_item s x))
   both_taken x k = subst (λ (b : List ℕ). Consumes old new b) (sym (items_end s.items x)) (consumes_more old now new (section_bytes s) (item_bytes x) h.consumed k.consumed)
 
+  with_next : (x : Item) → TakesItem versions order abbreviations start now new x → SoFar versions order abbreviations (section_bytes s ++ item_bytes x) (s.items ++ x ∷ []) []
+  with_next x k = one_more versions order abbreviations (section_bytes s ++ item_bytes x) s.items (item_bytes x) x [] (so_far (item_bytes x)) k.fits k.place (sym (append-nil (item_bytes x)))
+
   pub one_taken : (x : Item) → TakesItem versions order abbreviations start now new x → TakenSoFar versions order abbreviations old new (with_item s x)
   one_taken x k =
-      let more = one_more versions order abbreviations (section_bytes s ++ item_bytes x) s.items (item_bytes x) x [] (so_far (item_bytes x)) k.fits k.place (sym (append-nil (item_bytes x))) in record {
+      let more = with_next x k in record {
         order_is = h.order_is;
         versions_is = h.versions_is;
         fits = subst (λ (o : Order). SectionFits (with_item (record { order = o; versions = s.versions; items = s.items }) x)) (sym h.order_is)
@@ -88,7 +91,7 @@ module _ (versions : Versions) (order : Order) (abbreviations : List ℕ) (old n
       by (Some x) (Some y) took had = took ∙ ap (λ (z : List ℕ). section_bytes s ++ z) had
 
   pub item_fails : (e : ReadError) → TakesNoItem versions order abbreviations start now new e → TakesNoSection versions order abbreviations old new e
-  item_fails e (all, takes, is) =
+  item_fails e (all, takes, is, inside) =
       let bytes : List ℕ = section_bytes s in (
         bytes ++ all,
         record {
@@ -99,6 +102,7 @@ module _ (versions : Versions) (order : Order) (abbreviations : List ℕ) (old n
           consumed = consumes_more old now new bytes takes.taken h.consumed takes.consumed;
         },
         by e is,
+        record { before = s.items; rest = all; own = takes.taken; fit = (so_far all).fit; tables = h.tables; split = refl; taken_are = refl; inside = inside },
       )
     where
       by : (f : ReadError) → IsItemError versions order abbreviations start all f → IsSectionError versions order abbreviations (section_bytes s ++ all) f
@@ -113,7 +117,14 @@ module _ (versions : Versions) (order : Order) (abbreviations : List ℕ) (old n
 
   -- there is no memory for an item that was taken
   pub not_kept : (x : Item) → TakesItem versions order abbreviations start now new x → TakesNoSection versions order abbreviations old new reads.NoMemory
-  not_kept x k = (section_bytes (with_item s x) ++ left_of new, takes_of old new (section_bytes (with_item s x)) (both_taken x k), tt)
+  not_kept x k =
+      let more = with_next x k in
+      let bytes : List ℕ = section_bytes (with_item s x) in (
+        bytes ++ left_of new,
+        takes_of old new bytes (both_taken x k),
+        tt,
+        record { before = s.items ++ x ∷ []; rest = left_of new; own = []; fit = more.fit; tables = more.tables; split = refl; taken_are = sym (append-nil bytes); inside = inl (inl (omega arith)) },
+      )
 
   pub some_kept : (X : Type 0) (x : Item) → TakesItem versions order abbreviations start now new x → KeptSome {X = X} old new (Err reads.NoMemory)
   some_kept X x k = (section_bytes (with_item s x), omega (arith, ap length (items_end s.items x), length-append (section_bytes s) (item_bytes x), item_some versions order start x k.fits), both_taken x k)

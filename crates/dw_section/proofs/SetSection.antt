@@ -24,13 +24,15 @@ use Rattle.dw_section.specs.Reference.{ItemAt, TypeAt, items_from, items_at, typ
 use Rattle.dw_section.specs.Lookup.{known_of, unit_at, starts_from, start_of}
 use Rattle.dw_section.specs.StringBase.{base_in}
 use Rattle.dw_section.specs.SectionView.{IsSection, id_of, first_id, ids_earlier}
-use Rattle.dw_section.specs.SetNumber.{put_in_item, put_at, edit_of, edited, or_misfit, new_value, is_bad_target, value_refusal, attribute_refusal, entry_refusal, unit_refusal, set_refusal, ItemKept}
+use Rattle.dw_section.specs.SetNumber.{put_in_item, put_at, edit_of, edited, or_misfit, new_value, is_bad_target, value_refusal, attribute_refusal, entry_refusal, unit_refusal, set_refusal, entry_offsets, KeepsOffsets, ItemKept}
 
 -- ---- an item
 
-unit_kept : (e : Edit) (u : WholeUnit) → UnitFits (put_in_unit e u) → length (body_bytes (put_in_unit e u)) ≡ length (body_bytes u) → length (bytes_of (put_in_unit e u)) ≡ length (bytes_of u) → ItemKept (Known u) (Known (put_in_unit e u))
-unit_kept e u fits body whole = record {
+unit_kept : (e : Edit) (u : WholeUnit) → UnitFits (put_in_unit e u) → length (body_bytes (put_in_unit e u)) ≡ length (body_bytes u) → length (bytes_of (put_in_unit e u)) ≡ length (bytes_of u) → entry_offsets (Known (put_in_unit e u)) ≡ entry_offsets (Known u)
+    → ItemKept (Known u) (Known (put_in_unit e u))
+unit_kept e u fits body whole offsets = record {
   size = whole;
+  offsets = offsets;
   fits = λ versions order start h. record {
     order_is = h.order_is;
     accepted = h.accepted;
@@ -39,10 +41,11 @@ unit_kept e u fits body whole = record {
   };
 }
 
-pub known_kept : (e : Edit) (u v : WholeUnit) → v ≡ put_in_unit e u → UnitFits v → length (body_bytes v) ≡ length (body_bytes u) → length (bytes_of v) ≡ length (bytes_of u) → ItemKept (Known u) (Known v)
-known_kept e u v is fits body whole =
+pub known_kept : (e : Edit) (u v : WholeUnit) → v ≡ put_in_unit e u → UnitFits v → length (body_bytes v) ≡ length (body_bytes u) → length (bytes_of v) ≡ length (bytes_of u)
+    → map (λ (n : EntryAt). n.offset) (entries_of (tree_of v)) ≡ map (λ (n : EntryAt). n.offset) (entries_of (tree_of u)) → ItemKept (Known u) (Known v)
+known_kept e u v is fits body whole offsets =
     subst (λ (w : WholeUnit). ItemKept (Known u) (Known w)) (sym is)
-    (unit_kept e u (subst UnitFits is fits) (ap (λ (w : WholeUnit). length (body_bytes w)) (sym is) ∙ body) (ap (λ (w : WholeUnit). length (bytes_of w)) (sym is) ∙ whole))
+    (unit_kept e u (subst UnitFits is fits) (ap (λ (w : WholeUnit). length (body_bytes w)) (sym is) ∙ body) (ap (λ (w : WholeUnit). length (bytes_of w)) (sym is) ∙ whole) (ap (λ (w : WholeUnit). entry_offsets (Known w)) (sym is) ∙ offsets))
 
 pub known_there : (xs : List Item) (i : ℕ) (u : WholeUnit) → unit_at xs i ≡ Some u → slice_get xs i ≡ Some (Known u)
 known_there xs i u e = by (slice_get xs i) e
@@ -80,6 +83,17 @@ module _ (e : Edit) where
   bytes_put (y ∷ xs) (suc i) x there kept =
       let ih = bytes_put xs i x there kept in
       omega (arith, ih, length-append (item_bytes y) (items_bytes (put_at i e xs)), length-append (item_bytes y) (items_bytes xs))
+
+  entries_put : (xs : List Item) (i : ℕ) (x : Item) → slice_get xs i ≡ Some x → ItemKept x (put_in_item e x) → map entry_offsets (put_at i e xs) ≡ map entry_offsets xs
+  entries_put [] i x there kept = absurd cc
+  entries_put (y ∷ xs) zero x there kept =
+      let same : x ≡ y = cc in
+      let own : ItemKept y (put_in_item e y) = subst (λ (z : Item). ItemKept z (put_in_item e z)) same kept in
+      ap (λ (os : List ℕ). os ∷ map entry_offsets xs) own.offsets
+  entries_put (y ∷ xs) (suc i) x there kept = ap (λ (l : List (List ℕ)). entry_offsets y ∷ l) (entries_put xs i x there kept)
+
+  pub offsets_put : (xs : List Item) (i : ℕ) (x : Item) → slice_get xs i ≡ Some x → ItemKept x (put_in_item e x) → KeepsOffsets xs (put_at i e xs)
+  offsets_put xs i x there kept = (starts_put xs i 0 x there kept, entries_put xs i x there kept)
 
   pub tables_put : (abbreviations : List ℕ) (xs : List Item) (i : ℕ) → HoldsTables abbreviations xs → HoldsTables abbreviations (put_at i e xs)
   tables_put abbreviations [] i h = h

@@ -1,5 +1,5 @@
 -- What a read of a section, or of an item of one, answers and takes.
-use Rattle.std.specs.Prelude.{◌≡◌, ℕ, ◌+◌, ◌≤◌, ◌<◌, List, [], length, Option, Some, None, Bool}
+use Rattle.std.specs.Prelude.{◌≡◌, ℕ, ◌+◌, ◌≤◌, ◌<◌, List, [], ◌++◌, length, Option, Some, None, Bool, ◌⊎◌}
 use Rattle.std.specs.Io.KnownBytes.{Consumes, IsAtEnd}
 use Rattle.dw_leb.specs.declared.errors.Fault.{Fault}
 use Rattle.dw_leb.specs.declared.errors.Reason.{Reason}
@@ -11,11 +11,28 @@ use Rattle.dw_leb.specs.declared.order.Order.{Order}
 use Rattle.dw_leb.specs.declared.order.Format.{Format}
 use Rattle.dw_leb.specs.Number.{length_size}
 use Rattle.dw_header.specs.declared.versions.Versions.{Versions}
-use Rattle.dw_feed.specs.Feed.{Had, Takes}
+use Rattle.dw_feed.specs.Feed.{Had, Takes, InField}
 use Rattle.dw_section.specs.declared.item.Item.{Item as TheItem}
 use Rattle.dw_section.specs.Item.{Item, item_bytes, ShowsKind, Begins, ItemFits, HoldsTable, ItemFails}
 use Rattle.dw_section.specs.ItemView.{item_of}
-use Rattle.dw_section.specs.Section.{SectionIs, SectionFails, WholeSection}
+use Rattle.dw_section.specs.Section.{ItemsFit, HoldsTables, items_bytes, SectionIs, SectionFails, WholeSection}
+
+-- ---- how many bytes are taken where nothing is read
+
+-- So many bytes of those at an item's start are at most its length field, or at most the item whose length it tells.
+abbrev pub InItem : Order → ℕ → List ℕ → ℕ → Type 0
+InItem order start bytes k = InField bytes k ⊎ ((format : Format) × (n : ℕ) × (rest : List ℕ) × Begins order start bytes format n rest × (k ≤ length_size format + n))
+
+-- Bytes that were taken of a section are items that stand at its front, and at most the one that stands behind these.
+pub record InSection (versions : Versions) (order : Order) (abbreviations all taken : List ℕ) : Type 0 where
+  pub before : List Item
+  pub rest : List ℕ
+  pub own : List ℕ
+  pub fit : ItemsFit versions order 0 before
+  pub tables : HoldsTables abbreviations before
+  pub split : all ≡ items_bytes before ++ rest
+  pub taken_are : taken ≡ items_bytes before ++ own
+  pub inside : InItem order (length (items_bytes before)) rest (length own)
 
 -- ---- a section
 
@@ -35,8 +52,9 @@ IsSectionError versions order abbreviations all (reads.Fault f) = SectionFails v
 IsSectionError versions order abbreviations all reads.NoMemory = Unit {0}
 IsSectionError versions order abbreviations all (reads.Io kind) = Unit {0}
 
+-- no section is read: what the error tells, and that no byte was taken past the end of the item where it came
 abbrev pub TakesNoSection : Versions → Order → List ℕ → Option (List ℕ) → Option (List ℕ) → ReadError → Type 0
-TakesNoSection versions order abbreviations old new e = (all : List ℕ) × Takes old new all × IsSectionError versions order abbreviations all e
+TakesNoSection versions order abbreviations old new e = (all : List ℕ) × (h : Takes old new all) × IsSectionError versions order abbreviations all e × InSection versions order abbreviations all h.taken
 
 -- ---- an item at a start
 
@@ -57,8 +75,9 @@ IsItemError versions order abbreviations start all (reads.Fault f) = (0 < length
 IsItemError versions order abbreviations start all reads.NoMemory = Unit {0}
 IsItemError versions order abbreviations start all (reads.Io kind) = Unit {0}
 
+-- no item is read: what the error tells, and that no byte was taken past the item's end
 abbrev pub TakesNoItem : Versions → Order → List ℕ → ℕ → Option (List ℕ) → Option (List ℕ) → ReadError → Type 0
-TakesNoItem versions order abbreviations start old new e = (all : List ℕ) × Takes old new all × IsItemError versions order abbreviations start all e
+TakesNoItem versions order abbreviations start old new e = (all : List ℕ) × (h : Takes old new all) × IsItemError versions order abbreviations start all e × InItem order start all (length h.taken)
 
 -- ---- an item of which some bytes were taken
 

@@ -1,5 +1,5 @@
 -- A section in which one number is another, and why a number isn't put.
-use Rattle.std.specs.Prelude.{◌≡◌, ℕ, ℤ, zero, suc, ◌==◌, Bool, true, false, List, [], ◌∷◌, length, Option, Some, None, Result, Ok, Err, not, if◌then◌else◌}
+use Rattle.std.specs.Prelude.{◌≡◌, ℕ, ℤ, zero, suc, ◌==◌, Bool, true, false, List, [], ◌∷◌, length, map, Option, Some, None, Result, Ok, Err, not, if◌then◌else◌}
 use Rattle.dw_form.specs.declared.shape.Ctx.{Ctx}
 use Rattle.dw_form.specs.Form.{Value, Num, Wide, Uleb, Sleb, Block, Text, Present, Implicit, at_number}
 use Rattle.dw_form.specs.declared.value.Value.{Value as TheValue}
@@ -19,7 +19,7 @@ use Rattle.dw_section.specs.declared.set_refusal.SetRefusal.TheVariants.{NoEntry
 use Rattle.dw_section.specs.Item.{Item, Known, Other, item_bytes, ItemFits}
 use Rattle.dw_section.specs.Section.{WholeSection}
 use Rattle.dw_section.specs.Reference.{Target, ref_forms, named}
-use Rattle.dw_section.specs.Lookup.{unit_at, start_of}
+use Rattle.dw_section.specs.Lookup.{unit_at, starts_from, start_of}
 use Rattle.dw_section.specs.Sibling.{is_right_sibling}
 
 -- ---- the edited section
@@ -94,8 +94,18 @@ abbrev pub seen_value : Result TheValue SetRefusal → Result Value SetRefusal
 seen_value (Ok v) = Ok (value_of v)
 seen_value (Err why) = Err why
 
--- ---- what an item keeps
+-- ---- what stays
+
+-- where the entries of an item begin, counted from the item's first byte
+abbrev pub entry_offsets : Item → List ℕ
+entry_offsets (Known u) = map (λ (e : EntryAt). e.offset) (entries_of (tree_of u))
+entry_offsets (Other bytes) = []
+
+-- every item and every entry begins where it did
+abbrev pub KeepsOffsets : List Item → List Item → Type 0
+KeepsOffsets old new = (starts_from 0 new ≡ starts_from 0 old) × (map entry_offsets new ≡ map entry_offsets old)
 
 pub record ItemKept (x y : Item) : Type 0 where
   pub size : length (item_bytes y) ≡ length (item_bytes x)
+  pub offsets : entry_offsets y ≡ entry_offsets x
   pub fits : (versions : Versions) (order : Order) (start : ℕ) → ItemFits versions order start x → ItemFits versions order start y

@@ -22,8 +22,8 @@ use std::io::Read;
 const MARKS: u64 = 3;
 
 /// The section `.debug_info` that is all of what the reader has left, with units of version 5 (section 7.5), in
-/// whatever pieces its bytes come. At `Ok` nothing is left unread. `abbrev` has the bytes of the section
-/// `.debug_abbrev` that belongs to it.
+/// whatever pieces its bytes come. At `Ok` nothing is left unread. `abbreviations` has the bytes of the
+/// section `.debug_abbrev` that belongs to it.
 ///
 /// Items of other versions and unit types are kept as their bytes. The bytes of a unit go into the feeds as they
 /// come: none is kept beside the unit's tree.
@@ -32,26 +32,27 @@ const MARKS: u64 = 3;
 /// byte of `.debug_abbrev` where it is a table's. `Truncated` comes only where the reader has no more: a short
 /// read is no end, and a read of 0 bytes is. `Io` is returned exactly where the reader failed, with the kind
 /// that `fault()` then returns. `NoMemory` is returned where a growth was refused, and only where at least a
-/// byte was taken.
+/// byte was taken. After an error no byte was taken past the end of the item where it came, and none past that item's
+/// length field while this is unread or refused.
 ///
 /// Memory grows by the bytes that came, never by a length that was only announced.
 pub fn read_section<R: Read>(
     alloc: Global,
     order: Order,
-    abbrev: &[u8],
+    abbreviations: &[u8],
     reader: &mut Watched<R>,
 ) -> Result<Section, ReadError>
     requires { fault_of reader.old ≡ None }
-    ensures found { IfOk result (TakesSection Five order abbrev.now
+    ensures found { IfOk result (TakesSection Five order abbreviations.now
         (R.remaining (inner_of reader.old))
         (R.remaining (inner_of reader.new))) }
-    ensures broken { IfErr result (TakesNoSection Five order abbrev.now
+    ensures broken { IfErr result (TakesNoSection Five order abbreviations.now
         (R.remaining (inner_of reader.old))
         (R.remaining (inner_of reader.new))) }
     ensures memory { KeptSome (R.remaining (inner_of reader.old)) (R.remaining (inner_of reader.new)) result }
     ensures fault { fault_of reader.new ≡ reader_fault result }
 {
-    read_section_as(alloc, order, Versions::Five, abbrev, reader)
+    read_section_as(alloc, order, Versions::Five, abbreviations, reader)
 }
 
 /// The section `.debug_info` that is all of what the reader has left, with units of these versions, as
@@ -60,20 +61,20 @@ pub fn read_section_as<R: Read>(
     alloc: Global,
     order: Order,
     versions: Versions,
-    abbrev: &[u8],
+    abbreviations: &[u8],
     reader: &mut Watched<R>,
 ) -> Result<Section, ReadError>
     requires { fault_of reader.old ≡ None }
-    ensures found { IfOk result (TakesSection versions order abbrev.now
+    ensures found { IfOk result (TakesSection versions order abbreviations.now
         (R.remaining (inner_of reader.old))
         (R.remaining (inner_of reader.new))) }
-    ensures broken { IfErr result (TakesNoSection versions order abbrev.now
+    ensures broken { IfErr result (TakesNoSection versions order abbreviations.now
         (R.remaining (inner_of reader.old))
         (R.remaining (inner_of reader.new))) }
     ensures memory { KeptSome (R.remaining (inner_of reader.old)) (R.remaining (inner_of reader.new)) result }
     ensures fault { fault_of reader.new ≡ reader_fault result }
 {
-    let mut tables = Tables::new(alloc, abbrev);
+    let mut tables = Tables::new(alloc, abbreviations);
     read_items(alloc, order, versions, &mut tables, reader)
 }
 

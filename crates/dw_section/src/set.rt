@@ -40,6 +40,7 @@ impl Section {
         ensures refused { IfErr result (λ why. definition.set_refusal self.old id name number ≡ Some why) }
         ensures unchanged { OnErr result (self.new ≡ self.old) }
         ensures size { length (section_bytes self.new) ≡ length (section_bytes self.old) }
+        ensures offsets { definition.KeepsOffsets self.old.items self.new.items }
         ensures read_back { (abbreviations : List ℕ) → HoldsTables abbreviations self.old.items
             → SectionReadAs self.new.versions self.new.order abbreviations self.new.items (section_bytes self.new) }
     {

@@ -1,8 +1,10 @@
 -- What a run writes of a section that was read.
-use Rattle.std.proofs.Common.{◌≡◌, ◌<◌, ◌+◌, ℕ, suc, Bool, true, false, List, [], ◌∷◌, ◌++◌, length, Option, Some, None, Result, Ok, Err, refl, sym, subst, ap, ◌∙◌, length-append, arith}
+use Rattle.std.proofs.Common.{◌≡◌, ◌<◌, ◌+◌, ℕ, suc, Bool, true, false, List, [], ◌∷◌, ◌++◌, length, Option, Some, None, Result, Ok, Err, refl, sym, subst, ap, ◌∙◌, length-append, arith, inl}
 use Rattle.std.specs.Prelude.{◌==◌, IsSome, codes, nat_le, nat_lt}
 use Rattle.std.specs.Io.KnownBytes.{Keeps}
 use Rattle.std.proofs.lemmas.Bool.{ltb-true}
+use Rattle.dw_leb.specs.declared.errors.ReadError.{ReadError}
+use Rattle.dw_leb.specs.declared.errors.ReadError.TheVariants as reads
 use Rattle.dw_leb.specs.declared.order.Order.{Order}
 use Rattle.dw_header.specs.declared.versions.Versions.{Versions}
 use Rattle.dw_section.specs.declared.id.EntryId.{EntryId}
@@ -12,7 +14,7 @@ use Rattle.dw_section.specs.Lookup.{entry, find, ok_of, unit_at}
 use Rattle.dw_tree.specs.Lent.{EntryAt}
 use Rattle.dw_section.specs.Reference.{items_from, in_section}
 use Rattle.dw_section.specs.Section.{WholeSection, ItemsFit, items_bytes}
-use Rattle.dw_section.specs.Reads.{TakesSection}
+use Rattle.dw_section.specs.Reads.{TakesSection, TakesNoSection}
 use Rattle.dw_strings.specs.Text.{StringSections}
 use Rattle.dw_check.specs.declared.finding.Finding.{Finding}
 use Rattle.dw_ctype.specs.declared.fault.TypeError.{TypeError}
@@ -27,8 +29,8 @@ use Rattle.dw_tool.specs.declared.status.Status.TheVariants.{Bad}
 use Rattle.dw_tool.specs.declared.status.ToolError.{ToolError}
 use Rattle.dw_tool.specs.declared.status.ToolError.TheVariants as tool
 use Rattle.dw_tool.specs.Findings.{findings_text}
-use Rattle.dw_tool.specs.Run.{TookBytes, Writes, checked_status, told}
-use Rattle.dw_tool.specs.Status.{refused_type}
+use Rattle.dw_tool.specs.Run.{Runs, TookBytes, Writes, checked_status, told}
+use Rattle.dw_tool.specs.Status.{refused_read, refused_type}
 use Rattle.dw_tool.specs.TypeOf.{OrMemory, line_at, line_of, name_shown, type_line}
 
 -- ---- a section with an entry has bytes
@@ -128,3 +130,11 @@ module _ (strings : StringSections) (s : WholeSection) (held : Option (List ℕ)
 pub some_wrong : (found : List Finding) → (length found == 0) ≡ false → Bad ≡ checked_status (findings_text found)
 some_wrong [] h = absurd cc
 some_wrong (f ∷ fs) h = refl
+
+-- ---- a section that isn't read
+
+pub nothing_read : (command : Command) (strings : StringSections) (versions : Versions) (order : Order) (abbreviations : List ℕ) (left new held : Option (List ℕ)) (e : ReadError) → TakesNoSection versions order abbreviations left new e
+    → Runs command strings versions order abbreviations left new held held (Err (refused_read e))
+nothing_read command strings versions order abbreviations left new held (reads.Fault f) h = (h, keeps_same held)
+nothing_read command strings versions order abbreviations left new held reads.NoMemory h = inl (h, keeps_same held)
+nothing_read command strings versions order abbreviations left new held (reads.Io kind) h = (h, keeps_same held)

@@ -27,6 +27,8 @@ pub mod Lent
 pub mod Names
 pub mod Structure
 pub mod Paths
+pub mod Laws
+pub mod Rising
 pub mod Ends
 pub mod Emptiness
 pub mod PoolBytes

@@ -7,6 +7,7 @@ mod draft;
 mod entry;
 mod find;
 mod gather;
+pub mod laws;
 mod preorder;
 mod put;
 mod row;

@@ -14,5 +14,4 @@ pub mod EachValue
 pub mod PutValues
 pub mod OpenLemmas
 pub mod Found
-pub mod Rising
 pub mod Edited

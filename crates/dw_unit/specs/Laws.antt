@@ -1,20 +1,16 @@
 -- The laws of the grammar.
-use Rattle.std.specs.Prelude.{◌∷◌, ◌≡◌, ◌≢◌, ◌↔◌, ℕ, ◌+◌, ◌<◌, List, ◌++◌, length, take, get_or, ◌⊎◌, Some}
+use Rattle.std.specs.Prelude.{◌∷◌, ◌≡◌, ◌≢◌, ◌↔◌, ℕ, ◌+◌, ◌<◌, List, ◌++◌, length, take, ◌⊎◌}
 use Rattle.std.specs.List.{AllByRecursion, Contains}
 use Rattle.dw_leb.specs.declared.errors.Reason.{Reason}
 use Rattle.dw_leb.specs.declared.errors.Reason.TheVariants.{Truncated}
 use Rattle.dw_leb.specs.declared.order.Order.{Order}
 use Rattle.dw_abbrev.specs.Table.{Table, TableAt}
-use Rattle.dw_form.specs.declared.shape.Ctx.{Ctx}
 use Rattle.dw_header.specs.declared.versions.Versions.{Versions}
 use Rattle.dw_header.specs.declared.versions.Versions.TheVariants.{Five}
 use Rattle.dw_header.specs.Header.{Header, Accepts}
 use Rattle.dw_header.specs.HeaderPlace.{HeaderAtUnder}
-use Rattle.dw_tree.specs.Offset.{offset_at}
-use Rattle.dw_tree.specs.Tree.{Tree, tree}
 use Rattle.dw_tree.specs.Spelling.{tree_bytes}
-use Rattle.dw_tree.specs.Steps.{TreeAt}
-use Rattle.dw_tree.specs.Lent.{EntryAt, entries_of, end_offset_of, LeadsTo}
+use Rattle.dw_tree.specs.Lent.{EntryAt, entries_of, end_offset_of}
 use Rattle.dw_unit.specs.Unit.{WholeUnit, bytes_of, tree_of, UnitFits, UnitFrontUnder, UnitBreaksUnder, UnitAtUnder, FailsUnder, ReadAs, ReadAsUnder}
 use Rattle.dw_leb.specs.declared.errors.SectionId.{SectionId}
 use Rattle.dw_leb.specs.declared.errors.SectionId.TheVariants.{Info}
@@ -184,23 +180,7 @@ ReadIsWritten = ReadIsWrittenUnder Five
 
 -- ---- offsets
 
--- an entry is lent exactly where a path of child numbers leads to it
-abbrev pub LentByPaths : Type 0
-LentByPaths = (u : TreeAt) (e : EntryAt) → Contains (entries_of u) e ↔ ((path : List ℕ) × LeadsTo u path e)
-
 -- among the unit's bytes those of an entry, with all below it, stand from the entry's offset to its end
 abbrev pub LentAreSpelled : Type 0
 LentAreSpelled = (u : WholeUnit) (e : EntryAt) → UnitFits u → Contains (entries_of (tree_of u)) e
     → (before : List ℕ) × (own : List ℕ) × (after : List ℕ) × (bytes_of u ≡ before ++ (own ++ after)) × (own ≡ tree_bytes e.context e.table e.node) × (length before ≡ e.offset) × (length before + length own ≡ end_offset_of e)
-
--- two entries have two offsets
-abbrev pub OneOffset : Type 0
-OneOffset = (u : TreeAt) (room : ℕ) (e f : EntryAt) → (tree u.context u.table room).Fits u.root → Contains (entries_of u) e → Contains (entries_of u) f → e.offset ≡ f.offset → e ≡ f
-
--- entries are lent in the order of their offsets
-abbrev pub OffsetsRise : Type 0
-OffsetsRise = (u : TreeAt) (room i j : ℕ) (d : EntryAt) → (tree u.context u.table room).Fits u.root → i < j → j < length (entries_of u) → (get_or (entries_of u) i d).offset < (get_or (entries_of u) j d).offset
-
--- two paths lead to two offsets
-abbrev pub OnePath : Type 0
-OnePath = (k : Ctx) (t : Table) (room : ℕ) (x : Tree) → (tree k t room).Fits x → (base : ℕ) (p q : List ℕ) (o : ℕ) → offset_at k t base x p ≡ Some o → offset_at k t base x q ≡ Some o → p ≡ q

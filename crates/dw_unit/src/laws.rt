@@ -1,18 +1,11 @@
-//! Laws of the definitions of trees and units. They call nothing. A clause on units that names no versions
+//! Laws of the definitions of units; those of trees stand in `dw_tree`. They call nothing. A clause on units that names no versions
 //! speaks of version 5 alone, but for the round trip.
-ghost use Rattle.std.specs.Prelude.{ℕ};
-ghost use Rattle.dw_leb.specs.Laws.{NoneBegins, OneAnswer};
-ghost use Rattle.dw_leb.specs.PartLaws.{Stays};
-ghost use Rattle.dw_form.specs.declared.shape.Ctx.{Ctx};
 ghost use Rattle.dw_header.specs.declared.versions.Versions.{Versions};
-ghost use Rattle.dw_abbrev.specs.Table.{Table};
-ghost use Rattle.dw_tree.specs.Tree.{tree};
-ghost use Rattle.dw_unit.specs.Laws.{OneUnitOver, OneUnitOverUnder, OneBreak, OneBreakUnder, NotUnitAndBreak, NotUnitAndBreakUnder, UnitOrBreak, UnitOrBreakUnder, FrontsStay, FrontsStayUnder, BreaksStay, BreaksStayUnder, FrontsAreCut, FrontsAreCutUnder, UnitsOverSections, UnitsOverSectionsUnder, BreaksAreFaults, BreaksAreFaultsUnder, OneUnit, OneUnitUnder, OneFault, OneFaultUnder, NotBoth, NotBothUnder, SomeAnswer, SomeAnswerUnder, UnitsStay, UnitsStayUnder, FaultsStay, FaultsStayUnder, FrontsAreTruncated, FrontsAreTruncatedUnder, WrittenIsRead, WrittenIsReadUnder, ReadIsWritten, ReadIsWrittenUnder, UnitsAreAccepted, UnitsStandWhereAccepted, UnitsBreakWhereAccepted, UnitsFailWhereAccepted, LentByPaths, LentAreSpelled, OneOffset, OffsetsRise, OnePath};
+ghost use Rattle.dw_unit.specs.Laws.{OneUnitOver, OneUnitOverUnder, OneBreak, OneBreakUnder, NotUnitAndBreak, NotUnitAndBreakUnder, UnitOrBreak, UnitOrBreakUnder, FrontsStay, FrontsStayUnder, BreaksStay, BreaksStayUnder, FrontsAreCut, FrontsAreCutUnder, UnitsOverSections, UnitsOverSectionsUnder, BreaksAreFaults, BreaksAreFaultsUnder, OneUnit, OneUnitUnder, OneFault, OneFaultUnder, NotBoth, NotBothUnder, SomeAnswer, SomeAnswerUnder, UnitsStay, UnitsStayUnder, FaultsStay, FaultsStayUnder, FrontsAreTruncated, FrontsAreTruncatedUnder, WrittenIsRead, WrittenIsReadUnder, ReadIsWritten, ReadIsWrittenUnder, UnitsAreAccepted, UnitsStandWhereAccepted, UnitsBreakWhereAccepted, UnitsFailWhereAccepted, LentAreSpelled};
 
-/// One spelling: no spelling of a tree of entries begins another, and bytes have at most one unit at
-/// the front, of one size: over a table that is handed in, and over an abbreviation section.
+/// One spelling: bytes have at most one unit at the front, of one size: over a table that is handed in, and
+/// over an abbreviation section.
 pub fn one_spelling()
-    ensures trees { (k : Ctx) (t : Table) (room : ℕ) → NoneBegins (tree k t room) }
     ensures over_a_table { OneUnitOver }
     ensures units { OneUnit }
     ensures over_a_table_under { (versions : Versions) → OneUnitOverUnder versions }
@@ -23,7 +16,6 @@ pub fn one_spelling()
 /// break, at one place for one reason. Over an abbreviation section they have exactly one of a unit at
 /// the front and a first fault, in one section, at one place, for one reason.
 pub fn one_outcome()
-    ensures trees { (k : Ctx) (t : Table) (room : ℕ) → OneAnswer (tree k t room) }
     ensures one_break { OneBreak }
     ensures not_unit_and_break { NotUnitAndBreak }
     ensures unit_or_break { UnitOrBreak }
@@ -41,7 +33,6 @@ pub fn one_outcome()
 /// Outcomes are stable: a unit at the front stays whatever bytes follow, and so does a break or a fault
 /// whose reason isn't `Truncated`. A proper front of a unit is `Truncated`.
 pub fn outcomes_are_stable()
-    ensures trees { (k : Ctx) (t : Table) (room : ℕ) → Stays (tree k t room).Break }
     ensures fronts_stay { FrontsStay }
     ensures breaks { BreaksStay }
     ensures fronts { FrontsAreCut }
@@ -86,18 +77,8 @@ pub fn round_trip()
     ensures read_is_written_under { (versions : Versions) → ReadIsWrittenUnder versions }
 {}
 
-/// Offsets: an entry is lent exactly where a path of child numbers leads to it from the root, at that
-/// path's offset, and at a level of the path's length and one. Among the unit's bytes those of the entry,
-/// with all below it, stand from its offset to its end (section 7.5.2).
-pub fn entries_are_by_paths()
-    ensures paths { LentByPaths }
-    ensures spelled { LentAreSpelled }
-{}
-
-/// Offsets are distinct: two entries that are lent have two offsets, and the entries are lent in the
-/// order of these; two paths lead to two offsets.
-pub fn offsets_are_distinct()
-    ensures entries { OneOffset }
-    ensures rise { OffsetsRise }
-    ensures paths { OnePath }
+/// Among the unit's bytes those of an entry that is lent, with all below it, stand from its offset to its end
+/// (section 7.5.2).
+pub fn entries_are_spelled()
+    ensures { LentAreSpelled }
 {}

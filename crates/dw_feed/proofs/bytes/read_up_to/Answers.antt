@@ -1,4 +1,4 @@
-use Rattle.std.proofs.Common.{◌++◌, take, arith, length-append, length-take}
+use Rattle.std.proofs.Common.{◌++◌, ◌∙◌, take, arith, length-append, length-take}
 use Rattle.std.proofs.lemmas.Result.{err_from_is_err_and}
 use Rattle.dw_leb.specs.Transfers.{consumes_more}
 use Rattle.dw_feed.proofs.bytes.read_up_to.Goals as goal
@@ -22,5 +22,17 @@ returns-in_err-extend_from_slice-clause-memory g c =
     rw (p.1, p.2) (
       before.0 ++ next,
       omega (arith, length-append before.0 next, length-take c.in-Ok.got c.read.new.buf, c.in-Ok.ensures.bound.0, c.in-Ok.ensures.bound.1, c.read.auto.buf, length-take c.min-want.result c.loop-left.chunk, c.if-got-eq0.false),
+      consumes_more _ _ _ _ _ before.3 c.in-Ok.ensures.bytes.0,
+    )
+
+pub returns-in_err-extend_from_slice-clause-kept : goal.returns-in_err-extend_from_slice-clause-kept
+returns-in_err-extend_from_slice-clause-kept g c =
+    let p = err_from_is_err_and c.from_residual.result c.from_residual.ensures.1 in
+    let before = c.loop-left.invariant.taken in
+    let next = take c.in-Ok.got c.read.new.buf in
+    rw (p.1, p.2) (
+      before.0,
+      next,
+      c.in_err-extend_from_slice.ensures.items ∙ before.1,
       consumes_more _ _ _ _ _ before.3 c.in-Ok.ensures.bytes.0,
     )

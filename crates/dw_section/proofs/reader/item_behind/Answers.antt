@@ -1,4 +1,4 @@
-use Rattle.std.proofs.Common.{◌≡◌, ◌∙◌, ◌≤◌, ◌⊎◌, Bool, true, false, List, ℕ, length, sym, ap, subst, arith, inl, inr}
+use Rattle.std.proofs.Common.{◌≡◌, ◌∙◌, ◌≤◌, ◌⊎◌, Bool, true, false, List, [], ℕ, length, sym, ap, subst, arith, inl, inr}
 use Rattle.std.proofs.lemmas.Result.{err_from_is_err_and, IfOk-weaker, IfErr-weaker}
 use Rattle.std.specs.Io.KnownBytes.{IsAtEnd}
 use Rattle.dw_leb.specs.Watch.{inner_of}
@@ -15,7 +15,9 @@ use Rattle.dw_section.proofs.reader.item_behind.Goals as goal
 pub returns-in_err-read_up_to-clause-broken : goal.returns-in_err-read_up_to-clause-broken
 returns-in_err-read_up_to-clause-broken g c =
     let p = err_from_is_err_and c.from_residual.result c.from_residual.ensures.1 in
-    rw (p.1, p.2) (rest_failed c.args.start.versions c.args.start.order c.args.tables.now c.args.start.offset _ _ c.args.bytes.items _ c.in_err-read_up_to.field-0.0 c.in_err-read_up_to.ensures.bytes)
+    rw (p.1, p.2)
+    (rest_failed c.args.start.versions c.args.start.order c.args.tables.now c.args.start.offset _ _ c.args.bytes.items _ c.in_err-read_up_to.field-0.0 c.in_err-read_up_to.ensures.bytes
+    c.requires.begun.format c.args.n [] c.requires.begun.begins (omega (arith, c.min.ensures)))
 
 pub returns-in_err-read_up_to-clause-memory : goal.returns-in_err-read_up_to-clause-memory
 returns-in_err-read_up_to-clause-memory g c =
@@ -109,4 +111,4 @@ returns-in-Err-clause-broken g c =
     let breaks = subst (λ (b : List ℕ). (marks c.args.start.versions c.args.start.order c.args.n).Break b c.args.n c.in-Err.e.offset c.in-Err.e.reason) marked c.in-Err.ensures.broken in
     let whole : ((c.args.n ≤ length h.0) ⊎ (3 ≤ length h.0)) ⊎ IsAtEnd mid = elim h.4 [ inl all ↦ inl (enough c.args.n (length h.0) c.min.result all c.min.ensures) | inr end ↦ inr end ] in
     subst (λ (e : ReadError). TakesNoItem c.args.start.versions c.args.start.order c.args.tables.now c.args.start.offset (behind bytes old) mid e) (sym c.fault_at.ensures)
-    (kind_cut c.args.start.versions c.args.start.order c.args.tables.now c.args.start.offset c.args.n (length c.as_slice-field.result.now) old mid bytes h.0 c.requires.begun field h.3 whole c.in-Err.e.offset c.in-Err.e.reason breaks)
+    (kind_cut c.args.start.versions c.args.start.order c.args.tables.now c.args.start.offset c.args.n (length c.as_slice-field.result.now) old mid bytes h.0 c.requires.begun field (omega (arith, h.2, c.min.ensures)) h.3 whole c.in-Err.e.offset c.in-Err.e.reason breaks)

@@ -54,4 +54,4 @@ returns-in-Err-clause-broken g c =
     let breaks : (initial_length c.args.start.order c.args.start.offset).Break bytes length_limit 0 reason =
     subst (λ (b : List ℕ). (initial_length c.args.start.order c.args.start.offset).Break b length_limit 0 reason) c.as_slice-2.ensures.value c.in-Err.ensures.broken in
     subst (λ (e : ReadError). TakesNoItem c.args.start.versions c.args.start.order c.args.tables.now c.args.start.offset old new e) (sym c.fault_at.ensures)
-    (field_refused c.args.start.versions c.args.start.order c.args.tables.now c.args.start.offset old new bytes reason h.0 h.2 some breaks)
+    (field_refused c.args.start.versions c.args.start.order c.args.tables.now c.args.start.offset old new bytes reason h.0 h.1 h.2 some breaks)

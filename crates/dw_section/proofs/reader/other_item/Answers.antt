@@ -5,13 +5,17 @@ use Rattle.dw_leb.specs.declared.errors.ReadError.{ReadError}
 use Rattle.dw_leb.specs.Watch.{inner_of}
 use Rattle.dw_feed.specs.Feed.{behind}
 use Rattle.dw_section.specs.Reads.{TakesNoItem}
-use Rattle.dw_section.proofs.ItemReads.{rest_failed, other_inside, other_taken, other_ended}
+use Rattle.dw_section.proofs.ItemReads.{begins_size, rest_failed, other_inside, other_taken, other_ended}
 use Rattle.dw_section.proofs.reader.other_item.Goals as goal
 
 pub returns-in_err-read_up_to-clause-broken : goal.returns-in_err-read_up_to-clause-broken
 returns-in_err-read_up_to-clause-broken g c = λ abbreviations.
     let p = err_from_is_err_and c.from_residual.result c.from_residual.ensures.1 in
-    rw (p.1, p.2) (rest_failed c.args.start.versions c.args.start.order abbreviations c.args.start.offset _ _ c.args.bytes.items _ c.in_err-read_up_to.field-0.0 c.in_err-read_up_to.ensures.bytes)
+    let begun = c.requires.begun in
+    let size = begins_size c.args.start.order c.args.start.offset c.args.bytes.items begun.format c.args.n begun.rest begun.begins in
+    rw (p.1, p.2)
+    (rest_failed c.args.start.versions c.args.start.order abbreviations c.args.start.offset _ _ c.args.bytes.items _ c.in_err-read_up_to.field-0.0 c.in_err-read_up_to.ensures.bytes
+    begun.format c.args.n begun.rest begun.begins (omega (arith, ap length c.as_slice.ensures.value, size, begun.field_is, begun.inside)))
 
 pub returns-in_err-read_up_to-clause-memory : goal.returns-in_err-read_up_to-clause-memory
 returns-in_err-read_up_to-clause-memory g c =

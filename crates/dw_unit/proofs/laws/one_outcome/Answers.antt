@@ -1,11 +1,6 @@
-use Rattle.dw_leb.specs.Laws.{one_answer}
 use Rattle.dw_header.specs.declared.versions.Versions.TheVariants.{Five}
-use Rattle.dw_tree.specs.DecideTree.{tree_decides}
 use Rattle.dw_unit.specs.UnitLaws.{one_break, not_unit_and_break, unit_or_break, one_fault, not_both, some_answer}
 use Rattle.dw_unit.proofs.laws.one_outcome.Goals as goal
-
-pub returns-clause-trees : goal.returns-clause-trees
-returns-clause-trees c = λ k t room. one_answer _ _ (tree_decides k t room)
 
 pub returns-clause-one_break : goal.returns-clause-one_break
 returns-clause-one_break c = one_break Five

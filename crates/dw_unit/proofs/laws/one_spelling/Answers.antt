@@ -1,11 +1,6 @@
-use Rattle.dw_leb.specs.PartLaws.{one_front}
 use Rattle.dw_header.specs.declared.versions.Versions.TheVariants.{Five}
-use Rattle.dw_tree.specs.DecideTree.{tree_decides}
 use Rattle.dw_unit.specs.UnitLaws.{one_unit_over, one_unit}
 use Rattle.dw_unit.proofs.laws.one_spelling.Goals as goal
-
-pub returns-clause-trees : goal.returns-clause-trees
-returns-clause-trees c = λ k t room. one_front _ _ (tree_decides k t room)
 
 pub returns-clause-over_a_table : goal.returns-clause-over_a_table
 returns-clause-over_a_table c = one_unit_over Five

@@ -1,11 +1,7 @@
-use Rattle.dw_tree.specs.DecideTree.{tree_stays}
 use Rattle.dw_header.specs.declared.versions.Versions.TheVariants.{Five}
 use Rattle.dw_unit.specs.DecideUnit.{front_stays, break_stays, unit_stays, fault_stays}
 use Rattle.dw_unit.specs.UnitLaws.{fronts_are_cut, fronts_are_truncated}
 use Rattle.dw_unit.proofs.laws.outcomes_are_stable.Goals as goal
-
-pub returns-clause-trees : goal.returns-clause-trees
-returns-clause-trees c = tree_stays
 
 pub returns-clause-fronts_stay : goal.returns-clause-fronts_stay
 returns-clause-fronts_stay c = front_stays Five

@@ -7,7 +7,7 @@ use Rattle.dw_tree.specs.Steps.{TreeAt}
 use Rattle.dw_tree.specs.Lent.{entries_of, find_at}
 use Rattle.dw_unit.specs.Unit.{WholeUnit, tree_of}
 use Rattle.dw_unit.proofs.Found.{found_by, none_by}
-use Rattle.dw_unit.proofs.Rising.{entries_rise, each_by}
+use Rattle.dw_tree.specs.Rising.{entries_rise, each_by}
 use Rattle.dw_unit.proofs.unit.Unit.entry_at.Goals as goal
 
 pub returns-clause-found : goal.returns-clause-found

@@ -3,19 +3,16 @@ use Rattle.std.proofs.lemmas.List.{length-append}
 use Rattle.dw_leb.specs.Number.{length_field}
 use Rattle.dw_leb.specs.DecideNumber.{initial-size}
 use Rattle.dw_header.specs.Header.{fields, fields_of, context_of}
-use Rattle.dw_tree.specs.Paths.{lent_by_path, lent_among}
+use Rattle.dw_tree.specs.Paths.{lent_among}
 use Rattle.dw_tree.specs.Spelling.{tree_bytes}
 use Rattle.dw_tree.specs.Structure.{spelled_by_structure}
 use Rattle.dw_tree.specs.Tree.{nesting, nulls}
 use Rattle.dw_unit.specs.Unit.{body_bytes, bytes_of, tree_of}
 use Rattle.dw_unit.proofs.UnitWritten.{head_bytes, root_bytes, parted}
-use Rattle.dw_unit.proofs.laws.entries_are_by_paths.Goals as goal
+use Rattle.dw_unit.proofs.laws.entries_are_spelled.Goals as goal
 
-pub returns-clause-paths : goal.returns-clause-paths
-returns-clause-paths c = lent_by_path
-
-pub returns-clause-spelled : goal.returns-clause-spelled
-returns-clause-spelled c = λ u e fits lent.
+pub returns : goal.returns
+returns c = λ u e fits lent.
     let among = lent_among (tree_of u) e lent in
     let own = tree_bytes e.context e.table e.node in
     let head = head_bytes u (length (body_bytes u)) in

@@ -2,8 +2,8 @@ use Rattle.std.proofs.Common.{◌+◌, length}
 use Rattle.dw_tree.specs.Offsets.{one_path, tree_codes}
 use Rattle.dw_tree.specs.Spelling.{tree_bytes}
 use Rattle.dw_tree.specs.Lent.{entries_of}
-use Rattle.dw_unit.proofs.Rising.{entries_rise, rises, one_at}
-use Rattle.dw_unit.proofs.laws.offsets_are_distinct.Goals as goal
+use Rattle.dw_tree.specs.Rising.{entries_rise, rises, one_at}
+use Rattle.dw_tree.proofs.laws.offsets_are_distinct.Goals as goal
 
 pub returns-clause-entries : goal.returns-clause-entries
 returns-clause-entries c = λ u room e f fits one two same.
