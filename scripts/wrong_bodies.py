@@ -10,8 +10,9 @@ what is checked, all whose proofs the edit can change; without one it is tried a
 has to be among the refused ones.
 
 The goals of a function stand on the contracts of what it calls, and not on the bodies. So a wrong body stands beside the right one, in a copy of the
-function that has its contract, its attributes and its proof files, and a name of its own: nothing calls the copy, so nothing else is proved anew. What can't
-be copied (a function of a trait or of a cycle of calls, and what stands in no body) is changed in its place, at most one body a function in a
+function that has its contract, its attributes and its proof files, and a name of its own: nothing calls the copy, so nothing else is proved anew. The copy of a
+function of a cycle of calls is in no cycle: it calls those that are, by their contracts, and of the proof files of the cycle it has what is of that function. What can't
+be copied (a function of a trait, or one that calls itself, and what stands in no body) is changed in its place, at most one body a function in a
 round. One `rt check` tells what is refused of each function of a round. An edit passes where a goal of its own function is refused. It fails where
 the function is proved (NOT REFUSED); where only a callee is refused, or nothing is told (NOT TRIED); where its proof file just names what the edit took
 away, or another goal than `clause:` is refused (WEAK); and where it can't be applied or compiled (BAD EDIT). A line is printed for each, with the
@@ -47,6 +48,7 @@ from clones import Stop
 
 PUB = r"(?:pub(?:\([\w: ]+\))? )?"
 FUNCTION = re.compile(rf"(?m)^( *){PUB}(?:(?:const|unsafe) )*fn (\w+)")
+CYCLE = re.compile(r"#\[cycle\((\w+)\)\]\n *")
 OWNER = re.compile(rf"(?m)^(?:unsafe )?(?:impl(?:<.*?>)? (.*?)(?: {{)?|{PUB}trait (\w+).*)$")
 
 # What a check says: of a function; of a goal in its proof file; of a goal of its code that is left; of a name that it doesn't know.
@@ -89,7 +91,7 @@ class Judged:
 @dataclass
 class Function:
     """A function of a file: its path below the crate, the key of its proof (its path, or its cycle of calls, and its name there where it
-    isn't the only one), where it begins with its docs, where its name ends, where its body begins and ends, and whether it can be copied."""
+    isn't the only one), where it begins with its docs, where its name ends, where its body begins and ends, its cycle of calls, and whether it can be copied."""
 
     name: str
     key: str
@@ -97,6 +99,7 @@ class Function:
     named: int
     begin: int
     end: int
+    cycle: str
     can_be_copied: bool
 
 
@@ -199,12 +202,13 @@ def functions_in(crate, path, text):
         owner = owner_of(crate, path, heads[-1]) if match[1] else module_of(path)
         name = "::".join([*owner, match[2]])
         first = first_of(text, match.start())
-        cycle = re.search(r"#\[cycle\((\w+)\)\]", text[first : match.start()])
+        cycle = CYCLE.search(text[first : match.start()])
         calls = r"\b(?:self\.|Self::)" if match[1] else r"(?<![\w.:])"
         itself = re.search(rf"{calls}({match[2]})\(", text[slice(*body)])
         key = f"+{cycle[1]}::{match[2]}" if cycle else f"+{itself[1]}" if itself else name
         is_of_trait = match[1] and heads[-1] and (heads[-1][2] or " for " in heads[-1][1])
-        found.append(Function(name, key, first, match.end(2), *body, key == name and not is_of_trait))
+        can_be_copied = (key == name or cycle and not match[1]) and not is_of_trait
+        found.append(Function(name, key, first, match.end(2), *body, cycle[1] if cycle else "", bool(can_be_copied)))
     return found
 
 
@@ -247,7 +251,7 @@ def copy_of(crate, edit, path, name):
     """The text of a function as the edit changes it, under a name of its own."""
     text = applied(crate, [edit])[0].get(path) or text_of(crate, path)
     it = next(it for it in functions_in(crate, path, text) if it.name == name)
-    return f"{text[it.first : it.named]}_{edit.name}{text[it.named : behind(text, it)]}"
+    return f"{CYCLE.sub('', text[it.first : it.named])}_{edit.name}{text[it.named : behind(text, it)]}"
 
 
 def behind(text, function):
@@ -257,12 +261,32 @@ def behind(text, function):
 
 def proofs_of_copy(crate, edit, name):
     """The proof files of a function, for its copy."""
-    folder, found = f"proofs/{name.replace('::', '/')}", {}
+    its = next(it for _, it in all_functions(crate) if it.name == name)
+    module, _, own = name.rpartition("::")
+    folder, there = (f"proofs/{module}::{it}".replace("::", "/").replace("//", "/") for it in (f"+{its.cycle}" if its.cycle else own, f"{own}_{edit.name}"))
+    members = {it.name.rpartition("::")[2] for _, it in all_functions(crate) if its.cycle and it.cycle == its.cycle and it.name.rpartition("::")[0] == module}
+    found = {}
     for path in (f"{folder}/{it}.antt" for it in ("Answers", "Invariants", "Proof")):
         if os.path.isfile(f"{crate.folder}/{path}"):
-            module = folder.replace("/", ".")
-            found[path.replace(folder, f"{folder}_{edit.name}")] = text_of(crate, path).replace(f".{module}.", f".{module}_{edit.name}.")
-    return found
+            text = text_of(crate, path).replace(f".{folder.replace('/', '.')}.", f".{there.replace('/', '.')}.")
+            found[path.replace(folder, there)] = of_member(text, own, members) if its.cycle else text
+    return {path: text for path, text in found.items() if text}
+
+
+def of_member(text, own, members):
+    """What the proof file of a cycle of calls has of one of its functions, as it stands in a file of that function's own: there its goals go by no
+    function's name, nothing is taken of the cycle, and no measure of the function is asked for."""
+    kept, has_some = [], False
+    for part in re.split(r"\n\n(?! )", text):
+        named = re.search(r"(?m)^(?:abbrev )?pub (invariant-|decreases-|)([^\s-]+)(-?)", part)
+        if named and named[2] in members:
+            if named[2] != own or not named[3]:
+                continue
+            part = re.sub(rf"(?m)(^(?:abbrev )?(?:pub )?|\bgoal\.){named[1]}{own}-", rf"\1{named[1]}", part)
+            part = re.sub(r"(?m)^(\S+) t (\w+ =)", r"\1 \2", part)
+            has_some = True
+        kept.append(part)
+    return "\n\n".join(kept) if has_some else ""
 
 
 def read(crate, file):

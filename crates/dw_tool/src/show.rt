@@ -122,12 +122,18 @@ fn push_kind<W: Write>(out: &mut Output<'_, W>, kind: Kind) -> Result<(), WriteE
     requires { IsClear out.old }
     ensures { Puts W.contents out.old out.new (kind_text kind) result }
 {
+    out.append(kind_name(kind))
+}
+
+fn kind_name(kind: Kind) -> &'static [u8]
+    ensures { result.now ≡ kind_text kind }
+{
     match kind {
-        Kind::Compile => out.append(b"compile"),
-        Kind::Partial => out.append(b"partial"),
-        Kind::TypeUnit { .. } => out.append(b"type"),
-        Kind::Skeleton { .. } => out.append(b"skeleton"),
-        Kind::Four => out.append(b"four"),
+        Kind::Compile => b"compile",
+        Kind::Partial => b"partial",
+        Kind::TypeUnit { .. } => b"type",
+        Kind::Skeleton { .. } => b"skeleton",
+        Kind::Four => b"four",
     }
 }
 

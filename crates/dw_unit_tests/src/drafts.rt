@@ -180,9 +180,15 @@ fn is_empty_of(rt: &impl Abort, draft: &Draft, size: u64) {
     assert!(rt; draft.is_empty() == true);
 }
 
+/// A table that is shared by few is shared once more: a draft that refused it would only be slower, which no clause excludes.
+fn shares_its_table(rt: &impl Abort, draft: &Draft) {
+    assert!(rt; draft.share_table().is_ok());
+}
+
 /// A root and its child begin, with the depth after each step.
 fn goes_down(rt: &impl Abort, draft: &mut Draft) -> Result<(), Fail> {
     is_empty_of(rt, draft, 12);
+    shares_its_table(rt, draft);
     begun(draft, wide_one()?)?;
     is_empty_of(rt, draft, 14);
     given(draft, name())?;
