@@ -1,3 +1,4 @@
+mod Begins
 pub mod Numbers
 pub mod Zero
 mod TextRows

@@ -1,5 +1,6 @@
 -- What a text form names, and why one names nothing (sections 7.5.5 and 7.26).
-use Rattle.std.specs.Prelude.{ℕ, ◌+◌, ◌*◌, List, [], ◌∷◌, length, take, drop, Option, Some, None, Result, Ok, Err, nat_le, ◌==◌, if◌then◌else◌}
+use Rattle.std.specs.Prelude.{ℕ, ◌+◌, ◌*◌, Bool, false, List, [], ◌∷◌, length, take, drop, Option, Some, None, Result, Ok, Err, nat_le, ◌==◌, if◌then◌else◌}
+use Rattle.std.specs.Str.{bytes_eq}
 use Rattle.dw_leb.specs.declared.order.Order.{Order}
 use Rattle.dw_leb.specs.Number.{offset_size}
 use Rattle.dw_leb.specs.ReadNumber.{undigits, ordered, before_zero}
@@ -21,6 +22,11 @@ pub record StringSections : Type 0 where
 
 abbrev pub Named : Type 0
 Named = Result (List ℕ) StrFault
+
+-- whether it is this text, and not a fault
+abbrev pub is_text : List ℕ → Named → Bool
+is_text text (Ok bytes) = bytes_eq bytes text
+is_text text (Err why) = false
 
 -- ---- at an offset
 

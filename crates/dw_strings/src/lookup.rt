@@ -24,6 +24,27 @@ pub(crate) fn text_at(section: &[u8], offset: u64) -> Result<&[u8], StrFault>
     }
 }
 
+/// Whether exactly this text begins at an offset of a section of texts.
+pub(crate) fn begins_at(section: &[u8], offset: u64, text: &[u8]) -> bool
+    ensures { result ≡ definition.is_text text.now (definition.text_at section.now offset) }
+{
+    if offset >= section.len() as u64 {
+        return false;
+    }
+    begins(&section[offset as usize..], text)
+}
+
+/// Whether bytes begin with exactly this text and the zero byte that ends it. What takes a look at one byte is
+/// looked at first, and what is seldom needed last.
+fn begins(bytes: &[u8], text: &[u8]) -> bool
+    ensures { result ≡ definition.is_text text.now (definition.unless_ended (before_zero bytes.now)) }
+{
+    let Some(behind) = bytes.get(text.len()) else {
+        return false;
+    };
+    *behind == 0 && &bytes[..text.len()] == text && zero_at(text).is_none()
+}
+
 /// The place of the first zero byte.
 fn zero_at(bytes: &[u8]) -> Option<usize>
     ensures exact { ZeroAt bytes.now result (before_zero bytes.now) }

@@ -9,7 +9,7 @@ ghost use Rattle.dw_strings.specs.TextView.{place_of, sections_of, seen, seen_pl
 
 use crate::fault::StrFault;
 use crate::form::StoredIn;
-use crate::lookup::{entry, text_at};
+use crate::lookup::{begins_at, entry, text_at};
 use crate::place::TextPlace;
 use dw_form::AttrValue;
 use dw_leb::constants::form::DW_FORM_STRING;
@@ -88,6 +88,20 @@ impl<'a> Strings<'a> {
             TextPlace::Own(text) => Ok(text),
             TextPlace::Str(offset) => text_at(self.str, offset),
             TextPlace::LineStr(offset) => text_at(self.line_str, offset),
+        }
+    }
+
+    /// Whether exactly this text begins at a place (sections 7.5.5 and 7.26): its bytes stand there, and behind them
+    /// the zero byte that ends a text. So it is `text_at(place) == Ok(text)`, but it looks at no more bytes of a
+    /// section than `text` has, and one. A text that has a zero byte in itself begins nowhere in a section. No memory
+    /// is taken.
+    pub fn has_text(&self, place: TextPlace<'a>, text: &[u8]) -> bool
+        ensures { result ≡ definition.is_text text.now (definition.text_in_place (sections_of self.now) (place_of place.entry)) }
+    {
+        match place {
+            TextPlace::Own(own) => own == text,
+            TextPlace::Str(offset) => begins_at(self.str, offset, text),
+            TextPlace::LineStr(offset) => begins_at(self.line_str, offset, text),
         }
     }
 
