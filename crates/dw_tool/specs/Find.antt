@@ -1,17 +1,12 @@
 -- The entries of a name in a section, a line for each.
-use Rattle.std.specs.Prelude.{ℕ, suc, ◌+◌, Bool, true, false, List, [], ◌∷◌, ◌++◌, Option, Some, None, Ok, Err, codes, if◌then◌else◌}
-use Rattle.std.specs.Str.{bytes_eq}
+use Rattle.std.specs.Prelude.{ℕ, suc, ◌+◌, Bool, true, false, List, [], ◌∷◌, ◌++◌, Option, Some, None, codes, if◌then◌else◌}
 use Rattle.dw_tree.specs.Lent.{LentAttribute, EntryAt, attributes_of, entries_of, first_named}
 use Rattle.dw_unit.specs.Unit.{tree_of}
 use Rattle.dw_section.specs.Item.{Item, Known, Other}
 use Rattle.dw_section.specs.Section.{WholeSection}
-use Rattle.dw_strings.specs.Text.{StringSections, Named}
+use Rattle.dw_strings.specs.Text.{StringSections, is_text}
 use Rattle.dw_tool.specs.Show.{start_at, tag_at, text_of}
 use Rattle.dw_tool.specs.Text.{hexadecimal, tag_text}
-
-abbrev pub is_text : List ℕ → Named → Bool
-is_text name (Ok bytes) = bytes_eq bytes name
-is_text name (Err why) = false
 
 abbrev pub has_text : StringSections → List Item → ℕ → List ℕ → Option LentAttribute → Bool
 has_text strings items item name None = false

@@ -122,8 +122,8 @@ fn is_named(place: &Place<'_>, entry: &EntryRef<'_>, name: &[u8]) -> bool
         item: place.item,
         offset: entry.offset(),
     };
-    match place.strings.text(place.section, id, &attribute) {
-        Ok(text) => text == name,
+    match place.strings.place(place.section, id, &attribute) {
+        Ok(begin) => place.strings.has_text(begin, name),
         Err(_) => false,
     }
 }
