@@ -18,9 +18,18 @@ const UNIT: [u8; 15] = [
     0x0b, 0x00, 0x00, 0x00, 0x05, 0x00, 0x01, 0x08, 0x00, 0x00, 0x00, 0x00, 0x01, 0x61, 0x00,
 ];
 
-/// Whether a run whose reader fails at its third call tells so, and writes nothing.
-fn tells_of_its_reader(alloc: Global, command: Command<'_>) -> bool {
-    let mut reader = Watched::new(Stepped::failing(UNIT.as_slice(), 4, 2, ErrorKind::TimedOut));
+/// Where a device fails: it passes on so many bytes a call, and after so many calls fails with this kind.
+#[derive(Clone, Copy)]
+struct Failing {
+    size: usize,
+    calls: usize,
+    kind: ErrorKind,
+}
+
+/// Whether a run whose reader fails so tells it, and writes nothing.
+fn tells_of_its_reader(alloc: Global, command: Command<'_>, failing: Failing) -> bool {
+    let Failing { size, calls, kind } = failing;
+    let mut reader = Watched::new(Stepped::failing(UNIT.as_slice(), size, calls, kind));
     let mut writer = Watched::new(Vec::new(alloc));
     let inputs = Inputs {
         order: Order::Little,
@@ -30,13 +39,19 @@ fn tells_of_its_reader(alloc: Global, command: Command<'_>) -> bool {
         strings: no_strings(),
     };
     let unread = run(alloc, command, inputs, &mut writer);
-    unread == Err(ToolError::Read(ErrorKind::TimedOut)) && writer.into_inner().is_empty()
+    unread == Err(ToolError::Read(kind)) && writer.into_inner().is_empty()
 }
 
-/// Whether a run whose writer fails at its second call tells so.
-fn tells_of_its_writer(alloc: Global, command: Command<'_>) -> bool {
+/// Whether a run whose writer fails with this kind tells it, and has written these bytes before.
+fn tells_of_its_writer(
+    alloc: Global,
+    command: Command<'_>,
+    writer: Stepped<Vec<u8>>,
+    kind: ErrorKind,
+    before: &[u8],
+) -> bool {
     let mut reader = Watched::new(UNIT.as_slice());
-    let mut writer = Watched::new(Stepped::failing(Vec::new(alloc), 4, 1, ErrorKind::TimedOut));
+    let mut writer = Watched::new(writer);
     let inputs = Inputs {
         order: Order::Little,
         versions: Versions::Five,
@@ -45,14 +60,55 @@ fn tells_of_its_writer(alloc: Global, command: Command<'_>) -> bool {
         strings: no_strings(),
     };
     let unwritten = run(alloc, command, inputs, &mut writer);
-    unwritten == Err(ToolError::Write(ErrorKind::TimedOut))
+    unwritten == Err(ToolError::Write(kind)) && writer.into_inner().inner().as_slice() == before
 }
 
 #[test]
 fn tells_devices_that_fail(rt: HostRuntime) {
+    let failing = Failing {
+        size: 4,
+        calls: 2,
+        kind: ErrorKind::TimedOut,
+    };
     for command in [Command::Show, Command::Copy] {
-        assert!(rt; tells_of_its_reader(rt.alloc(), command));
-        assert!(rt; tells_of_its_writer(rt.alloc(), command));
+        assert!(rt; tells_of_its_reader(rt.alloc(), command, failing));
+    }
+    let kind = failing.kind;
+    for (command, before) in [
+        (Command::Show, b"unit 0x0".as_slice()),
+        (Command::Copy, &UNIT[..8]),
+    ] {
+        let writer = Stepped::failing(Vec::new(rt.alloc()), 4, 2, kind);
+        assert!(rt; tells_of_its_writer(rt.alloc(), command, writer, kind, before));
+    }
+}
+
+/// At its 14th call, of which each gives a byte. What was interrupted isn't asked again.
+#[test]
+fn tells_a_reader_that_fails_near_the_end(rt: HostRuntime) {
+    for kind in [ErrorKind::TimedOut, ErrorKind::Interrupted] {
+        let failing = Failing {
+            size: 1,
+            calls: 13,
+            kind,
+        };
+        for command in [Command::Show, Command::Copy, Command::Check] {
+            assert!(rt; tells_of_its_reader(rt.alloc(), command, failing));
+        }
+    }
+}
+
+/// At its third call, and where it takes no byte at all.
+#[test]
+fn tells_a_writer_that_fails_near_the_front(rt: HostRuntime) {
+    let alloc = rt.alloc();
+    for kind in [ErrorKind::StorageFull, ErrorKind::Interrupted] {
+        let writer = Stepped::failing(Vec::new(alloc), 1, 2, kind);
+        assert!(rt; tells_of_its_writer(alloc, Command::Copy, writer, kind, &UNIT[..2]));
+    }
+    for command in [Command::Copy, Command::Show] {
+        let writer = Stepped::new(Vec::new(alloc), 0);
+        assert!(rt; tells_of_its_writer(alloc, command, writer, ErrorKind::WriteZero, &[]));
     }
 }
 

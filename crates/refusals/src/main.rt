@@ -1,0 +1,131 @@
+//! Scenarios for growths that are refused: one after the other, by `scripts/refusals.py`.
+//!
+//! `refusals SCENARIO` makes calls of the library over a small input, and tells what each answered. Where one answers that there is no
+//! memory, it tells that and what stands then, and makes the same call again: one growth is refused, not the next. So whichever it was, the
+//! lines without those on refusals are the same. `refusals SCENARIO COUNT`, of calls that take no memory, makes them so often: whatever the
+//! count is, as many growths are asked for. Where memory is refused to the scenario itself, the status is 4, and nothing is told. Without words
+//! each scenario is told.
+#![tactic(auto)]
+
+mod builders;
+mod drafts;
+mod feeds;
+mod quiet;
+mod readers;
+mod runs;
+mod samples;
+mod sections;
+mod tables;
+mod told;
+
+use crate::told::ROOM;
+use dw_tool::command::Command;
+use rothelduf::ReadError;
+use std::alloc::Global;
+use std::process::ExitCode;
+use std::rt::Env;
+use std::{env, io};
+
+const SCENARIOS: [&str; 19] = [
+    "tables",
+    "declaration",
+    "table-builder",
+    "builder",
+    "draft",
+    "unit",
+    "unit-from",
+    "body",
+    "section",
+    "section-as",
+    "push",
+    "type",
+    "check",
+    "run-show",
+    "run-find",
+    "run-type",
+    "run-check",
+    "run-set",
+    "run-copy",
+];
+
+fn main(rt: HostRuntime) -> ExitCode {
+    match act(&rt) {
+        Ok(()) => ExitCode::from(0),
+        Err(_) => ExitCode::from(4),
+    }
+}
+
+fn act(rt: &(impl AllocGlobal + Env + Print)) -> io::Result<()> {
+    let words = env::args(rt)?.skip(1).collect::<Vec<String>>(rt.alloc())?;
+    act_on(rt, words.as_slice())
+}
+
+fn act_on(rt: &(impl AllocGlobal + Print), words: &[String]) -> io::Result<()> {
+    match words {
+        [] => act_on_each(rt),
+        [scenario, count @ ..] => act_on_one(rt, scenario.as_str(), count),
+    }
+}
+
+/// Each scenario, behind its name.
+fn act_on_each(rt: &(impl AllocGlobal + Print)) -> io::Result<()> {
+    for scenario in SCENARIOS {
+        println!(rt; "{scenario}:")?;
+        act_on_one(rt, scenario, &[])?;
+    }
+    Ok(())
+}
+
+fn act_on_one(rt: &(impl AllocGlobal + Print), scenario: &str, count: &[String]) -> io::Result<()> {
+    let mut told = String::with_capacity(rt.alloc(), ROOM)?;
+    let answer = match count.first() {
+        Some(count) => quiet::tell(
+            rt.alloc(),
+            scenario,
+            count.as_str().parse().unwrap_or(0),
+            &mut told,
+        ),
+        None => tell(rt.alloc(), scenario, &mut told),
+    };
+    match answer {
+        Ok(()) => print!(rt; "{}", told.as_str()),
+        Err(_) => Err(io::Error::from(io::ErrorKind::OutOfMemory)),
+    }
+}
+
+fn tell(alloc: Global, scenario: &str, told: &mut String) -> Result<(), ReadError> {
+    match scenario {
+        "tables" => tables::tell_tables(alloc, told),
+        "declaration" => tables::tell_declaration(alloc, told),
+        "table-builder" => tables::tell_builder(alloc, told),
+        "builder" => builders::tell(alloc, told),
+        "draft" => drafts::tell(alloc, told),
+        "unit" => readers::tell_unit(alloc, told),
+        "unit-from" => readers::tell_unit_from(alloc, told),
+        "body" => feeds::tell(alloc, told),
+        "section" => sections::tell_read(alloc, told),
+        "section-as" => sections::tell_read_as(alloc, told),
+        "push" => sections::tell_push(alloc, told),
+        "type" => sections::tell_type(alloc, told),
+        "check" => sections::tell_check(alloc, told),
+        _ => tell_run(alloc, scenario, told),
+    }
+}
+
+/// A run of the program's part that is over values, for each command.
+fn tell_run(alloc: Global, scenario: &str, told: &mut String) -> Result<(), ReadError> {
+    let command = match scenario {
+        "run-show" => Command::Show,
+        "run-find" => Command::Find(b"int"),
+        "run-type" => Command::TypeOf(37),
+        "run-check" => Command::Check,
+        "run-set" => Command::SetNumber {
+            offset: 34,
+            name: 0x2f,
+            value: 9,
+        },
+        "run-copy" => Command::Copy,
+        _ => return Ok(told.push_str("no such scenario\n")?),
+    };
+    runs::tell(alloc, command, told)
+}
