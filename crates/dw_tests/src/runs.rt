@@ -22,7 +22,7 @@ const UNIT: [u8; 15] = [
 #[derive(Clone, Copy)]
 struct Failing {
     size: usize,
-    calls: usize,
+    calls: u64,
     kind: ErrorKind,
 }
 
