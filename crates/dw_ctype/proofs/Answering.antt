@@ -8,10 +8,10 @@ use Rattle.dw_tree.specs.Lent.{EntryAt}
 use Rattle.dw_section.specs.Lookup.{entry}
 use Rattle.dw_section.specs.declared.id.EntryId.{EntryId}
 use Rattle.dw_ctype.specs.declared.typed.Typed.{Typed}
-use Rattle.dw_ctype.specs.Answer.{answer, answer_of}
+use Rattle.dw_ctype.specs.Answer.{answer, answer_by, answer_of}
 use Rattle.dw_ctype.specs.Append.{Grows}
 use Rattle.dw_ctype.specs.Chain.{IsChain, Tried}
-use Rattle.dw_ctype.specs.Types.{Source, subject, type_text}
+use Rattle.dw_ctype.specs.Types.{Source, say, subject, type_text}
 use Rattle.dw_ctype.specs.Visits.{less, visits, entry_text_visits}
 
 -- as much was there to be taken
@@ -21,6 +21,13 @@ few n left h = by (nat_le n left) refl
     by : (v : Bool) → nat_le n left ≡ v → nat_le n left ≡ true
     by true e = e
     by false e = let same : is_some (less n left) ≡ false = rw e refl in cc
+
+pub few_answered : (s : Source) (t : Typed) (name : List ℕ) → nat_le (visits s.items 64 t) 1024 ≡ true → answer_by s t name ≡ Ok (say s 64 t name)
+few_answered s t name h = rw h refl
+
+-- what is answered for an entry is what is for the type of which its text is
+pub answer_is : (s : Source) (id : EntryId) (name : List ℕ) (e : EntryAt) (t : Typed) → entry s.items id ≡ Some e → t ≡ subject s.items id e → answer s id name ≡ answer_by s t name
+answer_is s id name e t there is = ap (answer_of s id name) there ∙ ap (λ (x : Typed). answer_by s x name) (sym is)
 
 pub answered : (s : Source) (id : EntryId) (name : List ℕ) (e : EntryAt) → entry s.items id ≡ Some e → nat_le (entry_text_visits s.items id e) 1024 ≡ true → answer s id name ≡ Ok (type_text s id e name)
 answered s id name e there h = ap (answer_of s id name) there ∙ rw h refl

@@ -5,8 +5,13 @@ use Rattle.dw_section.specs.Lookup.{entry}
 use Rattle.dw_section.specs.declared.id.EntryId.{EntryId}
 use Rattle.dw_ctype.specs.declared.fault.TypeError.{TypeError}
 use Rattle.dw_ctype.specs.declared.fault.TypeError.TheVariants.{NoEntry, TypeTooBig, NoMemory}
-use Rattle.dw_ctype.specs.Types.{Source, type_text}
-use Rattle.dw_ctype.specs.Visits.{entry_text_visits}
+use Rattle.dw_ctype.specs.declared.typed.Typed.{Typed}
+use Rattle.dw_ctype.specs.Types.{Source, say, type_text}
+use Rattle.dw_ctype.specs.Visits.{entry_text_visits, visits}
+
+-- the text of a type with a name, if 1,024 visits are enough for it
+abbrev pub answer_by : Source → Typed → List ℕ → Result (List ℕ) TypeError
+answer_by s t name = if nat_le (visits s.items 64 t) 1024 then Ok (say s 64 t name) else Err TypeTooBig
 
 abbrev pub answer_of : Source → EntryId → List ℕ → Option EntryAt → Result (List ℕ) TypeError
 answer_of s id name None = Err NoEntry

@@ -2,7 +2,7 @@
 ghost use Rattle.std.specs.Prelude.{◌≡◌, ◌++◌, List, ℕ, Ok, IfErr, IsSome, OnErr, OnOk, ◌-◌};
 ghost use Rattle.dw_section.specs.Lookup.{unit_at};
 ghost use Rattle.std.specs.Vec.{vec_len, vec_capacity};
-ghost use Rattle.dw_ctype.specs.Answer.{answer, IsRefusal};
+ghost use Rattle.dw_ctype.specs.Answer.{answer, answer_by, IsRefusal};
 ghost use Rattle.dw_ctype.specs.Append.{Puts};
 ghost use Rattle.dw_ctype.specs.Types as definition;
 ghost use Rattle.dw_ctype.specs.View.{source_of};
@@ -57,13 +57,34 @@ pub fn type_text<'a>(
     let typed = subject(section, id, &entry);
     let start = out.len();
     match say_chain(section, strings, typed, MOST_LEVELS, name, out) {
-        Ok(false) => return Ok(()),
-        Ok(true) => {}
+        Ok(false) => Ok(()),
+        Ok(true) => say_counted(alloc, section, strings, typed, name, out),
         Err(_) => {
             out.truncate(start);
-            return Err(TypeError::NoMemory);
+            Err(TypeError::NoMemory)
         }
     }
+}
+
+/// Appends the text of a type with a name, whose visits are counted first.
+///
+/// Errors: those of `type_text`, but for `NoEntry`.
+fn say_counted<'a>(
+    alloc: Global,
+    section: &'a Section,
+    strings: &Strings<'a>,
+    typed: Typed,
+    name: &[u8],
+    out: &mut Vec<u8>,
+) -> Result<(), TypeError>
+    ensures appended { OnOk result ((text : List ℕ) ×
+        ((answer_by (source_of section.now strings.now) typed name.now ≡ Ok text) × (out.new.items ≡ out.old.items ++ text))) }
+    ensures refused { IfErr result (IsRefusal
+        (answer_by (source_of section.now strings.now) typed name.now)
+        (vec_capacity out.old - vec_len out.old)) }
+    ensures unchanged { OnErr result (out.new.items ≡ out.old.items) }
+{
+    let start = out.len();
     let mut kept = Kept::nothing(alloc, section);
     if count(section, &mut kept, typed, MOST_LEVELS, MOST_VISITS).is_none() {
         return Err(TypeError::TypeTooBig);

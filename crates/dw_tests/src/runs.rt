@@ -42,16 +42,16 @@ fn tells_of_its_reader(alloc: Global, command: Command<'_>, failing: Failing) ->
     unread == Err(ToolError::Read(kind)) && writer.into_inner().is_empty()
 }
 
-/// Whether a run whose writer fails with this kind tells it, and has written these bytes before.
+/// Whether a run whose writer fails so tells it, and has written these bytes before.
 fn tells_of_its_writer(
     alloc: Global,
     command: Command<'_>,
-    writer: Stepped<Vec<u8>>,
-    kind: ErrorKind,
+    failing: Failing,
     before: &[u8],
 ) -> bool {
+    let Failing { size, calls, kind } = failing;
     let mut reader = Watched::new(UNIT.as_slice());
-    let mut writer = Watched::new(writer);
+    let mut writer = Watched::new(Stepped::failing(Vec::new(alloc), size, calls, kind));
     let inputs = Inputs {
         order: Order::Little,
         versions: Versions::Five,
@@ -63,24 +63,23 @@ fn tells_of_its_writer(
     unwritten == Err(ToolError::Write(kind)) && writer.into_inner().inner().as_slice() == before
 }
 
+/// At their third call.
+const THIRD: Failing = Failing {
+    size: 4,
+    calls: 2,
+    kind: ErrorKind::TimedOut,
+};
+
 #[test]
-fn tells_devices_that_fail(rt: HostRuntime) {
-    let failing = Failing {
-        size: 4,
-        calls: 2,
-        kind: ErrorKind::TimedOut,
-    };
-    for command in [Command::Show, Command::Copy] {
-        assert!(rt; tells_of_its_reader(rt.alloc(), command, failing));
-    }
-    let kind = failing.kind;
-    for (command, before) in [
-        (Command::Show, b"unit 0x0".as_slice()),
-        (Command::Copy, &UNIT[..8]),
-    ] {
-        let writer = Stepped::failing(Vec::new(rt.alloc()), 4, 2, kind);
-        assert!(rt; tells_of_its_writer(rt.alloc(), command, writer, kind, before));
-    }
+fn tells_a_reader_that_fails(rt: HostRuntime) {
+    assert!(rt; tells_of_its_reader(rt.alloc(), Command::Show, THIRD));
+    assert!(rt; tells_of_its_reader(rt.alloc(), Command::Copy, THIRD));
+}
+
+#[test]
+fn tells_a_writer_that_fails(rt: HostRuntime) {
+    assert!(rt; tells_of_its_writer(rt.alloc(), Command::Show, THIRD, b"unit 0x0"));
+    assert!(rt; tells_of_its_writer(rt.alloc(), Command::Copy, THIRD, &UNIT[..8]));
 }
 
 /// At its 14th call, of which each gives a byte. What was interrupted isn't asked again.
@@ -98,17 +97,29 @@ fn tells_a_reader_that_fails_near_the_end(rt: HostRuntime) {
     }
 }
 
-/// At its third call, and where it takes no byte at all.
+/// At its third call, of which each takes a byte.
 #[test]
 fn tells_a_writer_that_fails_near_the_front(rt: HostRuntime) {
-    let alloc = rt.alloc();
     for kind in [ErrorKind::StorageFull, ErrorKind::Interrupted] {
-        let writer = Stepped::failing(Vec::new(alloc), 1, 2, kind);
-        assert!(rt; tells_of_its_writer(alloc, Command::Copy, writer, kind, &UNIT[..2]));
+        let failing = Failing {
+            size: 1,
+            calls: 2,
+            kind,
+        };
+        assert!(rt; tells_of_its_writer(rt.alloc(), Command::Copy, failing, &UNIT[..2]));
     }
-    for command in [Command::Copy, Command::Show] {
-        let writer = Stepped::new(Vec::new(alloc), 0);
-        assert!(rt; tells_of_its_writer(alloc, command, writer, ErrorKind::WriteZero, &[]));
+}
+
+/// It takes no byte at its first call.
+#[test]
+fn tells_a_writer_that_takes_nothing(rt: HostRuntime) {
+    let failing = Failing {
+        size: 0,
+        calls: 9,
+        kind: ErrorKind::WriteZero,
+    };
+    for command in [Command::Show, Command::Copy] {
+        assert!(rt; tells_of_its_writer(rt.alloc(), command, failing, &[]));
     }
 }
 

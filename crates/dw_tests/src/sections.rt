@@ -16,31 +16,64 @@ const TWICE: [u8; 30] = [
     0x08, 0, 0, 0, 0, 0x01, 0x61, 0,
 ];
 
+/// Appends two units, which the section takes.
+fn add_both(
+    rt: &impl Abort,
+    alloc: Global,
+    section: &mut Section,
+    units: [&[u8]; 2],
+) -> Result<(), Fail> {
+    for bytes in units {
+        assert!(rt; takes(alloc, section, &TWO_TABLES, bytes)?);
+    }
+    Ok(())
+}
+
 #[test]
 fn two_units_are_written_behind_each_other(rt: HostRuntime) -> Result<(), Fail> {
     let mut section = Section::new(rt.alloc(), Order::Little);
+    has_nothing(&rt, &section);
+    let units = [FIFTEEN.as_slice(), FIFTEEN.as_slice()];
+    add_both(&rt, rt.alloc(), &mut section, units)?;
+    is_twice(&rt, rt.alloc(), &section)
+}
+
+fn has_nothing(rt: &impl Abort, section: &Section) {
     assert!(rt; section.size() == 0 && section.items().is_empty());
-    assert!(rt; takes(rt.alloc(), &mut section, &TWO_TABLES, &FIFTEEN)?);
-    assert!(rt; takes(rt.alloc(), &mut section, &TWO_TABLES, &FIFTEEN)?);
+}
+
+fn is_twice(rt: &impl Abort, alloc: Global, section: &Section) -> Result<(), Fail> {
     assert!(rt; section.size() == 30 && section.items().len() == 2);
-    assert!(rt; spells(rt.alloc(), &section, &TWICE)?);
+    assert!(rt; spells(alloc, section, &TWICE)?);
     Ok(())
 }
 
 #[test]
 fn starts_and_entries(rt: HostRuntime) -> Result<(), Fail> {
     let mut section = Section::new(rt.alloc(), Order::Little);
-    assert!(rt; takes(rt.alloc(), &mut section, &TWO_TABLES, &FIFTEEN)?);
-    assert!(rt; takes(rt.alloc(), &mut section, &TWO_TABLES, &REFERS)?);
+    let units = [FIFTEEN.as_slice(), REFERS.as_slice()];
+    add_both(&rt, rt.alloc(), &mut section, units)?;
+    begins_twice(&rt, &section);
+    has_entries(&rt, &section);
+    Ok(())
+}
+
+/// The section has two units, the second of which begins at 15.
+fn begins_twice(rt: &impl Abort, section: &Section) {
     assert!(rt; section.start(0) == Some(0) && section.start(1) == Some(15));
     assert!(rt; section.start(2) == None && section.unit(2).is_none());
+}
+
+/// The second unit has its one entry at 27 of the section, and where a unit begins or the section ends there is none.
+fn has_entries(rt: &impl Abort, section: &Section) {
     let second = EntryId {
         item: 1,
         offset: 12,
     };
     assert!(rt; section.find(27) == Some(second) && section.entry(second).is_some());
-    assert!(rt; section.find(0) == None && section.find(15) == None && section.find(32) == None);
-    Ok(())
+    for offset in [0, 15, 32] {
+        assert!(rt; section.find(offset) == None);
+    }
 }
 
 /// Why the unit of these bytes isn't added.
