@@ -1,16 +1,19 @@
 #!/usr/bin/env python3
 """Hands sections to the program and to an independent reader (scripts/reference.py), and compares what they answer.
 
-Usage: scripts/sweep.py PROGRAM [COUNT [SEED]]
+Usage: scripts/sweep.py PROGRAM [COUNT [SEED]] [--all]
 
 PROGRAM is the built `dwarf` (crates/dwarf/out/dwarf). Handed over are, in turn, COUNT times (10,000 by default): a section that is made at random by
 the grammar (scripts/made.py); the same changed; and the sections of a case in `cases/` changed, of those that have at most 300 bytes of
-.debug_info. Changed is one of the files: cut off, or with a byte changed, put in or taken out. Over each, `show`, `check` and `copy`, `find` by a
+.debug_info. Changed is one of the files: cut off, or with a byte changed, put in or taken out. With --all every cut and every change of one byte of the vectors
+in crates/sweeps is handed over in their place. Over each, `show`, `check` and `copy`, `find` by a
 name, and `type` and `set` at an entry or beside one have to write the same, say the same on standard error and end with the same status; a
-section that is made has no fault. Each difference is printed with its bytes. The last line is `N passed, M failed`, of the runs, and the status is
-0 where none failed.
+section that is made has no fault. Each difference is printed with its bytes. It takes all processors. The last line is `N passed, M failed`, of the
+runs, and the status is 0 where none failed.
 """
 
+import argparse
+import concurrent.futures
 import glob
 import os
 import random
@@ -19,10 +22,14 @@ import sys
 import tempfile
 
 import reference
+import sweeps
 from case_reader import FILES, TOP, Reader
 from made import Maker
 
 MOST = 300
+
+# How many sections at random are handed over by one process.
+PART = 1_000
 
 
 def inputs():
@@ -101,23 +108,65 @@ def sections(count, chance):
             yield (files, is_big, is_four, True) if turn % 3 == 0 else (changed(files, chance), is_big, is_four, False)
 
 
-def main(program, count="10000", seed="1"):
-    sys.setrecursionlimit(100_000)
-    program, chance = os.path.abspath(program), random.Random(int(seed))
-    runs = differ = 0
-    for files, is_big, is_four, is_valid in sections(int(count), chance):
+class Swept:
+    """How many runs were made, and how many differed."""
+
+    def __init__(self):
+        self.runs = self.differ = 0
+
+    def ask(self, program, files, is_big, is_four, chance, is_valid=False):
+        """Asks the program and the independent reader the same of a section; one that is valid has to be read."""
         section = read(files, is_big, is_four)
         for words in commands(section, chance):
             want, got = answered(files, is_big, is_four, words), ran(program, files, is_big, is_four, words)
-            runs += 1
+            self.runs += 1
             if want != got or is_valid and not section:
-                differ += 1
+                self.differ += 1
                 print(f"{' '.join(words)}{' --big' * is_big}{' --v4' * is_four}", *(f"{name} {it.hex()}" for name, it in files.items()), sep="\n  ")
                 print(f"  wanted {want}\n  came   {got}")
-    print(f"{count} sections, {runs} runs, {differ} differ")
+
+
+def swept_at_random(program, count, seed):
+    """Sections made at random."""
+    swept, chance = Swept(), random.Random(seed)
+    for files, is_big, is_four, is_valid in sections(count, chance):
+        swept.ask(program, files, is_big, is_four, chance, is_valid)
+    return swept
+
+
+def swept_vector(program, vector, name):
+    """Every cut and every change of one byte of a section of a vector."""
+    sys.setrecursionlimit(100_000)
+    swept, chance = Swept(), random.Random(f"{vector} {name}")
+    for files in sweeps.inputs(vector, name):
+        given = {it: content for it, content in files.items() if content or it in ("info", "abbrev")}
+        swept.ask(program, given, sweeps.is_big(vector), sweeps.is_four(vector), chance)
+    return swept
+
+
+def main():
+    ask = argparse.ArgumentParser(description=__doc__, formatter_class=argparse.RawDescriptionHelpFormatter)
+    ask.add_argument("program")
+    ask.add_argument("count", nargs="?", type=int, default=10_000)
+    ask.add_argument("seed", nargs="?", type=int, default=1)
+    ask.add_argument("--all", action="store_true", help="every cut and change of the vectors in crates/sweeps in the place of sections at random")
+    given = ask.parse_args()
+    sys.setrecursionlimit(100_000)
+    program = os.path.abspath(given.program)
+    if given.all:
+        jobs = [(program, vector, name) for vector in sweeps.vectors() for name in FILES if sweeps.sections_of(vector)[name]]
+        job, what = swept_vector, f"{len(jobs)} sections of vectors"
+    else:
+        # (in parts of a thousand, each with a seed of its own, so that the same ones come however many processors there are)
+        jobs = [(program, min(PART, given.count - at), given.seed * 1_000_003 + at) for at in range(0, given.count, PART)]
+        job, what = swept_at_random, f"{given.count} sections"
+    with concurrent.futures.ProcessPoolExecutor() as side_by_side:
+        done = list(side_by_side.map(job, *zip(*jobs)))
+    runs, differ = sum(it.runs for it in done), sum(it.differ for it in done)
+    print(f"{what}, {runs} runs, {differ} differ")
     print(f"{runs - differ} passed, {differ} failed")
     return 1 if differ or not runs else 0
 
 
 if __name__ == "__main__":
-    sys.exit(main(*sys.argv[1:]) if len(sys.argv) > 1 else __doc__)
+    sys.exit(main())

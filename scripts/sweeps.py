@@ -1,0 +1,107 @@
+#!/usr/bin/env python3
+"""Prints what crates/sweeps has to print, as an independent reader (scripts/reference.py) answers.
+
+Usage: scripts/sweeps.py [VECTOR..]
+
+A VECTOR is a word of crates/sweeps/args, which has them all: a file of crates/sweeps/data, and behind it `:v4` and `:big`. What is printed without words stands
+in crates/sweeps/stdout: `scripts/sweeps.py > crates/sweeps/stdout` where vectors are added. It takes minutes, on all processors.
+
+As a module it has `vectors` and `inputs`, for what else goes over the same inputs.
+"""
+
+import concurrent.futures
+import os
+import sys
+import zlib
+
+import reference
+
+TOP = os.path.dirname(os.path.dirname(os.path.abspath(__file__)))
+FOLDER = os.path.join(TOP, "crates", "sweeps")
+SECTIONS = ("info", "abbrev", "str", "line-str", "str-offsets")
+
+
+def vectors():
+    """The words of all vectors."""
+    with open(os.path.join(FOLDER, "args"), encoding="utf-8") as file:
+        return file.read().split()
+
+
+def sections_of(vector):
+    """The sections of a vector, by their names."""
+    found = dict.fromkeys(SECTIONS, b"")
+    with open(os.path.join(FOLDER, "data", vector.partition(":")[0]), encoding="utf-8") as file:
+        for line in file:
+            words = line.split()
+            if words[:1] == ["let"]:
+                found[words[1]] += bytes.fromhex("".join(words[3:]))
+    return found
+
+
+def inputs(vector, name):
+    """All inputs in which this section of the vector is cut or changed, in their order."""
+    files = sections_of(vector)
+    content = files[name]
+    for size in range(len(content)):
+        yield {**files, name: content[:size]}
+    for at, byte in enumerate(content):
+        for value in range(256):
+            if value != byte:
+                yield {**files, name: content[:at] + bytes([value]) + content[at + 1 :]}
+
+
+def is_big(vector):
+    return ":big" in vector
+
+
+def is_four(vector):
+    return ":v4" in vector
+
+
+def read(files, vector):
+    return reference.read_section(files["info"], files["abbrev"], is_big(vector), (4, 5) if is_four(vector) else (5,), files)
+
+
+def told(section):
+    """All that is said of a section that is read."""
+    yield reference.answer("show", section, [], set())[0]
+    yield reference.answer("check", section, [], set())[0]
+    for unit in section.units():
+        for entry in unit.entries:
+            try:
+                yield reference.type_text(section, unit, entry, b"x")
+            except reference.Refused as why:
+                yield str(why).encode()
+            yield b"\n"
+
+
+def swept(vector, name):
+    """The lines of one section of a vector."""
+    sys.setrecursionlimit(100_000)
+    count = sections = 0
+    checksum, faults = 1, {}
+    for files in inputs(vector, name):
+        count += 1
+        try:
+            section = read(files, vector)
+        except reference.Fault as fault:
+            checksum = zlib.adler32(f"fault {fault}\n".encode(), checksum)
+            kind = f"{fault.section} {fault.reason}"
+            faults[kind] = faults.get(kind, 0) + 1
+            continue
+        sections += 1
+        for text in told(section):
+            checksum = zlib.adler32(text, checksum)
+    head = f"{vector} {name}: {count} inputs, {sections} read, 0 broken, checksum {checksum:08x}\n"
+    return head + "".join(f"  {kind}: {times}\n" for kind, times in faults.items())
+
+
+def main(words):
+    jobs = [(vector, name) for vector in words or vectors() for name in SECTIONS if sections_of(vector)[name]]
+    with concurrent.futures.ProcessPoolExecutor() as side_by_side:
+        for lines in side_by_side.map(swept, *zip(*jobs)):
+            print(lines, end="")
+
+
+if __name__ == "__main__":
+    main(sys.argv[1:])
