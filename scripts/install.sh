@@ -1,0 +1,42 @@
+#!/bin/sh
+# Installs the program with its manual page and its completions, or takes them away.
+#
+# Usage: scripts/install.sh PREFIX [--uninstall]
+#
+# PREFIX/bin gets `dwarf` (crates/dwarf/out/dwarf, which has to be built before), PREFIX/share the manual page and the completions of bash, zsh and fish.
+# DESTDIR, where it is set, stands before PREFIX. With --uninstall the same files are taken away, and nothing else.
+set -eu
+
+here=$(cd "$(dirname "$0")/.." && pwd)
+if [ $# -lt 1 ] || [ $# -gt 2 ] || { [ $# -eq 2 ] && [ "$2" != --uninstall ]; }; then
+    echo "usage: $0 PREFIX [--uninstall]" >&2
+    exit 2
+fi
+prefix=${DESTDIR:-}$1
+
+# Each file: its rights, where it is, and where it goes.
+files() {
+    cat << END
+755 crates/dwarf/out/dwarf bin/dwarf
+644 docs/dwarf.1 share/man/man1/dwarf.1
+644 scripts/completions/dwarf.bash share/bash-completion/completions/dwarf
+644 scripts/completions/_dwarf share/zsh/site-functions/_dwarf
+644 scripts/completions/dwarf.fish share/fish/vendor_completions.d/dwarf.fish
+END
+}
+
+if [ $# -eq 2 ]; then
+    files | while read -r _ _ to; do
+        rm -f "$prefix/$to"
+    done
+    exit 0
+fi
+if [ ! -x "$here/crates/dwarf/out/dwarf" ]; then
+    echo "install.sh: the program isn't built: (cd crates/dwarf && rt run -- --help)" >&2
+    exit 1
+fi
+files | while read -r rights from to; do
+    mkdir -p "$(dirname "$prefix/$to")"
+    cp "$here/$from" "$prefix/$to"
+    chmod "$rights" "$prefix/$to"
+done
