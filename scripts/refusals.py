@@ -31,7 +31,7 @@ import tempfile
 TOP = os.path.dirname(os.path.dirname(os.path.abspath(__file__)))
 
 SCENARIOS = (
-    "tables declaration table-builder builder draft unit unit-from body section section-as push type check"
+    "value tables declaration table-builder builder draft unit unit-from body section section-as push type check"
     " run-show run-find run-type run-check run-set run-copy"
 ).split()
 

@@ -1,14 +1,18 @@
 //! A unit that is made step by step. A caller tests what each step asks for by the draft's own observers.
-ghost use Rattle.std.specs.Prelude.{◌≡◌, IsTrue, None, false, length};
+ghost use Rattle.std.specs.Prelude.{◌≡◌, ◌<◌, ◌+◌, ◌∷◌, [], IsTrue, None, Some, false, length};
+ghost use Rattle.dw_form.specs.declared.shape.Ctx.{Ctx as TheCtx};
 ghost use Rattle.dw_form.specs.Lent.{attribute_of};
+ghost use Rattle.dw_abbrev.specs.Table.{declared};
 ghost use Rattle.dw_header.specs.Header.{context_of};
-ghost use Rattle.dw_tree.specs.Steps.{NextFits, partial_in};
-ghost use Rattle.dw_unit.specs.Draft.{PartialFits, PartialShort, passes_limit, value_bytes};
+ghost use Rattle.dw_tree.specs.Steps.{NextFits, SpellsFirst, partial_in};
+ghost use Rattle.dw_tree.specs.Tree.{nesting};
+ghost use Rattle.dw_unit.specs.Draft.{IsOnlyRoot, PartialFits, PartialShort, passes_limit, value_bytes};
 
 use crate::samples::{header, table};
 use crate::told;
 use dw_form::{fits, size_of};
-use rothelduf::{AttrValue, Draft, ReadError, Uleb, Value};
+use rothelduf::constants::form::DW_FORM_DATA1;
+use rothelduf::{AttrValue, Decl, Draft, ReadError, Uleb, Value};
 use std::alloc::{AllocError, Global};
 
 /// What of a draft is seen from outside.
@@ -46,7 +50,8 @@ fn tell_refused(
     }
 }
 
-/// A root whose name comes in pieces, with ten children, one of them taken back first, and a null of padding.
+/// A root whose name comes in pieces, with twenty children, one of them taken back first, and a null of padding. The last ten begin with their
+/// values.
 pub(crate) fn tell(alloc: Global, text: &mut String) -> Result<(), ReadError> {
     let mut draft = Draft::new(alloc, header()?, table(alloc)?);
     fill(&mut draft, text)?;
@@ -71,6 +76,9 @@ fn fill(draft: &mut Draft, text: &mut String) -> Result<(), AllocError> {
         begin(draft, 2, text)?;
         give(draft, AttrValue::from(Value::Num(size)), text)?;
     }
+    for _ in 0..10 {
+        begin_with(draft, Uleb::least(2), text)?;
+    }
     close(draft, 2, text)?;
     pad(draft, 1, text)
 }
@@ -94,6 +102,78 @@ fn begin(draft: &mut Draft, code: u64, text: &mut String) -> Result<(), AllocErr
         draft.begin(code)?;
     }
     told::taken(text, "begin")
+}
+
+/// An entry of this code begins with its value, where one can.
+fn begin_with(draft: &mut Draft, code: Uleb, text: &mut String) -> Result<(), AllocError> {
+    let table = draft.share_table()?;
+    match table.get(code.value) {
+        Some(decl) => begin_declared(draft, code, decl, text),
+        None => text.push_str("begin_with FAILED\n"),
+    }
+}
+
+fn begin_declared(
+    draft: &mut Draft,
+    code: Uleb,
+    decl: &Decl,
+    text: &mut String,
+) -> Result<(), AllocError>
+    requires { declared draft.old.table code.value ≡ Some decl.now }
+{
+    if draft.next_pair().is_some() || draft.depth() == 0 || !draft.has_level() {
+        return text.push_str("begin_with FAILED\n");
+    }
+    if code.value == 0 || !takes_a_byte(decl) || draft.is_too_long(code.width as u64 + 1) {
+        return text.push_str("begin_with FAILED\n");
+    }
+    begin_with_byte(draft, code, decl, text)
+}
+
+/// Whether the first value of its entries is a byte.
+fn takes_a_byte(decl: &Decl) -> bool
+    ensures { IsTrue result → (k : TheCtx) → SpellsFirst k decl.now.pairs 1 (7 ∷ []) }
+{
+    match decl.pairs().split_first() {
+        Some((pair, _)) => pair.form.value == DW_FORM_DATA1,
+        None => false,
+    }
+}
+
+/// The same where it is, by that byte.
+fn begin_with_byte(
+    draft: &mut Draft,
+    code: Uleb,
+    decl: &Decl,
+    text: &mut String,
+) -> Result<(), AllocError>
+    requires some { 0 < code.value }
+    requires known { declared draft.old.table code.value ≡ Some decl.now }
+    requires free { draft.old.place.unfinished ≡ None }
+    requires level { length draft.old.place.spot.above < nesting }
+    requires only { IsOnlyRoot draft.old.place.spot }
+    requires spelled { SpellsFirst (context_of draft.old.header) decl.now.pairs 1 (7 ∷ []) }
+    requires short { passes_limit draft.old (code.width + 1) ≡ false }
+{
+    let before = seen_of(draft);
+    match draft.begin_with(code, decl, &[7], 1, 1) {
+        Ok(is_given) => tell_begun(draft, is_given, text),
+        Err(_) => {
+            tell_refused(draft, before, "begin_with", text)?;
+            let is_given = draft.begin_with(code, decl, &[7], 1, 1)?;
+            tell_begun(draft, is_given, text)
+        }
+    }
+}
+
+/// The entry has its value, or waits for it where that was refused memory, and is given it now.
+fn tell_begun(draft: &mut Draft, is_given: bool, text: &mut String) -> Result<(), AllocError> {
+    told::taken(text, "begin_with")?;
+    if is_given {
+        return told::taken(text, "value");
+    }
+    told::refused(text, "begin_with")?;
+    give(draft, AttrValue::from(Value::Num(7)), text)
 }
 
 /// The unfinished entry is given a value that fits.

@@ -17,6 +17,7 @@ mod samples;
 mod sections;
 mod tables;
 mod told;
+mod values;
 
 use crate::told::ROOM;
 use dw_tool::command::Command;
@@ -26,7 +27,8 @@ use std::process::ExitCode;
 use std::rt::Env;
 use std::{env, io};
 
-const SCENARIOS: [&str; 19] = [
+const SCENARIOS: [&str; 20] = [
+    "value",
     "tables",
     "declaration",
     "table-builder",
@@ -95,6 +97,7 @@ fn act_on_one(rt: &(impl AllocGlobal + Print), scenario: &str, count: &[String])
 
 fn tell(alloc: Global, scenario: &str, told: &mut String) -> Result<(), ReadError> {
     match scenario {
+        "value" => values::tell(alloc, told),
         "tables" => tables::tell_tables(alloc, told),
         "declaration" => tables::tell_declaration(alloc, told),
         "table-builder" => tables::tell_builder(alloc, told),
