@@ -4,11 +4,15 @@ import os
 import re
 import shutil
 import subprocess
+import zlib
 
 # The sections, and the options by which the program is given their files.
 OPTIONS = {"debug_info": "--info", "debug_abbrev": "--abbrev", "debug_str": "--str", "debug_line_str": "--line-str", "debug_str_offsets": "--str-offsets"}
 
 RELOCATABLE = 1
+
+# How a section is compressed, as its header says it.
+BY_ZLIB = 1
 
 
 class Unreadable(Exception):
@@ -50,24 +54,69 @@ def extract(path, folder):
         raise Unreadable("tools", "can't be taken apart: objcopy (of binutils) isn't there")
     plain = os.path.join(folder, "plain")
     kept = [word for name in OPTIONS for word in ("--only-section", f".{name}")]
-    run(["objcopy", "--decompress-debug-sections", *kept, path, plain])
-    dumped = []
-    for name in OPTIONS:
-        open(os.path.join(folder, name), "wb").close()
-        dumped += ["--dump-section", f".{name}={os.path.join(folder, name)}"]
-    # (a section that isn't there is named on standard error, and its file stays empty)
-    subprocess.run(["objcopy", *dumped, plain, os.devnull], capture_output=True, check=False)
-    os.unlink(plain)
+    try:
+        run(["objcopy", "--decompress-debug-sections", *kept, path, plain])
+    except Unreadable:
+        # (objcopy takes a section for broken that is compressed to a small part of its size)
+        dump(path, folder)
+        for name in compressed_in(path):
+            inflate(os.path.join(folder, name), is_wide(path), big)
+    else:
+        dump(plain, folder)
+        os.unlink(plain)
     if not os.path.getsize(os.path.join(folder, "debug_info")):
         raise Unreadable("none", "has no debugging entries (.debug_info)")
     return big
 
 
+def dump(path, folder):
+    """Writes the sections to files as they are."""
+    words = []
+    for name in OPTIONS:
+        open(os.path.join(folder, name), "wb").close()
+        words += ["--dump-section", f".{name}={os.path.join(folder, name)}"]
+    # (a section that isn't there is named on standard error, and its file stays empty)
+    subprocess.run(["objcopy", *words, path, os.devnull], capture_output=True, check=False)
+
+
+def compressed_in(path):
+    """The sections that have the flag of compressed ones."""
+    listed = run(["readelf", "--section-headers", "--wide", path])
+    found = re.findall(r"\] \.(\w+) +\w+ +[0-9a-f]+ [0-9a-f]+ [0-9a-f]+ [0-9a-f]+ +[A-Zopx]*C[A-Zopx]* ", listed)
+    return [name for name in found if name in OPTIONS]
+
+
+def is_wide(path):
+    """Whether the file is of the class of 64 bits."""
+    with open(path, "rb") as file:
+        return file.read(5)[4] == 2
+
+
+def inflate(path, wide, big):
+    """Decompresses a section, whose header says how (by zlib) and its size."""
+    with open(path, "rb") as file:
+        head, packed = file.read(24 if wide else 12), file.read()
+    order = "big" if big else "little"
+    size = int.from_bytes(head[8:16] if wide else head[4:8], order)
+    try:
+        if int.from_bytes(head[:4], order) != BY_ZLIB:
+            raise Unreadable("tools", "can't be taken apart: it is compressed in another way than by zlib")
+        plain = zlib.decompress(packed)
+    except zlib.error as error:
+        raise Unreadable("tools", f"can't be taken apart: {error}") from None
+    if len(plain) != size:
+        raise Unreadable("tools", "can't be taken apart: a compressed section has another size than it says")
+    with open(path, "wb") as file:
+        file.write(plain)
+
+
 def run(words):
+    """What a command writes."""
     ran = subprocess.run(words, capture_output=True, text=True, errors="replace", check=False)
     if ran.returncode:
-        said = re.sub(r"^objcopy: ", "", ran.stderr.strip().split("\n")[-1])
+        said = re.sub(r"^(objcopy|readelf): ", "", ran.stderr.strip().split("\n")[-1])
         raise Unreadable("tools", f"can't be taken apart: {said}")
+    return ran.stdout
 
 
 def has_version_four(path, big):
