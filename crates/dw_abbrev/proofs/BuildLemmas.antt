@@ -1,7 +1,6 @@
 -- What is built fits.
 use Rattle.std.proofs.Common.{◌≡◌, ◌+◌, ◌≤◌, ℕ, Bool, true, false, eqb, List, [], ◌∷◌, ◌++◌, length, Option, Some, None, is_some, refl, sym, ap, subst, ◌∙◌, arith}
 use Rattle.std.specs.Prelude.{map, option_map, ◌==◌, ◌||◌, nat_le, nat_lt, if◌then◌else◌}
-use Rattle.std.specs.Map.{lookup}
 use Rattle.std.proofs.Math.Nat.{one-le-pow}
 use Rattle.std.proofs.lemmas.Bool.{eqb-false, ne_eqb, lt-ltb, leb-true, and_parts}
 use Rattle.std.proofs.lemmas.List.{length-append, map-append}
@@ -19,10 +18,9 @@ use Rattle.dw_abbrev.specs.declared.refusal.TableRefusal.TheVariants.{DuplicateC
 use Rattle.dw_abbrev.specs.PairView.{pair_of}
 use Rattle.dw_abbrev.specs.DecideTable.{Item, pair_head, pair_rest, code_head}
 use Rattle.dw_abbrev.specs.Table.{Pair, Declaration, Table, Described, IsZero, is_null, is_end, is_among, half, first_of, bad_flag, described, pair_parts, declaration_parts, zero_of, declared_in, table}
-use Rattle.dw_abbrev.specs.TableView.{decls_in, AreKeyed}
 use Rattle.dw_abbrev.specs.Build.{is_width, width_refusal, constant_belongs, pair_refusal, has_too_many, add_refusal, ArePairs, DeclarationFits}
 use Rattle.dw_abbrev.proofs.DeclLemmas.{zero_is}
-use Rattle.dw_abbrev.proofs.TableLemmas.{looked_up, among_keys, decls-push}
+use Rattle.dw_abbrev.proofs.TableLemmas.{among_declared}
 
 -- ---- zeros
 
@@ -188,21 +186,14 @@ pub table_ended : (ds : List Declaration) (u : Uleb) → IsZero (uleb_of u) → 
 unfolding table
 table_ended ds u e h = items_ended [] (map declaration_parts ds) 1 u.width (uleb_fits (zero_of u.width) (zero_fits u e)) h
 
-pub table_added : (es : List (ℕ × Declaration)) (d : Declaration) → AreKeyed es → is_some (declared_in (decls_in es) d.code.value) ≡ false → DeclarationFits d
-    → table.Fits (ended (decls_in es) 1) → table.Fits (ended (decls_in (es ++ (d.code.value, d) ∷ [])) 1)
+pub table_added : (ds : List Declaration) (d : Declaration) → is_some (declared_in ds d.code.value) ≡ false → DeclarationFits d → table.Fits (ended ds 1) → table.Fits (ended (ds ++ d ∷ []) 1)
 unfolding table
-table_added es d keyed new fit h =
-    let e : map declaration_parts (decls_in (es ++ (d.code.value, d) ∷ [])) ≡ map declaration_parts (decls_in es) ++ declaration_parts d ∷ [] =
-    ap (map declaration_parts) (decls-push es d) ∙ map-append declaration_parts (decls_in es) (d ∷ []) in
-    let n : is_among d.code.value (map declaration_parts (decls_in es)) ≡ false = among_keys es d.code.value keyed ∙ (ap is_some (looked_up es d.code.value keyed) ∙ new) in
-    subst (λ (xs : List (Unsigned × Described)). AreItems [] xs 1) (sym e)
-    (items_added [] (map declaration_parts (decls_in es)) (declaration_parts d) 1 fit.code fit.some fit.rest refl n h)
+table_added ds d new fit h =
+    let n : is_among d.code.value (map declaration_parts ds) ≡ false = among_declared ds d.code.value ∙ new in
+    subst (λ (xs : List (Unsigned × Described)). AreItems [] xs 1) (sym (map-append declaration_parts ds (d ∷ [])))
+    (items_added [] (map declaration_parts ds) (declaration_parts d) 1 fit.code fit.some fit.rest refl n h)
 
 -- ---- why a declaration is refused
-
-pub contained : (es : List (ℕ × Declaration)) (key code : ℕ) → AreKeyed es → key ≡ code → (b : Bool) → b ≡ is_some (lookup (eqb key) es) → is_some (declared_in (decls_in es) code) ≡ b
-contained es key code keyed same b e =
-    ap is_some (sym (looked_up es code keyed)) ∙ (ap (λ (n : ℕ). is_some (lookup (eqb n) es)) (sym same) ∙ sym e)
 
 pub add_twice : (ds : List Declaration) (d : Declaration) → is_some (declared_in ds d.code.value) ≡ true → add_refusal ds d ≡ Some DuplicateCode
 add_twice ds d e = rw e refl

@@ -5,6 +5,8 @@ pub mod PairLemmas
 pub mod DeclLemmas
 pub mod TableLemmas
 pub mod SpellLemmas
+pub mod ListLemmas
+pub mod PlaceLemmas
 pub mod Kept
 pub mod BuildLemmas
 mod BuildRows

@@ -14,7 +14,8 @@ use Rattle.dw_abbrev.specs.Build.{DeclarationFits}
 use Rattle.dw_abbrev.specs.Laws.{table_some}
 use Rattle.dw_abbrev.specs.Spelling.{declaration_bytes, declarations_bytes, table_bytes}
 use Rattle.dw_abbrev.specs.Place.{Gives, drop_to}
-use Rattle.dw_abbrev.specs.Runs.{first_start, AreRows, AreApart, StandTogether}
+use Rattle.dw_abbrev.specs.Places.{AreApart}
+use Rattle.dw_abbrev.specs.Runs.{first_start, AreRows, StandTogether}
 use Rattle.dw_abbrev.proofs.SpellLemmas.{declaration_spelled, table_spelled}
 use Rattle.dw_abbrev.proofs.DeclLemmas.{zero_is}
 use Rattle.dw_abbrev.proofs.BuildLemmas.{nothing_fits, table_led}

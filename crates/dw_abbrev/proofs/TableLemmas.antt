@@ -1,7 +1,6 @@
 -- The steps of reading a table.
-use Rattle.std.proofs.Common.{◌≡◌, ◌-◌, ◌<◌, ◌≤◌, ℕ, Bool, true, false, cond, eqb, List, [], ◌∷◌, ◌++◌, length, drop, Option, Some, None, is_some, refl, sym, ap, subst, ◌∙◌, arith, inl, inr}
-use Rattle.std.specs.Prelude.{◌⊎◌, Result, Ok, Err, IfOk, IfSome, IfErr, map, ◌||◌, if◌then◌else◌}
-use Rattle.std.specs.Map.{lookup}
+use Rattle.std.proofs.Common.{◌≡◌, ◌-◌, ◌<◌, ◌≤◌, ℕ, Bool, true, false, List, [], ◌∷◌, ◌++◌, length, drop, Option, Some, None, is_some, refl, sym, ap, subst, ◌∙◌, arith, inl, inr}
+use Rattle.std.specs.Prelude.{◌⊎◌, Result, Ok, Err, IfOk, IfSome, IfErr, map, ◌||◌, ◌==◌, if◌then◌else◌}
 use Rattle.std.proofs.lemmas.List.{map-append}
 use Rattle.dw_leb.specs.declared.errors.Reason.TheVariants.{DuplicateCode}
 use Rattle.dw_leb.specs.declared.errors.ReadError.{ReadError}
@@ -16,33 +15,18 @@ use Rattle.dw_abbrev.specs.Table.{Declaration, Table, Described, declared_in, is
 use Rattle.dw_abbrev.specs.ReadTable.{read_code, read_described, read_declarations, table_from, read_table}
 use Rattle.dw_abbrev.specs.DecideTable.{declarations_back, AreBytes-drop, table_decides}
 use Rattle.dw_abbrev.specs.Laws.{one_table_at, no_break_at}
-use Rattle.dw_abbrev.specs.TableView.{decls_in, AreKeyed}
 use Rattle.dw_abbrev.specs.TableErrors.{IsScan, IsTableError, Declares, IsFault, refused_memory}
 use Rattle.dw_abbrev.specs.Place.{Gives, IsErrorAt, fault_at, checked_refuses, checked_passes, made_fails, made_gives, ReadTo, nothing_yet, one_item, items_end, head_fails, body_fails}
 
 -- ---- look-ups by code
 
-pub looked_up : (es : List (ℕ × Declaration)) (c : ℕ) → AreKeyed es → lookup (eqb c) es ≡ declared_in (decls_in es) c
-looked_up [] c h = refl
-looked_up (e ∷ es) c h = ap (λ (k : ℕ). cond (eqb c k) (Some e.1) (lookup (eqb c) es)) h.0 ∙ ap (cond (eqb c e.1.code.value) (Some e.1)) (looked_up es c h.1)
+among_step : (v : Bool) (d : Declaration) (o : Option Declaration) (b : Bool) → b ≡ is_some o → v || b ≡ is_some (if v then Some d else o)
+among_step true d o b e = refl
+among_step false d o b e = e
 
-among_step : {X : Type 0} (v : Bool) (x : X) (o : Option X) (b : Bool) → b ≡ is_some o → v || b ≡ is_some (cond v (Some x) o)
-among_step true x o b e = refl
-among_step false x o b e = e
-
-pub among_keys : (es : List (ℕ × Declaration)) (c : ℕ) → AreKeyed es → is_among c (map declaration_parts (decls_in es)) ≡ is_some (lookup (eqb c) es)
-among_keys [] c h = refl
-among_keys (e ∷ es) c h =
-    among_step (eqb c e.1.code.value) e.1 (lookup (eqb c) es) _ (among_keys es c h.1)
-    ∙ ap (λ (k : ℕ). is_some (cond (eqb c k) (Some e.1) (lookup (eqb c) es))) (sym h.0)
-
-pub keyed-push : (es : List (ℕ × Declaration)) (d : Declaration) → AreKeyed es → AreKeyed (es ++ (d.code.value, d) ∷ [])
-keyed-push [] d h = (refl, tt)
-keyed-push (e ∷ es) d h = (h.0, keyed-push es d h.1)
-
-pub decls-push : (es : List (ℕ × Declaration)) (d : Declaration) → decls_in (es ++ (d.code.value, d) ∷ []) ≡ decls_in es ++ d ∷ []
-decls-push [] d = refl
-decls-push (e ∷ es) d = ap (λ ds. e.1 ∷ ds) (decls-push es d)
+pub among_declared : (ds : List Declaration) (c : ℕ) → is_among c (map declaration_parts ds) ≡ is_some (declared_in ds c)
+among_declared [] c = refl
+among_declared (d ∷ ds) c = among_step (c == d.code.value) d (declared_in ds c) _ (among_declared ds c)
 
 pub no_value : {X : Type 0} (o : Option X) → false ≡ is_some o → o ≡ None
 no_value None e = refl
@@ -50,47 +34,46 @@ no_value (Some x) e = absurd cc
 
 -- ---- a code
 
-module _ (abbreviations : List ℕ) (at : ℕ) (es : List (ℕ × Declaration)) (keyed : AreKeyed es) (code : Unsigned) (next : ℕ) (g : Gives read_uleb abbreviations at code next) where
-  pub code_repeats : true ≡ is_some (lookup (eqb code.value) es) → IsErrorAt (read_code (map declaration_parts (decls_in es))) abbreviations at (fault_at at DuplicateCode)
-  code_repeats e = checked_refuses read_uleb (repeats (map declaration_parts (decls_in es))) abbreviations at code next g DuplicateCode
-      (ap (λ (b : Bool). if b then Some DuplicateCode else None) (among_keys es code.value keyed ∙ sym e))
+module _ (abbreviations : List ℕ) (at : ℕ) (ds : List Declaration) (code : Unsigned) (next : ℕ) (g : Gives read_uleb abbreviations at code next) where
+  pub code_repeats : true ≡ is_some (declared_in ds code.value) → IsErrorAt (read_code (map declaration_parts ds)) abbreviations at (fault_at at DuplicateCode)
+  code_repeats e = checked_refuses read_uleb (repeats (map declaration_parts ds)) abbreviations at code next g DuplicateCode
+      (ap (λ (b : Bool). if b then Some DuplicateCode else None) (among_declared ds code.value ∙ sym e))
 
-  pub code_passes : false ≡ is_some (lookup (eqb code.value) es) → Gives (read_code (map declaration_parts (decls_in es))) abbreviations at code next
-  code_passes e = checked_passes read_uleb (repeats (map declaration_parts (decls_in es))) abbreviations at code next g
-      (ap (λ (b : Bool). if b then Some DuplicateCode else None) (among_keys es code.value keyed ∙ sym e))
+  pub code_passes : false ≡ is_some (declared_in ds code.value) → Gives (read_code (map declaration_parts ds)) abbreviations at code next
+  code_passes e = checked_passes read_uleb (repeats (map declaration_parts ds)) abbreviations at code next g
+      (ap (λ (b : Bool). if b then Some DuplicateCode else None) (among_declared ds code.value ∙ sym e))
 
 -- ---- declarations
 
-abbrev pub DeclsTo : List ℕ → ℕ → List (ℕ × Declaration) → ℕ → Type 0
-DeclsTo abbreviations start es here = ReadTo read_code is_null (λ _. read_described) abbreviations start (map declaration_parts (decls_in es)) here
+abbrev pub DeclsTo : List ℕ → ℕ → List Declaration → ℕ → Type 0
+DeclsTo abbreviations start ds here = ReadTo read_code is_null (λ _. read_described) abbreviations start (map declaration_parts ds) here
 
 pub no_decls : (abbreviations : List ℕ) (start : ℕ) → start ≤ length abbreviations → DeclsTo abbreviations start [] start
 no_decls abbreviations start within = nothing_yet read_code is_null (λ _. read_described) abbreviations start within
 
-module _ (abbreviations : List ℕ) (start : ℕ) (es : List (ℕ × Declaration)) (here : ℕ) (r : DeclsTo abbreviations start es here) where
-  pub code_fails : (e : ReadError) → IsErrorAt (read_code (map declaration_parts (decls_in es))) abbreviations here e → IsErrorAt read_table abbreviations start e
+module _ (abbreviations : List ℕ) (start : ℕ) (ds : List Declaration) (here : ℕ) (r : DeclsTo abbreviations start ds here) where
+  pub code_fails : (e : ReadError) → IsErrorAt (read_code (map declaration_parts ds)) abbreviations here e → IsErrorAt read_table abbreviations start e
   unfolding read_table
-  code_fails e h = made_fails table_from read_declarations abbreviations start e (head_fails read_code is_null (λ _. read_described) abbreviations start (map declaration_parts (decls_in es)) here r e h)
+  code_fails e h = made_fails table_from read_declarations abbreviations start e (head_fails read_code is_null (λ _. read_described) abbreviations start (map declaration_parts ds) here r e h)
 
-  module _ (code : Unsigned) (behind : ℕ) (g : Gives (read_code (map declaration_parts (decls_in es))) abbreviations here code behind) where
-    pub table_there : is_null code ≡ true → Gives read_table abbreviations start (record { declarations = decls_in es; last_zero = code.width }) behind
+  module _ (code : Unsigned) (behind : ℕ) (g : Gives (read_code (map declaration_parts ds)) abbreviations here code behind) where
+    pub table_there : is_null code ≡ true → Gives read_table abbreviations start (record { declarations = ds; last_zero = code.width }) behind
     unfolding read_table
-    table_there e = subst (λ (ds : List Declaration). Gives read_table abbreviations start (record { declarations = ds; last_zero = code.width }) behind) (declarations_back (decls_in es))
-        (made_gives table_from read_declarations abbreviations start (map declaration_parts (decls_in es), code) behind
-        (items_end read_code is_null (λ _. read_described) abbreviations start (map declaration_parts (decls_in es)) here r code behind g e))
+    table_there e = subst (λ (xs : List Declaration). Gives read_table abbreviations start (record { declarations = xs; last_zero = code.width }) behind) (declarations_back ds)
+        (made_gives table_from read_declarations abbreviations start (map declaration_parts ds, code) behind
+        (items_end read_code is_null (λ _. read_described) abbreviations start (map declaration_parts ds) here r code behind g e))
 
     pub declaration_fails : is_null code ≡ false → (e : ReadError) → IsErrorAt read_described abbreviations behind e → IsErrorAt read_table abbreviations start e
     unfolding read_table
-    declaration_fails f e h = made_fails table_from read_declarations abbreviations start e (body_fails read_code is_null (λ _. read_described) abbreviations start (map declaration_parts (decls_in es)) here r code behind g f e h)
+    declaration_fails f e h = made_fails table_from read_declarations abbreviations start e (body_fails read_code is_null (λ _. read_described) abbreviations start (map declaration_parts ds) here r code behind g f e h)
 
     pub one_declaration : is_null code ≡ false → here < behind → (d : Declaration) → d.code ≡ code → (next : ℕ) → Gives read_described abbreviations behind (described_of d) next
-        → DeclsTo abbreviations start (es ++ (d.code.value, d) ∷ []) next
+        → DeclsTo abbreviations start (ds ++ d ∷ []) next
     one_declaration f lt d same next h =
-        let e : map declaration_parts (decls_in (es ++ (d.code.value, d) ∷ [])) ≡ map declaration_parts (decls_in es) ++ (d.code, described_of d) ∷ [] =
-        ap (map declaration_parts) (decls-push es d) ∙ map-append declaration_parts (decls_in es) (d ∷ []) in
+        let e : map declaration_parts (ds ++ d ∷ []) ≡ map declaration_parts ds ++ (d.code, described_of d) ∷ [] = map-append declaration_parts ds (d ∷ []) in
         subst (λ (xs : List (Unsigned × Described)). ReadTo read_code is_null (λ _. read_described) abbreviations start xs next) (sym e)
-        (subst (λ (u : Unsigned). ReadTo read_code is_null (λ _. read_described) abbreviations start (map declaration_parts (decls_in es) ++ (u, described_of d) ∷ []) next) (sym same)
-        (one_item read_code is_null (λ _. read_described) abbreviations start (map declaration_parts (decls_in es)) here r code behind g lt f (described_of d) next h))
+        (subst (λ (u : Unsigned). ReadTo read_code is_null (λ _. read_described) abbreviations start (map declaration_parts ds ++ (u, described_of d) ∷ []) next) (sym same)
+        (one_item read_code is_null (λ _. read_described) abbreviations start (map declaration_parts ds) here r code behind g lt f (described_of d) next h))
 
 -- ---- a table
 

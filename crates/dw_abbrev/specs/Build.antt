@@ -2,6 +2,7 @@
 -- holds, in the order of the lines.
 use Rattle.std.specs.Prelude.{◌≡◌, ℕ, Bool, false, List, [], ◌∷◌, ◌++◌, length, Option, Some, None, is_some, nat_lt, nat_le, ◌==◌, if◌then◌else◌, not, ◌||◌, ◌&&◌}
 use Rattle.std.specs.List.{AllByRecursion}
+use Rattle.dw_leb.specs.Constants.{DW_FORM_implicit_const}
 use Rattle.dw_leb.specs.Number.{Unsigned, Signed, uleb}
 use Rattle.dw_abbrev.specs.declared.refusal.TableRefusal.{TableRefusal}
 use Rattle.dw_abbrev.specs.declared.refusal.TableRefusal.TheVariants.{DuplicateCode, TooManyPairs, BadWidth, NoMemory, ZeroCode, HalfPair, WrongConstant}
@@ -27,8 +28,8 @@ without_pairs code tag children zeros = record { code = code; tag = tag; childre
 
 -- a constant stands with the form implicit_const, and with no other
 abbrev pub constant_belongs : Unsigned → Option Signed → Bool
-constant_belongs form None = not (form.value == 0x21)
-constant_belongs form (Some constant) = form.value == 0x21
+constant_belongs form None = not (form.value == DW_FORM_implicit_const)
+constant_belongs form (Some constant) = form.value == DW_FORM_implicit_const
 
 abbrev pub pair_refusal : Pair → Option TableRefusal
 pair_refusal p = if is_null p.name || is_null p.form then Some HalfPair else if constant_belongs p.form p.constant then None else Some WrongConstant

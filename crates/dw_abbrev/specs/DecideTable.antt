@@ -3,6 +3,7 @@ use Rattle.std.proofs.Common.{◌≡◌, ℕ, zero, suc, ◌+◌, ◌-◌, ◌<�
 use Rattle.std.specs.Prelude.{if◌then◌else◌, nat_lt, ◌==◌, map}
 use Rattle.std.proofs.lemmas.Bool.{eqb-true, eqb-false, ltb-true, ltb-false, lt-ltb, le-ltb, and_parts}
 use Rattle.std.proofs.lemmas.List.{length-append, length-drop}
+use Rattle.dw_leb.specs.Constants.{DW_FORM_implicit_const}
 use Rattle.dw_leb.specs.declared.errors.Reason.{Reason}
 use Rattle.dw_leb.specs.declared.errors.Reason.TheVariants.{AbbrevOffset, BadChildren}
 use Rattle.dw_leb.specs.Part.{Part, ◌then◌, judged, optional}
@@ -34,12 +35,12 @@ abbrev pub pair_head : List Item → Part (Unsigned × Unsigned)
 pair_head before = judged (judged two half) (too_many (length before))
 
 abbrev pub pair_rest : Unsigned × Unsigned → Part (Option Signed)
-pair_rest x = optional (x.1.value == 0x21) sleb
+pair_rest x = optional (x.1.value == DW_FORM_implicit_const) sleb
 
 pairs_decides : Decides pairs read_pairs
-pairs_decides = repeated_decides pair_head is_end pair_rest (λ before. checked (checked read_two half) (too_many (length before))) (λ x. read_optional (x.1.value == 0x21) read_sleb)
+pairs_decides = repeated_decides pair_head is_end pair_rest (λ before. checked (checked read_two half) (too_many (length before))) (λ x. read_optional (x.1.value == DW_FORM_implicit_const) read_sleb)
     (λ before. judged_decides (judged two half) (checked read_two half) (too_many (length before)) (judged_decides two read_two half (then_decides uleb (λ _. uleb) read_uleb (λ _. read_uleb) uleb_decides (λ _. uleb_decides))))
-    (λ x. optional_decides (x.1.value == 0x21) sleb read_sleb sleb_decides)
+    (λ x. optional_decides (x.1.value == DW_FORM_implicit_const) sleb read_sleb sleb_decides)
     (λ before h fits. omega (arith, uleb_some h.0 fits.0.0.0, length-append (uleb.spell h.0) (uleb.spell h.1)))
 
 pub described_decides : Decides described read_described

@@ -6,6 +6,7 @@ pub mod Place
 pub mod PairView
 pub mod PairTaken
 pub mod TableView
+pub mod Places
 pub mod TableErrors
 pub mod Spelling
 pub mod Build

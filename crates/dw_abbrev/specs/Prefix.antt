@@ -2,6 +2,7 @@
 use Rattle.std.specs.Prelude.{◌≡◌, ◌≤◌, ◌⊎◌, ℕ, zero, suc, ◌+◌, ◌*◌, List, [], ◌∷◌, ◌++◌, length, take, slice_get, Option, Some, None, is_some, ◌==◌, ◌&&◌, if◌then◌else◌}
 use Rattle.std.proofs.Common.{refl, sym, ap, subst, ◌∙◌, arith, length-append}
 use Rattle.std.proofs.lemmas.List.{take-append-le, take_all}
+use Rattle.dw_leb.specs.Constants.{DW_FORM_implicit_const}
 use Rattle.dw_leb.specs.Number.{offset_size}
 use Rattle.dw_form.specs.declared.shape.Ctx.{Ctx}
 use Rattle.dw_form.specs.declared.size.FormSize.{FormSize}
@@ -12,7 +13,7 @@ use Rattle.dw_abbrev.specs.declared.prefix.FixedPrefix.{FixedPrefix}
 
 -- how many bytes the values of a pair have, where its form tells; those that are a constant of their declaration have none
 abbrev pub told : Pair → Option FormSize
-told p = if is_some p.constant && p.form.value == 0x21 then Some (Bytes 0) else told_form p.form.value
+told p = if is_some p.constant && p.form.value == DW_FORM_implicit_const then Some (Bytes 0) else told_form p.form.value
 
 -- each pair tells the size of its values, and these are so many bytes in all
 abbrev pub AreTold : Ctx → List Pair → ℕ → Type 0

@@ -1,5 +1,6 @@
 -- Abbreviation tables read by a plain, slow reader.
 use Rattle.std.specs.Prelude.{ℕ, ◌+◌, Bool, true, false, List, length, drop, Option, nat_lt, ◌==◌, if◌then◌else◌, map}
+use Rattle.dw_leb.specs.Constants.{DW_FORM_implicit_const}
 use Rattle.dw_leb.specs.declared.errors.Reason.TheVariants.{AbbrevOffset}
 use Rattle.dw_leb.specs.declared.order.Order.TheVariants.{Little}
 use Rattle.dw_leb.specs.Number.{Unsigned, Signed}
@@ -12,7 +13,7 @@ abbrev pub read_names : ℕ → Reader (Unsigned × Unsigned)
 read_names before = checked (checked (read_uleb and_then λ _. read_uleb) half) (too_many before)
 
 abbrev pub read_constant : Unsigned × Unsigned → Reader (Option Signed)
-read_constant x = read_optional (x.1.value == 0x21) read_sleb
+read_constant x = read_optional (x.1.value == DW_FORM_implicit_const) read_sleb
 
 abbrev pub read_pairs : Reader (List ((Unsigned × Unsigned) × Option Signed) × (Unsigned × Unsigned))
 read_pairs = read_repeated (λ before. read_names (length before)) is_end read_constant

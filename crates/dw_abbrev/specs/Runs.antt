@@ -1,8 +1,9 @@
 -- Declarations that stand one behind the other in a section, and tables that meet at one of them.
-use Rattle.std.specs.Prelude.{◌≡◌, ℕ, ◌<◌, ◌≤◌, List, [], ◌∷◌, ◌++◌, length, drop, None}
+use Rattle.std.specs.Prelude.{◌≡◌, ℕ, ◌<◌, ◌≤◌, List, [], ◌∷◌, ◌++◌, length, drop}
 use Rattle.dw_leb.specs.View.{uleb_of}
-use Rattle.dw_abbrev.specs.Table.{Declaration, Table, IsZero, TableAt, declared_in}
-use Rattle.dw_abbrev.specs.TableView.{decls_in, joined, AreKeyed}
+use Rattle.dw_abbrev.specs.Table.{Declaration, Table, IsZero, TableAt}
+use Rattle.dw_abbrev.specs.TableView.{joined}
+use Rattle.dw_abbrev.specs.Places.{AreApart}
 use Rattle.dw_abbrev.specs.Spelling.{declaration_bytes}
 use Rattle.dw_abbrev.specs.Build.{DeclarationFits}
 use Rattle.dw_abbrev.specs.declared.run.Run.{Run}
@@ -23,11 +24,6 @@ AreRows abbreviations (start ∷ starts) (d ∷ ds) behind =
 AreRows abbreviations [] (d ∷ ds) behind = ⊥
 AreRows abbreviations (start ∷ starts) [] behind = ⊥
 
--- no code of a declaration is that of a later one, or of one of the others
-abbrev pub AreApart : List Declaration → List Declaration → Type 0
-AreApart [] others = Unit {0}
-AreApart (d ∷ ds) others = (declared_in (ds ++ others) d.code.value ≡ None) × AreApart ds others
-
 -- declarations from these starts on, and behind them the table: all of codes of their own
 pub record StandTogether (abbreviations : List ℕ) (starts : List ℕ) (ds : List Declaration) (t : Table) : Type 0 where
   pub behind : ℕ
@@ -40,8 +36,7 @@ pub record StandTogether (abbreviations : List ℕ) (starts : List ℕ) (ds : Li
 -- the run's declarations stand one behind the other, up to this place
 pub record IsRun (abbreviations : List ℕ) (run : Run) (here : ℕ) : Type 0 where
   pub within : here ≤ length abbreviations
-  pub keyed : AreKeyed run.decls.entries
-  pub rows : AreRows abbreviations run.starts.items (decls_in run.decls.entries) here
+  pub rows : AreRows abbreviations run.starts.items run.decls here
 
 -- what stands behind a run: a declaration, with which it is the new one; or a zero
 abbrev pub IsStep : List ℕ → ℕ → Run → Run → Step → Type 0
@@ -51,6 +46,5 @@ IsStep abbreviations here old new steps.Broken = Unit {0}
 
 -- a run with what stands behind it
 pub record IsJoined (abbreviations : List ℕ) (run : JoinedRun) : Type 0 where
-  pub keyed : AreKeyed run.run.decls.entries
   pub zero : IsZero (uleb_of run.last_zero)
-  pub together : StandTogether abbreviations run.run.starts.items (decls_in run.run.decls.entries) (record { declarations = joined run.rest.items; last_zero = run.last_zero.width })
+  pub together : StandTogether abbreviations run.run.starts.items run.run.decls (record { declarations = joined run.rest.items; last_zero = run.last_zero.width })

@@ -1,5 +1,6 @@
 -- Abbreviation tables (section 7.5.3).
 use Rattle.std.specs.Prelude.{◌≡◌, ℕ, suc, ◌+◌, ◌<◌, Bool, false, List, [], ◌∷◌, ◌++◌, length, drop, Option, Some, None, nat_lt, ◌==◌, if◌then◌else◌, ◌||◌, ◌&&◌, ◌⊎◌, map}
+use Rattle.dw_leb.specs.Constants.{DW_FORM_implicit_const}
 use Rattle.dw_leb.specs.declared.errors.Reason.{Reason}
 use Rattle.dw_leb.specs.declared.errors.Reason.TheVariants.{BadChildren, HalfPair, DuplicateCode, TooManyPairs, AbbrevOffset}
 use Rattle.dw_leb.specs.Part.{Part, ◌then◌, judged, seen, optional}
@@ -57,7 +58,7 @@ refused_pair before x = first_of (half x) (too_many before x)
 
 -- pairs of name and form, with a constant after form 0x21, until the pair 0, 0
 abbrev pub pairs : Part (List ((Unsigned × Unsigned) × Option Signed) × (Unsigned × Unsigned))
-pairs = repeated (λ before. judged (judged (uleb then λ _. uleb) half) (too_many (length before))) is_end (λ x. optional (x.1.value == 0x21) sleb)
+pairs = repeated (λ before. judged (judged (uleb then λ _. uleb) half) (too_many (length before))) is_end (λ x. optional (x.1.value == DW_FORM_implicit_const) sleb)
 
 abbrev pub bad_flag : ℕ → Option Reason
 bad_flag x = if nat_lt x 2 then None else Some BadChildren

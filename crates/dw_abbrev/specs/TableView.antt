@@ -1,15 +1,6 @@
--- Declarations that are kept by their codes.
-use Rattle.std.specs.Prelude.{◌≡◌, ℕ, List, [], ◌∷◌, ◌++◌}
-use Rattle.std.specs.List.{AllByRecursion}
+-- The declarations of a table, and those of several runs.
+use Rattle.std.specs.Prelude.{List, [], ◌∷◌, ◌++◌}
 use Rattle.dw_abbrev.specs.Table.{Declaration}
-
-abbrev pub decls_in : List (ℕ × Declaration) → List Declaration
-decls_in [] = []
-decls_in (e ∷ es) = e.1 ∷ decls_in es
-
--- each stands under its code
-abbrev pub AreKeyed : List (ℕ × Declaration) → Type 0
-AreKeyed es = AllByRecursion (λ e. e.0 ≡ e.1.code.value) es
 
 -- those of several runs, one run behind the other
 abbrev pub joined : List (List Declaration) → List Declaration

@@ -5,17 +5,17 @@ ghost use Rattle.dw_abbrev.specs.Table.{table as part};
 ghost use Rattle.dw_abbrev.specs.Build.{width_refusal, add_refusal, or_memory};
 
 use crate::decl::Decl;
+use crate::decls::Decls;
 use crate::fields::zero;
 use crate::refusal::TableRefusal;
-use crate::table::{Table, keep};
-use indexmap::IndexMap;
+use crate::table::Table;
 use std::alloc::Global;
 use std::marker::Model;
 
 /// An abbreviation table that is being built: the declarations that it has so far.
 #[derive(Debug, Drop)]
 pub struct TableBuilder {
-    decls: IndexMap<u64, Decl>,
+    decls: Decls,
 }
 
 impl Model for TableBuilder {
@@ -25,11 +25,10 @@ impl Model for TableBuilder {
     ghost Value = { List Declaration };
 
     ghost use Rattle.dw_abbrev.specs.Table.{table};
-    ghost use Rattle.dw_abbrev.specs.TableView.{decls_in, AreKeyed};
 
-    ghost view = { λ b. decls_in b.decls.entries };
+    ghost view = { λ b. b.decls };
 
-    ghost invariant = { λ b. record { keyed : AreKeyed b.decls.entries; fits : table.Fits (record { declarations = decls_in b.decls.entries; last_zero = 1 }) } };
+    ghost invariant = { λ b. table.Fits (record { declarations = b.decls; last_zero = 1 }) };
 }
 
 impl TableBuilder {
@@ -38,7 +37,7 @@ impl TableBuilder {
         ensures { result ≡ [] }
     {
         TableBuilder {
-            decls: IndexMap::new(alloc),
+            decls: Decls::new(alloc),
         }
     }
 
@@ -55,14 +54,14 @@ impl TableBuilder {
         ensures unchanged { OnErr result (self.new ≡ self.old) }
     {
         let code = decl.code();
-        if self.decls.contains_key(&code.value) {
+        if self.decls.has(code.value) {
             return Err((TableRefusal::DuplicateCode, decl));
         }
         if decl.has_too_many() {
             return Err((TableRefusal::TooManyPairs, decl));
         }
-        match keep(&mut self.decls, decl) {
-            Ok(_) => Ok(()),
+        match self.decls.push(decl) {
+            Ok(()) => Ok(()),
             Err(decl) => Err((TableRefusal::NoMemory, decl)),
         }
     }

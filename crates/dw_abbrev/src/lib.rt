@@ -3,6 +3,7 @@
 
 mod builder;
 mod decl;
+mod decls;
 mod fields;
 mod known;
 pub mod laws;

@@ -1,16 +1,16 @@
 //! Declarations that are read up to a table that is kept, and the tables that begin with each of them (section 7.5.3).
-ghost use Rattle.std.specs.Prelude.{◌≡◌, ◌≤◌, ◌∷◌, ◌++◌, [], List, ℕ, length, nat_eq, None, IfOk, IfSome, OnOk};
+ghost use Rattle.std.specs.Prelude.{◌≡◌, ◌≤◌, ◌∷◌, ◌++◌, [], List, ℕ, length, None, IfOk, IfSome, OnOk};
 ghost use Rattle.std.specs.List.{AllByRecursion};
-ghost use Rattle.indexmap.specs.IndexMap.{get};
 ghost use Rattle.dw_leb.specs.View.{uleb_of};
-ghost use Rattle.dw_abbrev.specs.Table.{IsZero, TableAt};
-ghost use Rattle.dw_abbrev.specs.TableView.{joined, AreKeyed};
+ghost use Rattle.dw_abbrev.specs.Table.{IsZero, TableAt, declared_in};
+ghost use Rattle.dw_abbrev.specs.TableView.{joined};
 ghost use Rattle.dw_abbrev.specs.Runs.{IsRun, IsStep, IsJoined};
 
 use crate::decl::{Decl, decl_behind};
+use crate::decls::Decls;
 use crate::fields::uleb_at;
-use crate::shared::{SharedRun, are_apart};
-use crate::table::{Table, keep};
+use crate::shared::SharedRun;
+use crate::table::Table;
 use dw_leb::{ReadError, Uleb};
 use indexmap::IndexMap;
 use std::alloc::{AllocError, Global};
@@ -19,7 +19,7 @@ use std::rc::Rc;
 /// Declarations that stand one behind the other, each under its code, and the offsets at which they begin.
 #[derive(Drop)]
 pub(crate) struct Run {
-    pub(crate) decls: IndexMap<u64, Decl>,
+    pub(crate) decls: Decls,
     pub(crate) starts: Vec<u64>,
 }
 
@@ -44,11 +44,11 @@ enum Step {
 
 impl Run {
     fn new(alloc: Global) -> Run
-        ensures decls { result.decls.entries ≡ [] }
+        ensures decls { result.decls ≡ [] }
         ensures starts { result.starts.items ≡ [] }
     {
         Run {
-            decls: IndexMap::new(alloc),
+            decls: Decls::new(alloc),
             starts: Vec::new(alloc),
         }
     }
@@ -64,7 +64,7 @@ impl Run {
         if code.value == 0 {
             return Ok(Step::Zero(code));
         }
-        if self.decls.contains_key(&code.value) {
+        if self.decls.has(code.value) {
             return Ok(Step::Broken);
         }
         match decl_behind(alloc, abbreviations, behind, code) {
@@ -79,13 +79,13 @@ impl Run {
 
     /// One more declaration, of a new code, which begins at `here`.
     fn push(&mut self, here: usize, decl: Decl) -> Result<(), AllocError>
-        requires { get nat_eq self.old.decls decl.code.value ≡ None }
-        ensures decls { OnOk result (self.new.decls.entries ≡ self.old.decls.entries ++ (decl.code.value, decl) ∷ []) }
+        requires { declared_in self.old.decls decl.code.value ≡ None }
+        ensures decls { OnOk result (self.new.decls ≡ self.old.decls ++ decl ∷ []) }
         ensures starts { OnOk result (self.new.starts.items ≡ self.old.starts.items ++ here ∷ []) }
     {
         self.starts.push(here as u64)?;
-        match keep(&mut self.decls, decl) {
-            Ok(_) => Ok(()),
+        match self.decls.push(decl) {
+            Ok(()) => Ok(()),
             Err(_) => Err(AllocError),
         }
     }
@@ -104,7 +104,6 @@ impl Run {
 
     /// The run before the declarations that this table shares, if it has no others and none of a code that the run has.
     fn before(self, table: &Table) -> Result<Option<JoinedRun>, AllocError>
-        requires { AreKeyed self.decls.entries }
         ensures { (abbreviations : List ℕ) (here : ℕ) → TableAt abbreviations here table.now → IsRun abbreviations self here → IfOk result (λ o. IfSome o (IsJoined abbreviations)) }
     {
         match table.shared_runs()? {
@@ -115,11 +114,10 @@ impl Run {
 
     /// The run with what stands behind it, if no code is there twice.
     fn join(self, rest: Vec<SharedRun>, last_zero: Uleb) -> Option<JoinedRun>
-        requires keyed { AreKeyed self.decls.entries }
         requires zero { IsZero (uleb_of last_zero) }
         ensures { (abbreviations : List ℕ) (here : ℕ) → TableAt abbreviations here (record { declarations = joined rest.items; last_zero = last_zero.width }) → IsRun abbreviations self here → IfSome result (IsJoined abbreviations) }
     {
-        if !are_apart(&self.decls, rest.as_slice()) {
+        if !self.decls.are_apart_from(rest.as_slice()) {
             return None;
         }
         Some(JoinedRun {

@@ -1,45 +1,38 @@
 //! Declarations that several tables of a section have in common.
-ghost use Rattle.std.specs.Prelude.{◌≡◌, ◌<◌, ◌^◌, ◌++◌, List, ℕ, drop, length, map, None, Some, IfOk, OnOk, IsTrue, option_copied};
+ghost use Rattle.std.specs.Prelude.{◌≡◌, ◌++◌, drop, length, None, IfOk, OnOk, option_copied};
 ghost use Rattle.dw_leb.specs.Watch.{inner_of, fault_of, writer_fault, Wrote};
 ghost use Rattle.dw_abbrev.specs.Spelling.{declarations_bytes};
-ghost use Rattle.dw_abbrev.specs.Table.{Declaration, declared_in};
-ghost use Rattle.dw_abbrev.specs.TableView.{decls_in, joined, AreKeyed};
-ghost use Rattle.dw_abbrev.specs.Runs.{AreApart};
+ghost use Rattle.dw_abbrev.specs.Table.{declared_in};
+ghost use Rattle.dw_abbrev.specs.TableView.{joined};
 
 use crate::decl::Decl;
+use crate::decls::Decls;
 use dw_leb::{Watched, WriteError};
-use indexmap::IndexMap;
-use indexmap::map::Slice;
 use std::alloc::AllocError;
 use std::io::Write;
 use std::marker::Model;
 use std::rc::Rc;
 
-/// The declarations of a run from one of them on. A run is declarations that stand one behind the other in their section, each under its
-/// code; it never changes, and the tables that have its end in common share it.
+/// The declarations of a run from one of them on. A run is declarations that stand one behind the other in their section; it never changes, and the tables that have its end in common share it.
 #[derive(Drop)]
 pub(crate) struct SharedRun {
-    run: Rc<IndexMap<u64, Decl>>,
+    run: Rc<Decls>,
     from: usize,
 }
 
 impl Model for SharedRun {
     ghost use Rattle.std.specs.Prelude.{List, drop};
     ghost use Rattle.dw_abbrev.specs.Table.{Declaration};
-    ghost use Rattle.dw_abbrev.specs.TableView.{decls_in, AreKeyed};
 
     ghost Value = { List Declaration };
 
-    ghost view = { λ s. decls_in (drop s.from s.run.value.entries) };
-
-    ghost invariant = { λ s. AreKeyed s.run.value.entries };
+    ghost view = { λ s. drop s.from s.run.value };
 }
 
 impl SharedRun {
     /// The declarations of this run from the one at the index `from` on.
-    pub(crate) fn new(run: Rc<IndexMap<u64, Decl>>, from: usize) -> SharedRun
-        requires { AreKeyed run.value.entries }
-        ensures { result ≡ decls_in (drop from run.value.entries) }
+    pub(crate) fn new(run: Rc<Decls>, from: usize) -> SharedRun
+        ensures { result ≡ drop from run.value }
     {
         SharedRun { run, from }
     }
@@ -59,20 +52,24 @@ impl SharedRun {
         self.run.len().saturating_sub(self.from)
     }
 
-    /// These declarations, each under its code, if there are any.
-    pub(crate) fn entries(&self) -> Option<Slice<'_, u64, Decl>> {
-        self.run.get_range(self.from..)
+    pub(crate) fn as_slice(&self) -> &[Decl]
+        ensures { result.now ≡ self.now }
+    {
+        match self.run.as_slice().get(self.from..) {
+            Some(decls) => decls,
+            None => &[],
+        }
     }
 
     /// The declaration of a code.
     fn get(&self, code: u64) -> Option<&Decl>
         ensures { option_copied result ≡ declared_in self.now code }
     {
-        let index = self.run.get_index_of(&code)?;
+        let index = self.run.index_of(code)?;
         if index < self.from {
             return None;
         }
-        Some(&self.run[index])
+        self.run.as_slice().get(index)
     }
 
     /// Writes the declarations, one behind the other.
@@ -81,10 +78,7 @@ impl SharedRun {
         ensures written { Wrote (W.contents (inner_of writer.old)) (W.contents (inner_of writer.new)) (declarations_bytes self.now) result }
         ensures fault { fault_of writer.new ≡ writer_fault result }
     {
-        match self.run.get_range(self.from..) {
-            Some(decls) => write_decls(writer, decls),
-            None => Ok(()),
-        }
+        write_decls(writer, self.as_slice())
     }
 }
 
@@ -100,19 +94,6 @@ pub(crate) fn find_shared(runs: &[SharedRun], code: u64) -> Option<&Decl>
         left = others;
     }
     None
-}
-
-/// Whether no declaration of the runs has a code of `decls`.
-pub(crate) fn are_apart(decls: &IndexMap<u64, Decl>, runs: &[SharedRun]) -> bool
-    requires { AreKeyed decls.now.entries }
-    ensures { IsTrue result → AreApart (decls_in decls.now.entries) (joined runs.now) }
-{
-    for code in decls.keys() {
-        if find_shared(runs, *code).is_some() {
-            return false;
-        }
-    }
-    true
 }
 
 /// Shares these runs once more, behind those of the list.
@@ -147,14 +128,16 @@ pub(crate) fn write_shared<W: Write>(
 /// Writes declarations, one behind the other.
 pub(crate) fn write_decls<W: Write>(
     writer: &mut Watched<W>,
-    decls: Slice<'_, u64, Decl>,
+    decls: &[Decl],
 ) -> Result<(), WriteError>
     requires { fault_of writer.old ≡ None }
-    ensures written { Wrote (W.contents (inner_of writer.old)) (W.contents (inner_of writer.new)) (declarations_bytes (decls_in decls.entry)) result }
+    ensures written { Wrote (W.contents (inner_of writer.old)) (W.contents (inner_of writer.new)) (declarations_bytes decls.now) result }
     ensures fault { fault_of writer.new ≡ writer_fault result }
 {
-    for decl in decls.values() {
+    let mut left = decls;
+    while let Some((decl, others)) = left.split_first() {
         decl.write(writer)?;
+        left = others;
     }
     Ok(())
 }

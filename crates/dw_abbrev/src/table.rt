@@ -1,21 +1,20 @@
 //! Abbreviation tables (section 7.5.3).
-ghost use Rattle.std.specs.Prelude.{◌≡◌, ◌<◌, ◌≤◌, ◌∷◌, ◌++◌, [], length, map, nat_eq, None, Some, IfOk, IfSome, IfNone, IfErr, OnOk, OnErr, IsTrue, option_copied};
-ghost use Rattle.indexmap.specs.IndexMap.{get};
+ghost use Rattle.std.specs.Prelude.{◌≡◌, ◌<◌, ◌≤◌, ◌++◌, length, map, None, IfOk, IfSome, IfNone, IfErr, OnOk, IsTrue, option_copied};
 ghost use Rattle.dw_leb.specs.View.{uleb_of};
 ghost use Rattle.dw_leb.specs.Watch.{inner_of, fault_of, writer_fault, Wrote};
-ghost use Rattle.dw_abbrev.specs.Table.{Table as Spelled, table as part, declared, declaration_parts, IsZero, TableAt};
-ghost use Rattle.dw_abbrev.specs.TableView.{decls_in, joined, with_shared, AreKeyed};
+ghost use Rattle.dw_abbrev.specs.Table.{Table as Spelled, table as part, declared, declared_in, declaration_parts, IsZero, TableAt};
+ghost use Rattle.dw_abbrev.specs.TableView.{joined, with_shared};
 ghost use Rattle.dw_abbrev.specs.FewPairs.{FewPairs};
 ghost use Rattle.dw_abbrev.specs.TableErrors.{IsScan, IsTableError, Declares, IsFault, refused_memory};
 ghost use Rattle.dw_abbrev.specs.Place.{Gives, IsErrorAt};
 ghost use Rattle.dw_abbrev.specs.ReadTable.{read_code, read_table};
 
 use crate::decl::{Decl, decl_at};
+use crate::decls::Decls;
 use crate::fields::{fault, uleb_at, write_uleb};
 use crate::known::KnownOffsets;
 use crate::shared::{SharedRun, find_shared, share_all, write_decls, write_shared};
 use dw_leb::{Fault, ReadError, Reason, SectionId, Uleb, Watched, WriteError};
-use indexmap::IndexMap;
 use std::alloc::{AllocError, Global};
 use std::fmt;
 use std::io::Write;
@@ -25,7 +24,7 @@ use std::marker::Model;
 #[derive(Drop)]
 pub struct Table {
     /// Those that are its own.
-    decls: IndexMap<u64, Decl>,
+    decls: Decls,
     /// Those behind them that other tables of the section have too. Few tables have any.
     shared: Vec<SharedRun>,
     last_zero: Uleb,
@@ -38,11 +37,11 @@ impl Model for Table {
 
     ghost use Rattle.dw_leb.specs.View.{uleb_of};
     ghost use Rattle.dw_abbrev.specs.Table.{table, IsZero};
-    ghost use Rattle.dw_abbrev.specs.TableView.{decls_in, with_shared, AreKeyed};
+    ghost use Rattle.dw_abbrev.specs.TableView.{with_shared};
 
-    ghost view = { λ t. record { declarations = with_shared (decls_in t.decls.entries) t.shared.items; last_zero = t.last_zero.width } };
+    ghost view = { λ t. record { declarations = with_shared t.decls t.shared.items; last_zero = t.last_zero.width } };
 
-    ghost invariant = { λ t. record { keyed : AreKeyed t.decls.entries; zero : IsZero (uleb_of t.last_zero); fits : table.Fits (record { declarations = with_shared (decls_in t.decls.entries) t.shared.items; last_zero = t.last_zero.width }) } };
+    ghost invariant = { λ t. record { zero : IsZero (uleb_of t.last_zero); fits : table.Fits (record { declarations = with_shared t.decls t.shared.items; last_zero = t.last_zero.width }) } };
 }
 
 /// What is written, whether the table has it alone or not.
@@ -65,12 +64,12 @@ impl<'t> fmt::Debug for Declarations<'t> {
     fn fmt<W: fmt::Write>(&self, f: &mut fmt::Formatter<W>) -> fmt::Result {
         let table: &Table = self.table;
         let mut out = f.debug_map();
-        for (code, decl) in &table.decls {
-            out.entry(code, decl);
+        for decl in table.decls.as_slice() {
+            out.entry(&decl.code().value, decl);
         }
         for run in table.shared.as_slice() {
-            if let Some(entries) = run.entries() {
-                out.entries(entries.iter());
+            for decl in run.as_slice() {
+                out.entry(&decl.code().value, decl);
             }
         }
         out.finish()
@@ -139,7 +138,7 @@ impl Table {
         ensures err { IfErr result (λ e. IsErrorAt read_table abbreviations.now at e) }
         ensures memory { IfErr result (λ e. e ≡ refused_memory → Declares abbreviations.now at) }
     {
-        let mut decls = IndexMap::new(alloc);
+        let mut decls = Decls::new(alloc);
         let mut here = at;
         loop {
             let (code, behind) = code_at(&decls, abbreviations, here)?;
@@ -155,21 +154,20 @@ impl Table {
                 return Ok(None);
             }
             let (decl, next) = decl_at(alloc, abbreviations, behind, code)?;
-            match keep(&mut decls, decl) {
-                Ok(_) => here = next,
+            match decls.push(decl) {
+                Ok(()) => here = next,
                 Err(_) => return Err(ReadError::NoMemory),
             }
         }
     }
 
-    /// A table of these declarations, each under its code, and of the zero that ends them.
-    pub(crate) fn of(decls: IndexMap<u64, Decl>, last_zero: Uleb) -> Table
-        requires keyed { AreKeyed decls.entries }
+    /// A table of these declarations, and of the zero that ends them.
+    pub(crate) fn of(decls: Decls, last_zero: Uleb) -> Table
         requires zero { IsZero (uleb_of last_zero) }
-        requires fits { part.Fits (record { declarations = decls_in decls.entries; last_zero = last_zero.width }) }
-        ensures { result ≡ record { declarations = decls_in decls.entries; last_zero = last_zero.width } }
+        requires fits { part.Fits (record { declarations = decls; last_zero = last_zero.width }) }
+        ensures { result ≡ record { declarations = decls; last_zero = last_zero.width } }
     {
-        let shared = Vec::new(*decls.allocator());
+        let shared = Vec::new(decls.allocator());
         Table {
             decls,
             shared,
@@ -192,7 +190,7 @@ impl Table {
         shared.push(first)?;
         share_all(&mut shared, rest)?;
         Ok(Table {
-            decls: IndexMap::new(alloc),
+            decls: Decls::new(alloc),
             shared,
             last_zero,
         })
@@ -213,7 +211,7 @@ impl Table {
         if !self.decls.is_empty() {
             return Ok(None);
         }
-        let mut runs = Vec::new(*self.decls.allocator());
+        let mut runs = Vec::new(self.decls.allocator());
         share_all(&mut runs, self.shared.as_slice())?;
         Ok(Some((runs, self.last_zero)))
     }
@@ -224,18 +222,18 @@ impl Table {
         ensures value { option_copied result ≡ declared self.now code }
         ensures fits { part.Fits self.now }
     {
-        match numbered(&self.decls, code) {
+        match self.decls.numbered(code) {
             Some(decl) => Some(decl),
             None => self.search(code),
         }
     }
 
-    /// The same by the code's hash, and then among what is shared. (It stands alone, since compilers number codes from 1 on.)
+    /// The same wherever it stands, also among what is shared. (It stands alone, since compilers number codes from 1 on.)
     #[inline(never)]
     fn search(&self, code: u64) -> Option<&Decl>
         ensures { option_copied result ≡ declared self.now code }
     {
-        match self.decls.get(&code) {
+        match self.decls.get(code) {
             Some(decl) => Some(decl),
             None => find_shared(self.shared.as_slice(), code),
         }
@@ -265,48 +263,23 @@ impl Table {
     }
 }
 
-/// The declaration of a code, where the codes before it are 1, 2 and so on, as compilers number them.
-/// It is found without a look-up by hash.
-#[inline(always)]
-fn numbered(decls: &IndexMap<u64, Decl>, code: u64) -> Option<&Decl>
-    ensures { IfSome result (λ decl. get nat_eq decls.now code ≡ Some decl.now) }
-{
-    let (key, decl) = decls.get_index(code.checked_sub(1)? as usize)?;
-    if *key == code { Some(decl) } else { None }
-}
-
 /// The code at `at`, behind these declarations, and where what follows begins.
 #[inline(always)]
 fn code_at(
-    decls: &IndexMap<u64, Decl>,
+    decls: &Decls,
     abbreviations: &[u8],
     at: usize,
 ) -> Result<(Uleb, usize), ReadError>
     requires within { at ≤ length abbreviations.now }
-    requires keyed { AreKeyed decls.now.entries }
-    ensures ok { IfOk result (λ x. Gives (read_code (map declaration_parts (decls_in decls.now.entries))) abbreviations.now at (uleb_of x.0) x.1) }
+    ensures ok { IfOk result (λ x. Gives (read_code (map declaration_parts decls.now)) abbreviations.now at (uleb_of x.0) x.1) }
     ensures forward { IfOk result (λ x. (at < x.1) × (x.1 ≤ length abbreviations.now)) }
-    ensures fresh { IfOk result (λ x. get nat_eq decls.now x.0.value ≡ None) }
-    ensures err { IfErr result (λ e. IsErrorAt (read_code (map declaration_parts (decls_in decls.now.entries))) abbreviations.now at e) }
+    ensures fresh { IfOk result (λ x. declared_in decls.now x.0.value ≡ None) }
+    ensures err { IfErr result (λ e. IsErrorAt (read_code (map declaration_parts decls.now)) abbreviations.now at e) }
     ensures fault { IfErr result IsFault }
 {
     let (code, next) = uleb_at(abbreviations, at)?;
-    if decls.contains_key(&code.value) {
+    if decls.has(code.value) {
         return Err(fault(at, Reason::DuplicateCode));
     }
     Ok((code, next))
-}
-
-/// Keeps a declaration of a new code, behind the others. Where there is no memory it is handed back.
-#[inline(always)]
-pub(crate) fn keep(decls: &mut IndexMap<u64, Decl>, decl: Decl) -> Result<(), Decl>
-    requires { get nat_eq decls.old decl.code.value ≡ None }
-    ensures ok { OnOk result (decls.new.entries ≡ decls.old.entries ++ (decl.code.value, decl) ∷ []) }
-    ensures unchanged { OnErr result (decls.new.entries ≡ decls.old.entries) }
-    ensures handed_back { IfErr result (λ d. d ≡ decl) }
-{
-    match decls.insert(decl.code().value, decl) {
-        Ok(_) => Ok(()),
-        Err(refused) => Err(refused.value.1),
-    }
 }

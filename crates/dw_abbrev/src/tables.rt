@@ -2,11 +2,11 @@
 ghost use Rattle.std.specs.Prelude.{◌≡◌, ◌<◌, ◌++◌, drop, length, IfOk, IfErr, OnErr};
 ghost use Rattle.dw_leb.specs.View.{uleb_of};
 ghost use Rattle.dw_abbrev.specs.Table.{Table as Spelled, IsZero, TableAt};
-ghost use Rattle.dw_abbrev.specs.TableView.{decls_in, joined, AreKeyed};
+ghost use Rattle.dw_abbrev.specs.TableView.{joined};
 ghost use Rattle.dw_abbrev.specs.TableErrors.{IsTableError, refused_memory};
 ghost use Rattle.dw_abbrev.specs.Runs.{StandTogether, IsJoined};
 
-use crate::decl::Decl;
+use crate::decls::Decls;
 use crate::known::KnownOffsets;
 use crate::run::{JoinedRun, Run};
 use crate::shared::SharedRun;
@@ -177,13 +177,12 @@ impl<'a> Tables<'a> {
     fn keep_each(
         &mut self,
         starts: &[u64],
-        run: &Rc<IndexMap<u64, Decl>>,
+        run: &Rc<Decls>,
         rest: &[SharedRun],
         last_zero: Uleb,
     ) -> Result<(), AllocError>
-        requires keyed { AreKeyed run.now.value.entries }
         requires zero { IsZero (uleb_of last_zero) }
-        requires stand { StandTogether self.old starts.now (decls_in run.now.value.entries) (record { declarations = joined rest.now; last_zero = last_zero.width }) }
+        requires stand { StandTogether self.old starts.now run.now.value (record { declarations = joined rest.now; last_zero = last_zero.width }) }
         ensures { self.new ≡ self.old }
     {
         let mut left = starts;
@@ -201,14 +200,13 @@ impl<'a> Tables<'a> {
     fn keep_from(
         &mut self,
         start: u64,
-        run: &Rc<IndexMap<u64, Decl>>,
+        run: &Rc<Decls>,
         from: usize,
         rest: &[SharedRun],
         last_zero: Uleb,
     ) -> Result<(), AllocError>
-        requires keyed { AreKeyed run.now.value.entries }
         requires zero { IsZero (uleb_of last_zero) }
-        requires stands { TableAt self.old start (record { declarations = decls_in (drop from run.now.value.entries) ++ joined rest.now; last_zero = last_zero.width }) }
+        requires stands { TableAt self.old start (record { declarations = drop from run.now.value ++ joined rest.now; last_zero = last_zero.width }) }
         ensures { self.new ≡ self.old }
     {
         let first = SharedRun::new(run.clone()?, from);

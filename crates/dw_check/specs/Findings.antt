@@ -1,5 +1,7 @@
 -- What a check finds wrong in a section: findings in the order of the section.
 use Rattle.std.specs.Prelude.{ℕ, suc, ◌+◌, Bool, true, false, not, ◌&&◌, ◌||◌, List, [], ◌∷◌, ◌++◌, length, is_some, Ok, Err, ◌==◌}
+use Rattle.dw_leb.specs.Constants.{DW_AT_sibling, DW_TAG_compile_unit, DW_TAG_partial_unit, DW_TAG_skeleton_unit}
+use Rattle.dw_leb.specs.Constants.{DW_TAG_type_unit}
 use Rattle.dw_abbrev.specs.Table.{declared}
 use Rattle.dw_header.specs.declared.kind.Kind.{Kind}
 use Rattle.dw_header.specs.declared.kind.Kind.TheVariants.{Compile, Partial, TypeUnit, Skeleton, Four}
@@ -32,7 +34,7 @@ finding_if false offset position kind = []
 -- ---- an attribute
 
 abbrev pub is_sibling : LentAttribute → Bool
-is_sibling a = a.name == 0x01
+is_sibling a = a.name == DW_AT_sibling
 
 -- it is a reference, and names no entry; one of a supplementary file isn't looked up
 abbrev pub is_unresolved : Target → Bool
@@ -97,11 +99,11 @@ entries_findings u (e ∷ es) = entry_findings u e ++ entries_findings u es
 
 -- the tags of the root of a unit of this kind
 abbrev pub is_root_tag : Kind → ℕ → Bool
-is_root_tag Compile tag = tag == 0x11 || tag == 0x3c
-is_root_tag Partial tag = tag == 0x11 || tag == 0x3c
-is_root_tag Four tag = tag == 0x11 || tag == 0x3c
-is_root_tag (TypeUnit signature offset) tag = tag == 0x41
-is_root_tag (Skeleton id) tag = tag == 0x4a || tag == 0x11
+is_root_tag Compile tag = tag == DW_TAG_compile_unit || tag == DW_TAG_partial_unit
+is_root_tag Partial tag = tag == DW_TAG_compile_unit || tag == DW_TAG_partial_unit
+is_root_tag Four tag = tag == DW_TAG_compile_unit || tag == DW_TAG_partial_unit
+is_root_tag (TypeUnit signature offset) tag = tag == DW_TAG_type_unit
+is_root_tag (Skeleton id) tag = tag == DW_TAG_skeleton_unit || tag == DW_TAG_compile_unit
 
 -- an entry begins at the type offset, where the unit has one
 abbrev pub has_type : WholeUnit → Kind → Bool

@@ -3,6 +3,8 @@
 use Rattle.std.specs.Prelude.{◌≡◌, ◌==◌, ◌||◌, ◌&&◌, not, ℕ, Bool, false, List, [], ◌∷◌, ◌++◌, is_some, nat_eq, Vec}
 use Rattle.std.specs.declared.alloc.Global.{Global}
 use Rattle.std.specs.List.{AllByRecursion, list_any}
+use Rattle.dw_leb.specs.Constants.{DW_AT_sibling, DW_FORM_indirect, DW_FORM_ref1, DW_FORM_ref2, DW_FORM_ref4}
+use Rattle.dw_leb.specs.Constants.{DW_FORM_ref8, DW_FORM_ref_udata}
 use Rattle.dw_form.specs.Form.{at_number}
 use Rattle.dw_abbrev.specs.Table.{Pair, Table, declared}
 use Rattle.dw_tree.specs.Tree.{declared_pairs}
@@ -19,12 +21,12 @@ marks_behind names (p ∷ ps) = list_any (nat_eq p.name.value) names ∷ marks_b
 -- whether values of a name and a form can have findings by themselves: a sibling, a reference, a text that a number names, or what
 -- its value tells, as an indirect value does
 abbrev pub is_looked_at : ℕ → ℕ → Bool
-is_looked_at name form = name == 0x01 || (form == 0x16 || (is_some (at_number form ref_forms) || is_some (at_number form stored_forms)))
+is_looked_at name form = name == DW_AT_sibling || (form == DW_FORM_indirect || (is_some (at_number form ref_forms) || is_some (at_number form stored_forms)))
 
 -- whether values of a name and a form can be references to entries of their unit that are looked up: under ref1, ref2, ref4, ref8,
 -- ref_udata, or what an indirect value is
 abbrev pub refers_within : ℕ → ℕ → Bool
-refers_within name form = not (name == 0x01) && (form == 0x11 || (form == 0x12 || (form == 0x13 || (form == 0x14 || (form == 0x15 || form == 0x16)))))
+refers_within name form = not (name == DW_AT_sibling) && (form == DW_FORM_ref1 || (form == DW_FORM_ref2 || (form == DW_FORM_ref4 || (form == DW_FORM_ref8 || (form == DW_FORM_ref_udata || form == DW_FORM_indirect)))))
 
 -- Marks for pairs behind others of these names: each says whether one of those before it has its name. The pairs at the end that
 -- have no mark aren't looked at, and none of those before one of them has its name.

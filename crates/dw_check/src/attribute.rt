@@ -4,7 +4,7 @@ ghost use Rattle.dw_form.specs.Form.{at_number};
 ghost use Rattle.dw_form.specs.Head.{own_bare};
 ghost use Rattle.dw_form.specs.Lent.{attribute_of, number_in};
 ghost use Rattle.dw_tree.specs.Lent.{attr_of, number_of};
-ghost use Rattle.dw_section.specs.Begins.{AreBegins};
+ghost use Rattle.dw_section.specs.EntryOffsets.{AreEntryOffsets};
 ghost use Rattle.dw_section.specs.Reference.{ref_forms};
 ghost use Rattle.dw_strings.specs.Text.{stored_forms};
 ghost use Rattle.dw_check.specs.Ends.{is_behind};
@@ -16,7 +16,7 @@ use crate::finding::{Finding, FindingKind, push_if};
 use crate::place::Place;
 use dw_leb::constants::attribute::DW_AT_SIBLING;
 use dw_leb::constants::form::*;
-use dw_section::{Begins, EntryId, RefFault, is_right_sibling};
+use dw_section::{EntryOffsets, EntryId, RefFault, is_right_sibling};
 use dw_strings::StrFault;
 use dw_unit::{AttrRef, EntryRef, NumberRef};
 use std::alloc::AllocError;
@@ -27,14 +27,14 @@ use std::alloc::AllocError;
 pub(crate) fn check_attribute(
     found: &mut Vec<Finding>,
     place: &Place<'_>,
-    begins: &Begins,
+    begins: &EntryOffsets,
     entry: &EntryRef<'_>,
     position: u64,
     attribute: &AttrRef<'_>,
     repeated: bool,
 ) -> Result<(), AllocError>
     requires place { IsPlace place.now }
-    requires begins { AreBegins place.now.unit.now begins.now }
+    requires begins { AreEntryOffsets place.now.unit.now begins.now }
     requires near { place.now.start + entry.now.offset < 2 ^ 64 }
     ensures { OnOk result (found.new.items ≡ found.old.items ++ definition.findings_at (unit_in place.now) entry.now position (attr_of attribute.now) repeated) }
 {
@@ -57,14 +57,14 @@ pub(crate) fn check_attribute(
 pub(crate) fn check_number(
     found: &mut Vec<Finding>,
     place: &Place<'_>,
-    begins: &Begins,
+    begins: &EntryOffsets,
     entry: &EntryRef<'_>,
     position: u64,
     number: &NumberRef,
     repeated: bool,
 ) -> Result<(), AllocError>
     requires place { IsPlace place.now }
-    requires begins { AreBegins place.now.unit.now begins.now }
+    requires begins { AreEntryOffsets place.now.unit.now begins.now }
     requires near { place.now.start + entry.now.offset < 2 ^ 64 }
     ensures { OnOk result (found.new.items ≡ found.old.items ++ definition.findings_at (unit_in place.now) entry.now position (number_of number.now) repeated) }
 {
@@ -111,14 +111,14 @@ fn check_text(
 pub(crate) fn check_bare(
     found: &mut Vec<Finding>,
     place: &Place<'_>,
-    begins: &Begins,
+    begins: &EntryOffsets,
     entry: &EntryRef<'_>,
     position: u64,
     bare: &AttrRef<'_>,
     repeated: bool,
 ) -> Result<(), AllocError>
     requires place { IsPlace place.now }
-    requires begins { AreBegins place.now.unit.now begins.now }
+    requires begins { AreEntryOffsets place.now.unit.now begins.now }
     requires near { place.now.start + entry.now.offset < 2 ^ 64 }
     requires bare { is_some (own_bare (attribute_of bare.now.attr)) ≡ true }
     ensures { OnOk result (found.new.items ≡ found.old.items ++ definition.findings_at (unit_in place.now) entry.now position (attr_of bare.now) repeated) }
@@ -134,14 +134,14 @@ pub(crate) fn check_bare(
 fn check_rare(
     found: &mut Vec<Finding>,
     place: &Place<'_>,
-    begins: &Begins,
+    begins: &EntryOffsets,
     entry: &EntryRef<'_>,
     position: u64,
     attribute: &AttrRef<'_>,
     repeated: bool,
 ) -> Result<(), AllocError>
     requires place { IsPlace place.now }
-    requires begins { AreBegins place.now.unit.now begins.now }
+    requires begins { AreEntryOffsets place.now.unit.now begins.now }
     requires near { place.now.start + entry.now.offset < 2 ^ 64 }
     ensures { OnOk result (found.new.items ≡ found.old.items ++ definition.findings_at (unit_in place.now) entry.now position (attr_of attribute.now) repeated) }
 {
@@ -189,12 +189,12 @@ fn push_wrong(
 #[inline(always)]
 fn is_bad_reference(
     place: &Place<'_>,
-    begins: &Begins,
+    begins: &EntryOffsets,
     entry: &EntryRef<'_>,
     attribute: &AttrRef<'_>,
 ) -> bool
     requires place { IsPlace place.now }
-    requires begins { AreBegins place.now.unit.now begins.now }
+    requires begins { AreEntryOffsets place.now.unit.now begins.now }
     ensures { result ≡ definition.is_bad_reference (unit_in place.now) (attr_of attribute.now) }
 {
     if attribute.name == DW_AT_SIBLING {

@@ -1,7 +1,7 @@
 //! The findings of a section, of its units and of their entries.
 ghost use Rattle.std.specs.Prelude.{◌≡◌, ◌+◌, ◌<◌, ◌^◌, ◌++◌, [], ℕ, nat_eq, None, IfOk, IsSome, OnErr, OnOk};
 ghost use Rattle.indexmap.specs.IndexMap.{get};
-ghost use Rattle.dw_section.specs.Begins.{AreBegins};
+ghost use Rattle.dw_section.specs.EntryOffsets.{AreEntryOffsets};
 ghost use Rattle.dw_section.specs.Lookup.{unit_at};
 ghost use Rattle.dw_strings.specs.TextView.{sections_of};
 ghost use Rattle.dw_tree.specs.Lent.{attributes_of};
@@ -15,7 +15,7 @@ use crate::finding::Finding;
 use crate::marks::{Marks, kept_marks, mark, refers};
 use crate::place::Place;
 use crate::root::check_root;
-use dw_section::{Begins, Item, Section};
+use dw_section::{EntryOffsets, Item, Section};
 use dw_strings::Strings;
 use dw_unit::{EntryRef, Unit};
 use indexmap::IndexMap;
@@ -47,7 +47,7 @@ pub fn check<'a>(
     let _size = section.size();
     let text_ends = TextEnds::of(strings);
     let mut found = Vec::new(alloc);
-    let mut spare = Begins::new(alloc);
+    let mut spare = EntryOffsets::new(alloc);
     let mut number = 0;
     let mut start = 0;
     let mut left = section.items();
@@ -79,14 +79,14 @@ fn check_unit(
     alloc: Global,
     found: &mut Vec<Finding>,
     place: &Place<'_>,
-    spare: &mut Begins,
+    spare: &mut EntryOffsets,
 ) -> Result<(), AllocError>
     requires { IsPlace place.now }
     ensures { OnOk result (found.new.items ≡ found.old.items ++ definition.unit_findings (unit_in place.now)) }
 {
     check_root(found, place)?;
     let mut kept = IndexMap::new(alloc);
-    let mut begins = Begins::new(alloc);
+    let mut begins = EntryOffsets::new(alloc);
     let mut is_learnt = false;
     for entry in place.unit.entries() {
         let code = entry.code().value;
@@ -107,9 +107,9 @@ fn check_unit(
 /// Learns where the entries of the unit begin, unless that is learnt, where a value of this code can be a reference to one of
 /// them. Not where they are so few that their places would cost more than they save: in a unit with a large block or text, or
 /// with much padding. The memory is that of `spare`.
-fn learn_for(code: u64, is_learnt: &mut bool, begins: &mut Begins, spare: &mut Begins, unit: &Unit)
-    requires { AreBegins unit.now begins.old }
-    ensures { AreBegins unit.now begins.new }
+fn learn_for(code: u64, is_learnt: &mut bool, begins: &mut EntryOffsets, spare: &mut EntryOffsets, unit: &Unit)
+    requires { AreEntryOffsets unit.now begins.old }
+    ensures { AreEntryOffsets unit.now begins.new }
 {
     if *is_learnt || !refers(unit.tree().table(), code) {
         return;
@@ -127,13 +127,13 @@ fn check_first(
     alloc: Global,
     found: &mut Vec<Finding>,
     place: &Place<'_>,
-    begins: &Begins,
+    begins: &EntryOffsets,
     kept: &mut Marks,
     entry: &EntryRef<'_>,
     code: u64,
 ) -> Result<(), AllocError>
     requires place { IsPlace place.now }
-    requires begins { AreBegins place.now.unit.now begins.now }
+    requires begins { AreEntryOffsets place.now.unit.now begins.now }
     requires near { place.now.start + entry.now.offset < 2 ^ 64 }
     requires marked { MarksItsEntries place.now.unit.now.table code entry.now }
     requires kept { AreMarks place.now.unit.now.table kept.old.entries }
@@ -154,12 +154,12 @@ fn check_first(
 fn check_entry(
     found: &mut Vec<Finding>,
     place: &Place<'_>,
-    begins: &Begins,
+    begins: &EntryOffsets,
     entry: &EntryRef<'_>,
     marks: &[bool],
 ) -> Result<(), AllocError>
     requires place { IsPlace place.now }
-    requires begins { AreBegins place.now.unit.now begins.now }
+    requires begins { AreEntryOffsets place.now.unit.now begins.now }
     requires near { place.now.start + entry.now.offset < 2 ^ 64 }
     requires marked { AreMarked [] (attributes_of entry.now) marks.now }
     ensures { OnOk result (found.new.items ≡ found.old.items ++ definition.entry_findings (unit_in place.now) entry.now) }

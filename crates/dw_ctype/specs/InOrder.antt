@@ -1,5 +1,6 @@
 -- The text of a type and a declarator in the order of its bytes: what stands before the declarator, the declarator, and what stands behind it.
 use Rattle.std.specs.Prelude.{ℕ, zero, suc, Bool, true, false, List, [], ◌∷◌, ◌++◌, Option, Some, None, codes, unwrap_or, ◌==◌, ◌||◌, if◌then◌else◌}
+use Rattle.dw_leb.specs.Constants.{DW_TAG_formal_parameter, DW_TAG_unspecified_parameters}
 use Rattle.dw_tree.specs.Lent.{EntryAt}
 use Rattle.dw_section.specs.Item.{Item}
 use Rattle.dw_section.specs.Lookup.{entry}
@@ -110,11 +111,11 @@ right s (suc depth) t = type_right (right s depth) (say s depth) s t
 -- what a child of a function adds to them, where some were before it or none
 abbrev pub parameter_text : (EntryAt → List ℕ) → Bool → EntryAt → List ℕ
 parameter_text text some e =
-    if tag e == 0x05 then when some (codes ", ") ++ text e
-    else (if tag e == 0x18 then when some (codes ", ") ++ codes "..." else [])
+    if tag e == DW_TAG_formal_parameter then when some (codes ", ") ++ text e
+    else (if tag e == DW_TAG_unspecified_parameters then when some (codes ", ") ++ codes "..." else [])
 
 abbrev pub is_parameter : EntryAt → Bool
-is_parameter e = tag e == 0x05 || tag e == 0x18
+is_parameter e = tag e == DW_TAG_formal_parameter || tag e == DW_TAG_unspecified_parameters
 
 -- what is to come of them, where some were before or none
 abbrev pub to_come : Bool → Bool → List (List ℕ) → List ℕ

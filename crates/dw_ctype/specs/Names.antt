@@ -1,5 +1,10 @@
 -- How the entries of types are written, by their tags, and the words for them.
 use Rattle.std.specs.Prelude.{ℕ, List, [], ◌∷◌, codes, unwrap_or}
+use Rattle.dw_leb.specs.Constants.{DW_TAG_array_type, DW_TAG_atomic_type, DW_TAG_base_type, DW_TAG_class_type}
+use Rattle.dw_leb.specs.Constants.{DW_TAG_const_type, DW_TAG_enumeration_type, DW_TAG_pointer_type}
+use Rattle.dw_leb.specs.Constants.{DW_TAG_reference_type, DW_TAG_restrict_type, DW_TAG_rvalue_reference_type}
+use Rattle.dw_leb.specs.Constants.{DW_TAG_structure_type, DW_TAG_subprogram, DW_TAG_subroutine_type, DW_TAG_typedef}
+use Rattle.dw_leb.specs.Constants.{DW_TAG_union_type, DW_TAG_unspecified_type, DW_TAG_volatile_type}
 use Rattle.dw_form.specs.Form.{at_number}
 use Rattle.dw_ctype.specs.declared.kind.Keyword.{Keyword}
 use Rattle.dw_ctype.specs.declared.kind.Keyword.TheVariants.{Struct, Union, Enum, Class}
@@ -13,8 +18,24 @@ use Rattle.dw_ctype.specs.declared.kind.Kind.TheVariants.{Named, Tagged, Marked,
 -- base_type, typedef, unspecified_type; structure_type, union_type, enumeration_type, class_type; pointer_type, reference_type, rvalue_reference_type; const_type, volatile_type, restrict_type, atomic_type; array_type; subroutine_type, subprogram
 abbrev pub kinds : List (ℕ × Kind)
 kinds =
-    (0x24, Named) ∷ (0x16, Named) ∷ (0x3b, Named) ∷ (0x13, Tagged Struct) ∷ (0x17, Tagged Union) ∷ (0x04, Tagged Enum) ∷ (0x02, Tagged Class) ∷ (0x0f, Marked Pointer) ∷ (0x10, Marked Reference) ∷ (0x42, Marked RvalueReference)
-    ∷ (0x26, Qualified Const) ∷ (0x35, Qualified Volatile) ∷ (0x37, Qualified Restrict) ∷ (0x47, Qualified Atomic) ∷ (0x01, Array) ∷ (0x15, Function) ∷ (0x2e, Function) ∷ []
+    (DW_TAG_base_type, Named)
+    ∷ (DW_TAG_typedef, Named)
+    ∷ (DW_TAG_unspecified_type, Named)
+    ∷ (DW_TAG_structure_type, Tagged Struct)
+    ∷ (DW_TAG_union_type, Tagged Union)
+    ∷ (DW_TAG_enumeration_type, Tagged Enum)
+    ∷ (DW_TAG_class_type, Tagged Class)
+    ∷ (DW_TAG_pointer_type, Marked Pointer)
+    ∷ (DW_TAG_reference_type, Marked Reference)
+    ∷ (DW_TAG_rvalue_reference_type, Marked RvalueReference)
+    ∷ (DW_TAG_const_type, Qualified Const)
+    ∷ (DW_TAG_volatile_type, Qualified Volatile)
+    ∷ (DW_TAG_restrict_type, Qualified Restrict)
+    ∷ (DW_TAG_atomic_type, Qualified Atomic)
+    ∷ (DW_TAG_array_type, Array)
+    ∷ (DW_TAG_subroutine_type, Function)
+    ∷ (DW_TAG_subprogram, Function)
+    ∷ []
 
 abbrev pub kind : ℕ → Kind
 kind tag = unwrap_or (at_number tag kinds) Other

@@ -1,5 +1,6 @@
 -- What the text of an entry needs: the types whose visits it counts, and the children that it shows.
 use Rattle.std.specs.Prelude.{◌≡◌, ℕ, ◌+◌, Bool, false, List, [], ◌∷◌, Option, Some, None, ◌==◌, ◌||◌, if◌then◌else◌}
+use Rattle.dw_leb.specs.Constants.{DW_TAG_formal_parameter, DW_TAG_subrange_type, DW_TAG_unspecified_parameters}
 use Rattle.dw_tree.specs.Lent.{EntryAt, children_of}
 use Rattle.dw_section.specs.Item.{Item}
 use Rattle.dw_ctype.specs.declared.kind.Kind.{Kind}
@@ -13,7 +14,7 @@ use Rattle.dw_ctype.specs.Types.{tag, kind_of, type_of}
 -- those of the formal_parameters
 abbrev pub parameter_types : List Item → ℕ → List EntryAt → List Typed
 parameter_types items i [] = []
-parameter_types items i (e ∷ es) = if tag e == 0x05 then type_of items i e ∷ parameter_types items i es else parameter_types items i es
+parameter_types items i (e ∷ es) = if tag e == DW_TAG_formal_parameter then type_of items i e ∷ parameter_types items i es else parameter_types items i es
 
 abbrev pub kind_types : List Item → ℕ → EntryAt → Kind → List Typed
 kind_types items i e Named = []
@@ -37,8 +38,8 @@ visits_of visits (t ∷ ts) = visits t + visits_of visits ts
 
 -- formal_parameter and unspecified_parameters of a function, subrange_type of an array
 abbrev pub is_shown : Kind → ℕ → Bool
-is_shown Function tag = tag == 0x05 || tag == 0x18
-is_shown Array tag = tag == 0x21
+is_shown Function tag = tag == DW_TAG_formal_parameter || tag == DW_TAG_unspecified_parameters
+is_shown Array tag = tag == DW_TAG_subrange_type
 is_shown _ tag = false
 
 abbrev pub shown_among : Kind → List EntryAt → List EntryAt

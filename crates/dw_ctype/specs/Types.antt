@@ -1,5 +1,9 @@
 -- The text of a type and a declarator: this project's own profile of C notation.
 use Rattle.std.specs.Prelude.{ℕ, zero, suc, ℤ, pos, negsuc, Bool, true, false, List, [], ◌∷◌, ◌++◌, Option, Some, None, Ok, Err, unwrap_or, codes, decimal, ◌==◌, ◌||◌, if◌then◌else◌}
+use Rattle.dw_leb.specs.Constants.{DW_AT_count, DW_AT_name, DW_AT_prototyped, DW_AT_type, DW_AT_upper_bound}
+use Rattle.dw_leb.specs.Constants.{DW_FORM_data1, DW_FORM_data2, DW_FORM_data4, DW_FORM_data8, DW_FORM_udata}
+use Rattle.dw_leb.specs.Constants.{DW_TAG_formal_parameter, DW_TAG_member, DW_TAG_subrange_type}
+use Rattle.dw_leb.specs.Constants.{DW_TAG_unspecified_parameters, DW_TAG_variable}
 use Rattle.dw_abbrev.specs.Table.{declared}
 use Rattle.dw_form.specs.Form.{Value, Num, Sleb, Implicit}
 use Rattle.dw_form.specs.Lent.{number_in}
@@ -47,7 +51,7 @@ typed_by items i (Some u) (Some a) = resolved (named items i u a.form a.attr.val
 
 -- the type of an entry of an item: what its first DW_AT_type resolves to
 abbrev pub type_of : List Item → ℕ → EntryAt → Typed
-type_of items i e = typed_by items i (unit_at items i) (first 0x49 e)
+type_of items i e = typed_by items i (unit_at items i) (first DW_AT_type e)
 
 abbrev pub readable : texts.Named → Option (List ℕ)
 readable (Ok bytes) = Some bytes
@@ -60,7 +64,7 @@ named_by s (Some u) (Some a) = readable (texts.named_text s.strings u a.form a.a
 
 -- the text of its first DW_AT_name, where that can be looked up
 abbrev pub name_of : Source → ℕ → EntryAt → Option (List ℕ)
-name_of s i e = named_by s (unit_at s.items i) (first 0x03 e)
+name_of s i e = named_by s (unit_at s.items i) (first DW_AT_name e)
 
 -- ---- behind qualifiers
 
@@ -109,7 +113,7 @@ marked m k x = bracketed (is_bracketed k) (mark m ++ x)
 
 -- data1, data2, data4, data8 and udata
 abbrev pub is_unsigned : ℕ → Bool
-is_unsigned form = form == 0x0b || (form == 0x05 || (form == 0x06 || (form == 0x07 || form == 0x0f)))
+is_unsigned form = form == DW_FORM_data1 || (form == DW_FORM_data2 || (form == DW_FORM_data4 || (form == DW_FORM_data8 || form == DW_FORM_udata)))
 
 abbrev pub unsigned : Option ℕ → Option ℤ
 unsigned None = None
@@ -142,12 +146,12 @@ size None (Some upper) = size_text (one_more upper)
 size None None = []
 
 abbrev pub dimension : EntryAt → List ℕ
-dimension e = codes "[" ++ (size (number (first 0x37 e)) (number (first 0x2f e)) ++ codes "]")
+dimension e = codes "[" ++ (size (number (first DW_AT_count e)) (number (first DW_AT_upper_bound e)) ++ codes "]")
 
 -- of each child that is a subrange_type
 abbrev pub dimensions_of : List EntryAt → List ℕ
 dimensions_of [] = []
-dimensions_of (e ∷ es) = if tag e == 0x21 then dimension e ++ dimensions_of es else dimensions_of es
+dimensions_of (e ∷ es) = if tag e == DW_TAG_subrange_type then dimension e ++ dimensions_of es else dimensions_of es
 
 abbrev pub unless_empty : List ℕ → List ℕ → List ℕ
 unless_empty other [] = other
@@ -162,8 +166,8 @@ dimensions e = unless_empty (codes "[]") (dimensions_of (children_of e))
 abbrev pub parameter_texts : (EntryAt → List ℕ) → List EntryAt → List (List ℕ)
 parameter_texts text [] = []
 parameter_texts text (e ∷ es) =
-    if tag e == 0x05 then text e ∷ parameter_texts text es
-    else (if tag e == 0x18 then codes "..." ∷ parameter_texts text es else parameter_texts text es)
+    if tag e == DW_TAG_formal_parameter then text e ∷ parameter_texts text es
+    else (if tag e == DW_TAG_unspecified_parameters then codes "..." ∷ parameter_texts text es else parameter_texts text es)
 
 -- each behind a comma and a space
 abbrev pub behind_commas : List (List ℕ) → List ℕ
@@ -188,7 +192,7 @@ joined prototyped [] = none_text prototyped
 joined prototyped (y ∷ ys) = y ++ behind_commas ys
 
 abbrev pub parameters : (EntryAt → List ℕ) → EntryAt → List ℕ
-parameters text e = codes "(" ++ (joined (is_prototyped (first 0x27 e)) (parameter_texts text (children_of e)) ++ codes ")")
+parameters text e = codes "(" ++ (joined (is_prototyped (first DW_AT_prototyped e)) (parameter_texts text (children_of e)) ++ codes ")")
 
 -- ---- types
 
@@ -222,7 +226,7 @@ say s (suc depth) (Entry id) x = say_entry (say s depth) s id.item (entry s.item
 
 -- of a variable, formal_parameter or member its type, of any other entry itself
 abbrev pub is_declared : ℕ → Bool
-is_declared tag = tag == 0x34 || (tag == 0x05 || tag == 0x0d)
+is_declared tag = tag == DW_TAG_variable || (tag == DW_TAG_formal_parameter || tag == DW_TAG_member)
 
 abbrev pub subject : List Item → EntryId → EntryAt → Typed
 subject items id e = if is_declared (tag e) then type_of items id.item e else Entry id

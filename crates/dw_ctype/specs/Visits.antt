@@ -1,5 +1,6 @@
 -- How many texts of types a text needs, itself included.
 use Rattle.std.specs.Prelude.{ℕ, zero, suc, ◌+◌, ◌-◌, nat_le, List, [], ◌∷◌, Option, Some, None, ◌==◌, if◌then◌else◌}
+use Rattle.dw_leb.specs.Constants.{DW_TAG_formal_parameter}
 use Rattle.dw_tree.specs.Lent.{EntryAt, children_of}
 use Rattle.dw_section.specs.Item.{Item}
 use Rattle.dw_section.specs.Lookup.{entry}
@@ -13,7 +14,7 @@ use Rattle.dw_ctype.specs.Types.{tag, kind_of, type_of, subject}
 -- those of the formal_parameters
 abbrev pub parameter_visits : (EntryAt → ℕ) → List EntryAt → ℕ
 parameter_visits count [] = 0
-parameter_visits count (e ∷ es) = if tag e == 0x05 then count e + parameter_visits count es else parameter_visits count es
+parameter_visits count (e ∷ es) = if tag e == DW_TAG_formal_parameter then count e + parameter_visits count es else parameter_visits count es
 
 -- those of what the row of an entry'items kind names, where `visits` counts one level deeper
 abbrev pub kind_visits : (Typed → ℕ) → List Item → ℕ → EntryAt → Kind → ℕ

@@ -6,7 +6,7 @@ use Rattle.dw_leb.specs.Repeat.{ItemFits}
 use Rattle.dw_form.specs.declared.shape.Ctx.{Ctx}
 use Rattle.dw_form.specs.Form.{attribute}
 use Rattle.dw_abbrev.specs.Table.{Pair, Table, declared, is_null}
-use Rattle.dw_tree.specs.Tree.{Tree, Forest, none, more, node_of, values, declared_pairs, declares_children, unknown, bad_root, bad_child, body, children, tree, nesting, AreNulls, MoreBreaks}
+use Rattle.dw_tree.specs.Tree.{Tree, Forest, none, more, node_of, values, declared_pairs, declares_children, unknown, bad_root, bad_child, body, children, nesting, AreNulls, MoreBreaks, unit_tree}
 use Rattle.dw_tree.specs.Place.{Frame, UnfinishedEntry}
 use Rattle.dw_tree.specs.Steps.{FirstsFit, next_pairs}
 use Rattle.dw_feed.specs.Room.{has_room}
@@ -38,7 +38,7 @@ module _ (k : Ctx) (t : Table) where
   -- what stands before a place in its chain: entries, or outermost at most the root
   abbrev pub RootFits : Forest → Type 0
   RootFits none = Unit {0}
-  RootFits (more x none) = (tree k t (nesting - 1)).Fits x
+  RootFits (more x none) = (unit_tree k t).Fits x
   RootFits (more x (more y ts)) = ⊥
 
   abbrev pub LeftFits : List Frame → ℕ → Forest → Type 0

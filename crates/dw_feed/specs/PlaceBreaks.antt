@@ -8,7 +8,7 @@ use Rattle.dw_leb.specs.Number.{Unsigned, uleb}
 use Rattle.dw_form.specs.declared.shape.Ctx.{Ctx}
 use Rattle.dw_form.specs.Form.{Attribute, attribute}
 use Rattle.dw_abbrev.specs.Table.{Pair, Table, declared, is_null}
-use Rattle.dw_tree.specs.Tree.{Tree, Forest, none, more, node_of, values, declared_pairs, declares_children, unknown, bad_root, bad_child, body, children, tree, nesting, nulls, AreNulls, MoreBreaks}
+use Rattle.dw_tree.specs.Tree.{Tree, Forest, none, more, node_of, values, declared_pairs, declares_children, unknown, bad_root, bad_child, body, children, tree, nesting, nulls, AreNulls, MoreBreaks, unit_tree}
 use Rattle.dw_tree.specs.Spelling.{entry_bytes, tree_bytes, forest_bytes}
 use Rattle.dw_tree.specs.Structure.{spelled_by_structure}
 use Rattle.dw_tree.specs.Place.{Frame, UnfinishedEntry}
@@ -64,7 +64,7 @@ module _ (k : Ctx) (t : Table) where
   unfolding children
   child_behind room code fits bytes lim offset reason h = ([], inr (code, child_fits code fits, fits.some, h))
 
-  root_behind : (code : Unsigned) → BeginsEntry k t code → AlsoBreaks (After (uleb.spell code) (kids_break (nesting - 1) code)) (tree k t (nesting - 1)).Break
+  root_behind : (code : Unsigned) → BeginsEntry k t code → AlsoBreaks (After (uleb.spell code) (kids_break (nesting - 1) code)) (unit_tree k t).Break
   root_behind code fits bytes lim offset reason h = inr (code, root_fits code fits, h)
 
   optional_break : (b : Bool) (kids : Part (Forest × Unsigned)) → b ≡ true → AlsoBreaks kids.Break (optional b kids).Break
@@ -83,7 +83,7 @@ module _ (k : Ctx) (t : Table) where
 
   -- ---- the chain at a place breaks: so does the tree, behind the open entries
 
-  pub chain_breaks : (f : Frame) (fs : List Frame) (room : ℕ) → FramesFit k t (f ∷ fs) room → AlsoBreaks (After (open_bytes k t (f ∷ fs)) (children k t room).Break) (tree k t (nesting - 1)).Break
+  pub chain_breaks : (f : Frame) (fs : List Frame) (room : ℕ) → FramesFit k t (f ∷ fs) room → AlsoBreaks (After (open_bytes k t (f ∷ fs)) (children k t room).Break) (unit_tree k t).Break
   unfolding tree_bytes
   chain_breaks f [] room fits bytes lim offset reason h =
       let deep : room ≡ nesting - 1 = omega (arith, fits.2) in
@@ -136,12 +136,12 @@ module _ (k : Ctx) (t : Table) where
   by_place [] none (Some r) [] room frames here padded = λ bytes lim offset reason h.
       inl (root_behind r.code here.begins bytes lim offset reason (read_behind (nesting - 1) r here.values_fit bytes lim offset reason (After_same _ (unfinished_bytes k t (Some r)) _ (append-nil (unfinished_bytes k t (Some r))) bytes lim offset reason h)))
   by_place [] (more x none) None ws room frames here padded = λ bytes lim offset reason h.
-      let e : place_bytes k t [] (more x none) None ws ≡ (tree k t (nesting - 1)).spell x ++ nulls ws = ap₂ (λ (bs cs : List ℕ). bs ++ cs) (append-nil (tree_bytes k t x) ∙ sym (spelled_by_structure k t (nesting - 1) x here)) refl in
+      let e : place_bytes k t [] (more x none) None ws ≡ (unit_tree k t).spell x ++ nulls ws = ap₂ (λ (bs cs : List ℕ). bs ++ cs) (append-nil (tree_bytes k t x) ∙ sym (spelled_by_structure k t (nesting - 1) x here)) refl in
       inr (
         x,
         here,
         After_map _ _ _ (λ bs l o r i. (ws, padding_nulls ws padded, i)) bytes lim offset reason
-            (After_split ((tree k t (nesting - 1)).spell x) (nulls ws) MoreBreaks bytes lim offset reason (After_same _ _ _ e bytes lim offset reason h)),
+            (After_split ((unit_tree k t).spell x) (nulls ws) MoreBreaks bytes lim offset reason (After_same _ _ _ e bytes lim offset reason h)),
       )
     where
       padding_nulls : (ws : List ℕ) → PaddingFits k t [] (more x none) None ws → AreNulls ws

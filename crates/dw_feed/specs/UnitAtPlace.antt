@@ -13,7 +13,7 @@ use Rattle.dw_header.specs.Header.{Header, Accepts, fields, fields_of, context_o
 use Rattle.dw_header.specs.FittingHeaders.{fields_fit}
 use Rattle.dw_header.specs.HeaderPlace.{HeaderAtUnder, header_bytes}
 use Rattle.dw_header.specs.Laws.{HasHeaderBytes}
-use Rattle.dw_tree.specs.Tree.{Tree, Forest, none, more, tree, nesting, nulls, AreNulls}
+use Rattle.dw_tree.specs.Tree.{Tree, Forest, none, more, nesting, nulls, AreNulls, unit_tree}
 use Rattle.dw_tree.specs.Spelling.{tree_bytes}
 use Rattle.dw_tree.specs.Structure.{spelled_by_structure}
 use Rattle.dw_tree.specs.Place.{Frame, UnfinishedEntry}
@@ -94,7 +94,7 @@ module _ (h : Header) (n : ℕ) (t : Table) (head : HasHeaderBytes h n) where
   padding_nulls x [] p = tt
   padding_nulls x (w ∷ ws) p = p
 
-  root_place : (x : Tree) (ws : List ℕ) → (tree k t (nesting - 1)).Fits x → place_bytes k t [] (more x none) None ws ≡ (tree k t (nesting - 1)).spell x ++ nulls ws
+  root_place : (x : Tree) (ws : List ℕ) → (unit_tree k t).Fits x → place_bytes k t [] (more x none) None ws ≡ (unit_tree k t).spell x ++ nulls ws
   unfolding tree_bytes
   root_place x ws fits = ap (λ (bs : List ℕ). bs ++ nulls ws) (append-nil (tree_bytes k t x) ∙ sym (spelled_by_structure k t (nesting - 1) x fits))
 
@@ -104,7 +104,7 @@ module _ (h : Header) (n : ℕ) (t : Table) (head : HasHeaderBytes h n) where
   unit_done x ws stands full =
       let i : List ℕ = (length_field h.order).spell (h.format, n) in
       let f : List ℕ = (fields h.order h.format).spell (fields_of h) in
-      let e : List ℕ = (tree k t (nesting - 1)).spell x ++ nulls ws in
+      let e : List ℕ = (unit_tree k t).spell x ++ nulls ws in
       let same : place_bytes k t [] (more x none) None ws ≡ e = root_place x ws stands.spot_fits in
       let size : length (body_bytes (unit_of x ws)) ≡ n = length-append f e ∙ omega (arith, ap length same, full, head.within) in (
         record {

@@ -9,7 +9,7 @@ use Rattle.dw_leb.specs.Number.{offset_size, Unsigned, uleb, fixed}
 use Rattle.dw_form.specs.declared.shape.Ctx.{Ctx}
 use Rattle.dw_form.specs.Form.{attribute}
 use Rattle.dw_abbrev.specs.Table.{Pair, Table, is_null, declared}
-use Rattle.dw_tree.specs.Tree.{Forest, Body, values, declared_pairs, declares_children, unless_declared, bad_root, bad_child, body, children, tree, nesting, nulls, not_null, MoreBreaks, PaddingBreaks}
+use Rattle.dw_tree.specs.Tree.{Forest, Body, values, declared_pairs, declares_children, unless_declared, bad_root, bad_child, body, children, tree, nesting, nulls, not_null, MoreBreaks, PaddingBreaks, unit_tree}
 use Rattle.dw_header.specs.declared.versions.Versions.{Versions}
 use Rattle.dw_header.specs.Header.{added_sizes, numbers, bad_version_under, bad_type, bad_address_size, five_part, four_part, fields_behind, fields_under}
 use Rattle.dw_unit.specs.Unit.{EntriesBreak}
@@ -96,4 +96,4 @@ padding_never_truncated bytes lim offset reason le h = After_never_truncated (nu
 
 pub entries_never_truncated : (k : Ctx) (t : Table) → NeverTruncated (EntriesBreak k t)
 entries_never_truncated k t bytes lim offset reason le (inl one) = tree_never_truncated k t (nesting - 1) bytes lim offset reason le one
-entries_never_truncated k t bytes lim offset reason le (inr two) = After_never_truncated ((tree k t (nesting - 1)).spell two.0) PaddingBreaks padding_never_truncated bytes lim offset reason le two.2
+entries_never_truncated k t bytes lim offset reason le (inr two) = After_never_truncated ((unit_tree k t).spell two.0) PaddingBreaks padding_never_truncated bytes lim offset reason le two.2

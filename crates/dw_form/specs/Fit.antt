@@ -5,6 +5,7 @@ use Rattle.std.specs.List.{AllByRecursion}
 use Rattle.std.specs.Ordering.{int_eq}
 use Rattle.std.proofs.lemmas.Bool.{leb-true, le-leb, ltb-true, lt-ltb, eqb-true, eqb-false, eq-eqb, ne_eqb, and_parts}
 use Rattle.std.proofs.lemmas.Bool.Decides.{Decides-int_eq}
+use Rattle.dw_leb.specs.Constants.{DW_FORM_implicit_const, DW_FORM_indirect}
 use Rattle.dw_leb.specs.declared.errors.Reason.TheVariants.{BadIndirect}
 use Rattle.dw_leb.specs.Part.{Part, FitsAs, ◌then◌}
 use Rattle.dw_leb.specs.Number.{Unsigned, Signed, UlebFits, SlebFits, fixed, content}
@@ -55,7 +56,7 @@ form_fits k c form v = fits_if c (shape form k.address_size k.format) v
 
 -- the forms that an indirect value may name
 abbrev pub is_inner : Unsigned → Bool
-is_inner form = not (form.value == 0x16 || form.value == 0x21)
+is_inner form = not (form.value == DW_FORM_indirect || form.value == DW_FORM_implicit_const)
 
 abbrev pub fits_by : Ctx → Option Signed → ℕ → Bool → Option Unsigned → Value → Bool
 fits_by k c form true None v = false
@@ -64,7 +65,7 @@ fits_by k c form false None v = form_fits k c form v
 fits_by k c form false (Some u) v = false
 
 abbrev pub value_fits : Ctx → ℕ → Option Signed → Attribute → Bool
-value_fits k form c a = fits_by k c form (form == 0x16) a.via a.value
+value_fits k form c a = fits_by k c form (form == DW_FORM_indirect) a.via a.value
 
 -- ---- the test is right of values whose LEB128 numbers fit their widths
 
@@ -172,14 +173,14 @@ formed_back k c None v h = absurd h
 formed_back k c (Some s) v h = back k c s v h
 
 inner_good : (u : Unsigned) → is_inner u ≡ true → bad_inner u ≡ None
-inner_good u e = by (u.value == 0x16 || u.value == 0x21) e
+inner_good u e = by (u.value == DW_FORM_indirect || u.value == DW_FORM_implicit_const) e
   where
     by : (b : Bool) → not b ≡ true → (if b then Some BadIndirect else None) ≡ None
     by true h = absurd cc
     by false h = refl
 
 inner_back : (u : Unsigned) → bad_inner u ≡ None → is_inner u ≡ true
-inner_back u e = by (u.value == 0x16 || u.value == 0x21) e
+inner_back u e = by (u.value == DW_FORM_indirect || u.value == DW_FORM_implicit_const) e
   where
     by : (b : Bool) → (if b then Some BadIndirect else None) ≡ None → not b ≡ true
     by true h = absurd cc
@@ -188,7 +189,7 @@ inner_back u e = by (u.value == 0x16 || u.value == 0x21) e
 -- the value has a spelling where the test says so, and nowhere else
 pub fits_is : (k : Ctx) (form : ℕ) (c : Option Signed) (a : Attribute) → IfSome a.via UlebFits → NumbersFit a.value → IsTrue (value_fits k form c a) ↔ (attribute k form c).Fits a
 unfolding attribute
-fits_is k form c a u h = by (form == 0x16) a.via u
+fits_is k form c a u h = by (form == DW_FORM_indirect) a.via u
   where
     by : (b : Bool) (via : Option Unsigned) → IfSome via UlebFits → IsTrue (fits_by k c form b via a.value) ↔ (by_indirection k c form b).Fits (record { via = via; value = a.value })
     by true None w = (λ e. absurd cc, λ f. absurd f)

@@ -1,5 +1,15 @@
 -- Forms and attribute values (sections 7.5.5 and 7.5.6).
 use Rattle.std.specs.Prelude.{◌≡◌, ◌≤◌, ℕ, Bool, true, false, List, [], ◌∷◌, length, Option, Some, None, ◌==◌, if◌then◌else◌, ◌||◌}
+use Rattle.dw_leb.specs.Constants.{DW_FORM_GNU_ref_alt, DW_FORM_GNU_strp_alt, DW_FORM_addr, DW_FORM_addrx}
+use Rattle.dw_leb.specs.Constants.{DW_FORM_addrx1, DW_FORM_addrx2, DW_FORM_addrx3, DW_FORM_addrx4, DW_FORM_block}
+use Rattle.dw_leb.specs.Constants.{DW_FORM_block1, DW_FORM_block2, DW_FORM_block4, DW_FORM_data1, DW_FORM_data16}
+use Rattle.dw_leb.specs.Constants.{DW_FORM_data2, DW_FORM_data4, DW_FORM_data8, DW_FORM_exprloc, DW_FORM_flag}
+use Rattle.dw_leb.specs.Constants.{DW_FORM_flag_present, DW_FORM_implicit_const, DW_FORM_indirect, DW_FORM_line_strp}
+use Rattle.dw_leb.specs.Constants.{DW_FORM_loclistx, DW_FORM_ref1, DW_FORM_ref2, DW_FORM_ref4, DW_FORM_ref8}
+use Rattle.dw_leb.specs.Constants.{DW_FORM_ref_addr, DW_FORM_ref_sig8, DW_FORM_ref_sup4, DW_FORM_ref_sup8}
+use Rattle.dw_leb.specs.Constants.{DW_FORM_ref_udata, DW_FORM_rnglistx, DW_FORM_sdata, DW_FORM_sec_offset}
+use Rattle.dw_leb.specs.Constants.{DW_FORM_string, DW_FORM_strp, DW_FORM_strp_sup, DW_FORM_strx, DW_FORM_strx1}
+use Rattle.dw_leb.specs.Constants.{DW_FORM_strx2, DW_FORM_strx3, DW_FORM_strx4, DW_FORM_udata}
 use Rattle.dw_leb.specs.declared.errors.Reason.{Reason}
 use Rattle.dw_leb.specs.declared.errors.Reason.TheVariants.{UnknownForm, BadIndirect}
 use Rattle.dw_leb.specs.Part.{Part, ◌then◌, judged, whole, seen, nothing, exactly, refused}
@@ -12,12 +22,52 @@ use Rattle.dw_form.specs.declared.shape.Shape.TheVariants as shapes
 -- the forms of the standard, and two of GNU for supplementary files
 abbrev pub forms : ℕ → Format → List (ℕ × Shape)
 forms address_size format = let off = offset_size format in
-    (0x01, shapes.Fixed address_size) ∷ (0x03, shapes.Counted 2) ∷ (0x04, shapes.Counted 4) ∷ (0x05, shapes.Fixed 2) ∷ (0x06, shapes.Fixed 4) ∷ (0x07, shapes.Fixed 8) ∷ (0x08, shapes.Text) ∷ (0x09, shapes.CountedUleb)
-    ∷ (0x0a, shapes.Counted 1) ∷ (0x0b, shapes.Fixed 1) ∷ (0x0c, shapes.Fixed 1) ∷ (0x0d, shapes.Sleb) ∷ (0x0e, shapes.Fixed off) ∷ (0x0f, shapes.Uleb) ∷ (0x10, shapes.Fixed off) ∷ (0x11, shapes.Fixed 1) ∷ (0x12, shapes.Fixed 2)
-    ∷ (0x13, shapes.Fixed 4) ∷ (0x14, shapes.Fixed 8) ∷ (0x15, shapes.Uleb) ∷ (0x16, shapes.Indirect) ∷ (0x17, shapes.Fixed off) ∷ (0x18, shapes.CountedUleb) ∷ (0x19, shapes.Present) ∷ (0x1a, shapes.Uleb) ∷ (0x1b, shapes.Uleb)
-    ∷ (0x1c, shapes.Fixed 4) ∷ (0x1d, shapes.Fixed off) ∷ (0x1e, shapes.Fixed 16) ∷ (0x1f, shapes.Fixed off) ∷ (0x20, shapes.Fixed 8) ∷ (0x21, shapes.Implicit) ∷ (0x22, shapes.Uleb) ∷ (0x23, shapes.Uleb) ∷ (0x24, shapes.Fixed 8)
-    ∷ (0x25, shapes.Fixed 1) ∷ (0x26, shapes.Fixed 2) ∷ (0x27, shapes.Fixed 3) ∷ (0x28, shapes.Fixed 4) ∷ (0x29, shapes.Fixed 1) ∷ (0x2a, shapes.Fixed 2) ∷ (0x2b, shapes.Fixed 3) ∷ (0x2c, shapes.Fixed 4)
-    ∷ (0x1f20, shapes.Fixed off) ∷ (0x1f21, shapes.Fixed off) ∷ []
+    (DW_FORM_addr, shapes.Fixed address_size)
+    ∷ (DW_FORM_block2, shapes.Counted 2)
+    ∷ (DW_FORM_block4, shapes.Counted 4)
+    ∷ (DW_FORM_data2, shapes.Fixed 2)
+    ∷ (DW_FORM_data4, shapes.Fixed 4)
+    ∷ (DW_FORM_data8, shapes.Fixed 8)
+    ∷ (DW_FORM_string, shapes.Text)
+    ∷ (DW_FORM_block, shapes.CountedUleb)
+    ∷ (DW_FORM_block1, shapes.Counted 1)
+    ∷ (DW_FORM_data1, shapes.Fixed 1)
+    ∷ (DW_FORM_flag, shapes.Fixed 1)
+    ∷ (DW_FORM_sdata, shapes.Sleb)
+    ∷ (DW_FORM_strp, shapes.Fixed off)
+    ∷ (DW_FORM_udata, shapes.Uleb)
+    ∷ (DW_FORM_ref_addr, shapes.Fixed off)
+    ∷ (DW_FORM_ref1, shapes.Fixed 1)
+    ∷ (DW_FORM_ref2, shapes.Fixed 2)
+    ∷ (DW_FORM_ref4, shapes.Fixed 4)
+    ∷ (DW_FORM_ref8, shapes.Fixed 8)
+    ∷ (DW_FORM_ref_udata, shapes.Uleb)
+    ∷ (DW_FORM_indirect, shapes.Indirect)
+    ∷ (DW_FORM_sec_offset, shapes.Fixed off)
+    ∷ (DW_FORM_exprloc, shapes.CountedUleb)
+    ∷ (DW_FORM_flag_present, shapes.Present)
+    ∷ (DW_FORM_strx, shapes.Uleb)
+    ∷ (DW_FORM_addrx, shapes.Uleb)
+    ∷ (DW_FORM_ref_sup4, shapes.Fixed 4)
+    ∷ (DW_FORM_strp_sup, shapes.Fixed off)
+    ∷ (DW_FORM_data16, shapes.Fixed 16)
+    ∷ (DW_FORM_line_strp, shapes.Fixed off)
+    ∷ (DW_FORM_ref_sig8, shapes.Fixed 8)
+    ∷ (DW_FORM_implicit_const, shapes.Implicit)
+    ∷ (DW_FORM_loclistx, shapes.Uleb)
+    ∷ (DW_FORM_rnglistx, shapes.Uleb)
+    ∷ (DW_FORM_ref_sup8, shapes.Fixed 8)
+    ∷ (DW_FORM_strx1, shapes.Fixed 1)
+    ∷ (DW_FORM_strx2, shapes.Fixed 2)
+    ∷ (DW_FORM_strx3, shapes.Fixed 3)
+    ∷ (DW_FORM_strx4, shapes.Fixed 4)
+    ∷ (DW_FORM_addrx1, shapes.Fixed 1)
+    ∷ (DW_FORM_addrx2, shapes.Fixed 2)
+    ∷ (DW_FORM_addrx3, shapes.Fixed 3)
+    ∷ (DW_FORM_addrx4, shapes.Fixed 4)
+    ∷ (DW_FORM_GNU_ref_alt, shapes.Fixed off)
+    ∷ (DW_FORM_GNU_strp_alt, shapes.Fixed off)
+    ∷ []
 
 abbrev pub at_number : {X : Type 0} → ℕ → List (ℕ × X) → Option X
 at_number n [] = None
@@ -129,7 +179,7 @@ as_indirect a = indirect_if a.via a.value
 
 -- an indirect value names neither indirect nor implicit_const
 abbrev pub bad_inner : Unsigned → Option Reason
-bad_inner form = if form.value == 0x16 || form.value == 0x21 then Some BadIndirect else None
+bad_inner form = if form.value == DW_FORM_indirect || form.value == DW_FORM_implicit_const then Some BadIndirect else None
 
 abbrev pub indirect : Ctx → Part (Unsigned × Value)
 indirect k = judged uleb bad_inner then λ form. formed k None form.value
@@ -140,4 +190,4 @@ by_indirection k c form false = seen as_direct (formed k c form)
 
 -- an attribute's value, one field
 unfoldable pub attribute : Ctx → ℕ → Option Signed → Part Attribute
-attribute k form c = whole (by_indirection k c form (form == 0x16))
+attribute k form c = whole (by_indirection k c form (form == DW_FORM_indirect))

@@ -3,6 +3,13 @@ use Rattle.std.specs.Prelude.{◌≡◌, ◌≤◌, ℕ, List, [], ◌∷◌, Op
 use Rattle.std.proofs.Common.{refl, subst}
 use Rattle.std.proofs.lemmas.Bool.{eqb-true}
 use Rattle.std.specs.List.{AllByRecursion}
+use Rattle.dw_leb.specs.Constants.{DW_FORM_GNU_ref_alt, DW_FORM_GNU_strp_alt, DW_FORM_addr, DW_FORM_addrx1}
+use Rattle.dw_leb.specs.Constants.{DW_FORM_addrx2, DW_FORM_addrx3, DW_FORM_addrx4, DW_FORM_data1, DW_FORM_data16}
+use Rattle.dw_leb.specs.Constants.{DW_FORM_data2, DW_FORM_data4, DW_FORM_data8, DW_FORM_flag, DW_FORM_flag_present}
+use Rattle.dw_leb.specs.Constants.{DW_FORM_line_strp, DW_FORM_ref1, DW_FORM_ref2, DW_FORM_ref4, DW_FORM_ref8}
+use Rattle.dw_leb.specs.Constants.{DW_FORM_ref_addr, DW_FORM_ref_sig8, DW_FORM_ref_sup4, DW_FORM_ref_sup8}
+use Rattle.dw_leb.specs.Constants.{DW_FORM_sec_offset, DW_FORM_strp, DW_FORM_strp_sup, DW_FORM_strx1, DW_FORM_strx2}
+use Rattle.dw_leb.specs.Constants.{DW_FORM_strx3, DW_FORM_strx4}
 use Rattle.dw_leb.specs.Number.{offset_size}
 use Rattle.dw_form.specs.declared.shape.Ctx.{Ctx}
 use Rattle.dw_form.specs.declared.shape.Shape.{Shape}
@@ -14,9 +21,37 @@ use Rattle.dw_form.specs.Form.{at_number, shape}
 -- the forms whose values have a size that the form tells
 abbrev pub told_forms : List (ℕ × FormSize)
 told_forms =
-    (0x01, Address) ∷ (0x05, Bytes 2) ∷ (0x06, Bytes 4) ∷ (0x07, Bytes 8) ∷ (0x0b, Bytes 1) ∷ (0x0c, Bytes 1) ∷ (0x0e, Offset) ∷ (0x10, Offset) ∷ (0x11, Bytes 1) ∷ (0x12, Bytes 2) ∷ (0x13, Bytes 4) ∷ (0x14, Bytes 8)
-    ∷ (0x17, Offset) ∷ (0x19, Bytes 0) ∷ (0x1c, Bytes 4) ∷ (0x1d, Offset) ∷ (0x1e, Bytes 16) ∷ (0x1f, Offset) ∷ (0x20, Bytes 8) ∷ (0x24, Bytes 8) ∷ (0x25, Bytes 1) ∷ (0x26, Bytes 2) ∷ (0x27, Bytes 3) ∷ (0x28, Bytes 4)
-    ∷ (0x29, Bytes 1) ∷ (0x2a, Bytes 2) ∷ (0x2b, Bytes 3) ∷ (0x2c, Bytes 4) ∷ (0x1f20, Offset) ∷ (0x1f21, Offset) ∷ []
+    (DW_FORM_addr, Address)
+    ∷ (DW_FORM_data2, Bytes 2)
+    ∷ (DW_FORM_data4, Bytes 4)
+    ∷ (DW_FORM_data8, Bytes 8)
+    ∷ (DW_FORM_data1, Bytes 1)
+    ∷ (DW_FORM_flag, Bytes 1)
+    ∷ (DW_FORM_strp, Offset)
+    ∷ (DW_FORM_ref_addr, Offset)
+    ∷ (DW_FORM_ref1, Bytes 1)
+    ∷ (DW_FORM_ref2, Bytes 2)
+    ∷ (DW_FORM_ref4, Bytes 4)
+    ∷ (DW_FORM_ref8, Bytes 8)
+    ∷ (DW_FORM_sec_offset, Offset)
+    ∷ (DW_FORM_flag_present, Bytes 0)
+    ∷ (DW_FORM_ref_sup4, Bytes 4)
+    ∷ (DW_FORM_strp_sup, Offset)
+    ∷ (DW_FORM_data16, Bytes 16)
+    ∷ (DW_FORM_line_strp, Offset)
+    ∷ (DW_FORM_ref_sig8, Bytes 8)
+    ∷ (DW_FORM_ref_sup8, Bytes 8)
+    ∷ (DW_FORM_strx1, Bytes 1)
+    ∷ (DW_FORM_strx2, Bytes 2)
+    ∷ (DW_FORM_strx3, Bytes 3)
+    ∷ (DW_FORM_strx4, Bytes 4)
+    ∷ (DW_FORM_addrx1, Bytes 1)
+    ∷ (DW_FORM_addrx2, Bytes 2)
+    ∷ (DW_FORM_addrx3, Bytes 3)
+    ∷ (DW_FORM_addrx4, Bytes 4)
+    ∷ (DW_FORM_GNU_ref_alt, Offset)
+    ∷ (DW_FORM_GNU_strp_alt, Offset)
+    ∷ []
 
 abbrev pub told_form : ℕ → Option FormSize
 told_form form = at_number form told_forms

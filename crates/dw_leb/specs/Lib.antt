@@ -1,3 +1,4 @@
+pub mod Constants
 pub mod Part
 pub mod Number
 pub mod Repeat

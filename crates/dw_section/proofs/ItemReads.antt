@@ -36,7 +36,7 @@ use Rattle.dw_feed.specs.Feed.{Had, behind, StartsWith, Takes, InField, InUnit, 
 use Rattle.dw_feed.specs.HeadFeed.{HeadFeed, HeadState, Reading, Refused, Finished, IsHeader, Answers, FeedsHead}
 use Rattle.dw_feed.specs.Taking.{left_of, left_at_end, takes_of, behind_taken, field_longer}
 use Rattle.dw_feed.specs.Cut.{field_never_truncated, field_size, same_length}
-use Rattle.dw_section.specs.Item.{Item, Known, Other, item_bytes, least_length, marks_with, marks, ShowsKind, Begins, ItemFits, IsKnown, ItemFails}
+use Rattle.dw_section.specs.Item.{Item, Known, Other, item_bytes, least_length, marks_with, marks, ShowsKind, HasInitialLength, ItemFits, IsKnown, ItemFails}
 use Rattle.dw_section.specs.ItemPlace.{fits_alone, length_some, shows_more, known_there, other_there}
 use Rattle.dw_section.specs.Streamed.{length_fault, kind_fault, other_cut}
 use Rattle.dw_section.specs.FedItems.{fault_there}
@@ -77,17 +77,17 @@ kept_from X old mid new taken (Err e) h k = kept_error X X old mid new taken e h
 
 -- ---- the length
 
-pub begins_more : (order : Order) (start : ℕ) (bytes : List ℕ) (format : Format) (n : ℕ) (rest more : List ℕ) → Begins order start bytes format n rest → Begins order start (bytes ++ more) format n (rest ++ more)
+pub begins_more : (order : Order) (start : ℕ) (bytes : List ℕ) (format : Format) (n : ℕ) (rest more : List ℕ) → HasInitialLength order start bytes format n rest → HasInitialLength order start (bytes ++ more) format n (rest ++ more)
 begins_more order start bytes format n rest more b = record { fits = b.fits; split = ap (λ (x : List ℕ). x ++ more) b.split ∙ append_assoc ((length_field order).spell (format, n)) rest more }
 
-pub begins_size : (order : Order) (start : ℕ) (bytes : List ℕ) (format : Format) (n : ℕ) (rest : List ℕ) → Begins order start bytes format n rest → length bytes ≡ length_size format + length rest
+pub begins_size : (order : Order) (start : ℕ) (bytes : List ℕ) (format : Format) (n : ℕ) (rest : List ℕ) → HasInitialLength order start bytes format n rest → length bytes ≡ length_size format + length rest
 begins_size order start bytes format n rest b = omega (arith, ap length b.split, length-append ((length_field order).spell (format, n)) rest, initial-size order start format n)
 
-pub begins_some : (order : Order) (start : ℕ) (bytes : List ℕ) (format : Format) (n : ℕ) (rest : List ℕ) → Begins order start bytes format n rest → 0 < length bytes
+pub begins_some : (order : Order) (start : ℕ) (bytes : List ℕ) (format : Format) (n : ℕ) (rest : List ℕ) → HasInitialLength order start bytes format n rest → 0 < length bytes
 begins_some order start bytes format n rest b = omega (arith, begins_size order start bytes format n rest b, length_some format)
 
 -- bytes that begin an item, and are no more than its length tells, are inside of it
-begun_inside : (order : Order) (start : ℕ) (bytes : List ℕ) (format : Format) (n : ℕ) (rest more : List ℕ) → Begins order start bytes format n rest → length rest ≤ n → InItem order start (bytes ++ more) (length bytes)
+begun_inside : (order : Order) (start : ℕ) (bytes : List ℕ) (format : Format) (n : ℕ) (rest more : List ℕ) → HasInitialLength order start bytes format n rest → length rest ≤ n → InItem order start (bytes ++ more) (length bytes)
 begun_inside order start bytes format n rest more b le = inr (format, n, rest ++ more, begins_more order start bytes format n rest more b, omega (arith, begins_size order start bytes format n rest b, le))
 
 -- a whole length field that is read
@@ -129,7 +129,7 @@ field_failed versions order abbreviations start old new (reads.Io kind) h = (h.0
 
 -- the same behind bytes of the item that were taken
 pub rest_failed : (versions : Versions) (order : Order) (abbreviations : List ℕ) (start : ℕ) (old new : Option (List ℕ)) (taken : List ℕ) (most : ℕ) (e : ReadError) → FailsUpTo old new most e
-    → (format : Format) (n : ℕ) (rest : List ℕ) → Begins order start taken format n rest → length rest + most ≤ n → TakesNoItem versions order abbreviations start (behind taken old) new e
+    → (format : Format) (n : ℕ) (rest : List ℕ) → HasInitialLength order start taken format n rest → length rest + most ≤ n → TakesNoItem versions order abbreviations start (behind taken old) new e
 rest_failed versions order abbreviations start old new taken most e h format n rest b le = by e h
   where
     took : (got : List ℕ) → Consumes old new got → Takes (behind taken old) new ((taken ++ got) ++ left_of new)
@@ -190,7 +190,7 @@ kind_cut versions order abbreviations start n field old new bytes got begun fiel
     let f : Format = begun.format in
     let all : List ℕ = (bytes ++ got) ++ left_of new in
     let is : bytes ++ got ≡ all = sym (append-nil (bytes ++ got)) ∙ ap (λ (x : List ℕ). (bytes ++ got) ++ x) (sym (left_at_end new end)) in
-    let there : Begins order start all f n got = subst (λ (x : List ℕ). Begins order start x f n got) is (begins_more order start bytes f n [] got begun.begins) in
+    let there : HasInitialLength order start all f n got = subst (λ (x : List ℕ). HasInitialLength order start x f n got) is (begins_more order start bytes f n [] got begun.begins) in
     let at : start + length_size f + own ≡ start + field + own = omega (arith, field_is, begins_size order start bytes f n [] begun.begins) in (
       all,
       takes_of (behind bytes old) new (bytes ++ got) (consumes_more (behind bytes old) old new bytes got (behind_taken bytes old) took),
@@ -234,7 +234,7 @@ both_taken old mid bytes got now is took = subst (λ (b : List ℕ). Consumes (b
 -- ---- an item of no known kind
 
 module _ (versions : Versions) (order : Order) (start n field : ℕ) (old new : Option (List ℕ)) (bytes got : List ℕ) (begun : HasKind versions order start n field bytes false) (took : Consumes old new got) (abbreviations : List ℕ) where
-  all_begins : Begins order start (bytes ++ got) begun.format n (begun.rest ++ got)
+  all_begins : HasInitialLength order start (bytes ++ got) begun.format n (begun.rest ++ got)
   all_begins = begins_more order start bytes begun.format n begun.rest got begun.begins
 
   both : Consumes (behind bytes old) new (bytes ++ got)
@@ -260,7 +260,7 @@ module _ (versions : Versions) (order : Order) (start n field : ℕ) (old new : 
   other_ended less end =
       let all : List ℕ = (bytes ++ got) ++ left_of new in
       let is : bytes ++ got ≡ all = sym (append-nil (bytes ++ got)) ∙ ap (λ (x : List ℕ). (bytes ++ got) ++ x) (sym (left_at_end new end)) in
-      let there : Begins order start all begun.format n (begun.rest ++ got) = subst (λ (x : List ℕ). Begins order start x begun.format n (begun.rest ++ got)) is all_begins in
+      let there : HasInitialLength order start all begun.format n (begun.rest ++ got) = subst (λ (x : List ℕ). HasInitialLength order start x begun.format n (begun.rest ++ got)) is all_begins in
       let short : length (begun.rest ++ got) < n = omega (arith, less, begun.field_is, begins_size order start (bytes ++ got) begun.format n (begun.rest ++ got) all_begins) in
       let at : start + length_size begun.format ≡ start + field = omega (arith, begun.field_is) in (
         all,
@@ -320,7 +320,7 @@ module _ (versions : Versions) (order : Order) (start n field : ℕ) (bytes : Li
     begun.format,
     n,
     begun.rest ++ more,
-    subst (λ (x : List ℕ). Begins order start x begun.format n (begun.rest ++ more)) (sym is) (begins_more order start bytes begun.format n begun.rest more begun.begins),
+    subst (λ (x : List ℕ). HasInitialLength order start x begun.format n (begun.rest ++ more)) (sym is) (begins_more order start bytes begun.format n begun.rest more begun.begins),
     shows_more versions order n begun.rest more true begun.shows,
   )
 

@@ -8,7 +8,7 @@ use Rattle.std.proofs.lemmas.Nat.Bits.{bit_at_or, bit_at-pow_other, bit_at-zero}
 use Rattle.dw_tree.specs.Lent.{EntryAt, entries_of, find_at}
 use Rattle.dw_unit.specs.Unit.{WholeUnit, bytes_of, tree_of}
 use Rattle.dw_section.specs.declared.id.RefFault.TheVariants.{NotAnEntry}
-use Rattle.dw_section.specs.Begins.{AreBegins, Adds, is_marked}
+use Rattle.dw_section.specs.EntryOffsets.{AreEntryOffsets, Adds, is_marked}
 use Rattle.dw_section.specs.Reference.{in_unit, unless_found}
 
 -- a number that is there doesn't depend on the default
@@ -40,7 +40,7 @@ one_added new words word mask is power inside offset apart marked = by (offset /
         let kept : slice_index (slice_set words (new / 64) (bit_or word mask)) (offset / 64) ≡ slice_index words (offset / 64) = get_or-set_other words (new / 64) (offset / 64) (bit_or word mask) 0 (eqb-false (offset / 64) (new / 64) e) in
         ap (λ (n : ℕ). bit_at n (offset % 64) == 1) (sym kept) ∙ marked
 
-pub none_marked : (u : WholeUnit) → AreBegins u []
+pub none_marked : (u : WholeUnit) → AreEntryOffsets u []
 none_marked u item offset marked = let none : is_marked [] offset ≡ false = rw (bit_at-zero (offset % 64)) refl in absurd cc
 
 -- ---- entries that are found
@@ -66,7 +66,7 @@ named_there u item offset inside found = rw (lt-leb (length (bytes_of u)) offset
     by None h = absurd cc
     by (Some e) h = refl
 
-pub begins_more : (u : WholeUnit) (old words : List ℕ) (new : ℕ) → AreBegins u old → new < length (bytes_of u) → IsFound new (entries_of (tree_of u)) → Adds new old words → AreBegins u words
+pub begins_more : (u : WholeUnit) (old words : List ℕ) (new : ℕ) → AreEntryOffsets u old → new < length (bytes_of u) → IsFound new (entries_of (tree_of u)) → Adds new old words → AreEntryOffsets u words
 begins_more u old words new begins inside found adds item offset marked = by (offset == new) refl
   where
     by : (v : Bool) → (offset == new) ≡ v → in_unit item u offset ≡ Ok (record { item = item; offset = offset })

@@ -15,7 +15,7 @@ use Rattle.dw_form.specs.declared.shape.Shape.{Shape}
 use Rattle.dw_form.specs.declared.shape.Shape.TheVariants as shapes
 use Rattle.dw_form.specs.Form.{Value, shape, constant, shaped, shaped_if, formed, bad_inner, by_indirection, attribute}
 use Rattle.dw_abbrev.specs.Table.{Pair, Table, is_null, is_end, half, too_many, pairs, bad_flag, described, is_among, repeats, table, TableBreaks, unbounded, declared}
-use Rattle.dw_tree.specs.Tree.{Forest, Body, values, declared_pairs, declares_children, unless_declared, bad_root, bad_child, body, children, tree, nesting, nulls, not_null, MoreBreaks, PaddingBreaks}
+use Rattle.dw_tree.specs.Tree.{Forest, Body, values, declared_pairs, declares_children, unless_declared, bad_root, bad_child, body, children, tree, nesting, nulls, not_null, MoreBreaks, PaddingBreaks, unit_tree}
 use Rattle.dw_header.specs.Header.{added_sizes, numbers, bad_address_size, four_part}
 use Rattle.dw_unit.specs.Unit.{EntriesBreak}
 
@@ -248,7 +248,7 @@ padding_never_kind bytes lim offset reason h = After_never_kind (nulls h.0) More
 
 pub entries_never_kind : (k : Ctx) (t : Table) → NeverKind (EntriesBreak k t)
 entries_never_kind k t bytes lim offset reason (inl one) = tree_never_kind k t (nesting - 1) bytes lim offset reason one
-entries_never_kind k t bytes lim offset reason (inr two) = After_never_kind ((tree k t (nesting - 1)).spell two.0) PaddingBreaks padding_never_kind bytes lim offset reason two.2
+entries_never_kind k t bytes lim offset reason (inr two) = After_never_kind ((unit_tree k t).spell two.0) PaddingBreaks padding_never_kind bytes lim offset reason two.2
 
 -- ---- the fields of a header behind its version and unit type
 

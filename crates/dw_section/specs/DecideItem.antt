@@ -21,7 +21,7 @@ use Rattle.dw_header.specs.declared.versions.Versions.{Versions}
 use Rattle.dw_unit.specs.Unit.{WholeUnit, body_bytes, bytes_of}
 use Rattle.dw_unit.specs.ReadUnit.{Answer, Unit, Fault, read_unit_under}
 use Rattle.dw_unit.specs.DecideUnit.{AnswerSays, unit_take, unit_fault, unit_says, fault_stays}
-use Rattle.dw_section.specs.Item.{Item, Known, Other, item_bytes, Marks, least_length, marks, is_known, ShowsKind, Begins, OtherFits, KnownFits, ItemFits, HoldsTable, IsKnown, ItemFails}
+use Rattle.dw_section.specs.Item.{Item, Known, Other, item_bytes, Marks, least_length, marks, is_known, ShowsKind, HasInitialLength, OtherFits, KnownFits, ItemFits, HoldsTable, IsKnown, ItemFails}
 use Rattle.dw_section.specs.ItemPlace.{shows_more, unit_shows, known_there, other_there}
 use Rattle.dw_section.specs.ReadSection.{read_marks, ItemAnswer, IsItem, IsFault, answer_known, answer_other, answer_kind, answer_marks, answer_begin, read_item}
 
@@ -41,7 +41,7 @@ marks_stay versions order n =
 abbrev len_bytes : Order → Format → ℕ → List ℕ
 len_bytes order format n = (length_field order).spell (format, n)
 
-module _ (versions : Versions) (order : Order) (abbreviations : List ℕ) (start : ℕ) (bytes : List ℕ) (format : Format) (n : ℕ) (rest : List ℕ) (begins : Begins order start bytes format n rest) where
+module _ (versions : Versions) (order : Order) (abbreviations : List ℕ) (start : ℕ) (bytes : List ℕ) (format : Format) (n : ℕ) (rest : List ℕ) (begins : HasInitialLength order start bytes format n rest) where
   begin_at : read_item versions order abbreviations start bytes ≡ answer_marks versions order abbreviations start bytes format n (read_marks versions order n rest n)
   unfolding read_item
   begin_at =
@@ -64,7 +64,7 @@ known_own : (versions : Versions) (abbreviations : List ℕ) (start : ℕ) (u : 
 known_own versions abbreviations start u more h place =
     let order : Order = u.header.order in
     let n : ℕ = length (body_bytes u) in
-    let begins : Begins order start (bytes_of u ++ more) u.header.format n (body_bytes u ++ more) = record { fits = h.length_fits; split = append_assoc (len_bytes order u.header.format n) (body_bytes u) more } in
+    let begins : HasInitialLength order start (bytes_of u ++ more) u.header.format n (body_bytes u ++ more) = record { fits = h.length_fits; split = append_assoc (len_bytes order u.header.format n) (body_bytes u) more } in
     kind_at versions order abbreviations start (bytes_of u ++ more) u.header.format n (body_bytes u ++ more) begins true (unit_shows versions u more h.accepted)
     ∙ ap (answer_known start) (unit_take versions abbreviations order (bytes_of u ++ more) u (length (bytes_of u))
     (record { table_at = place; front = record { order_is = refl; accepted = h.accepted; fits = h.fits; rest = more; split = refl; is_size = refl } }))
@@ -73,7 +73,7 @@ other_take : (versions : Versions) (order : Order) (abbreviations : List ℕ) (s
 other_take versions order abbreviations start bytes more h =
     let n : ℕ = length h.content in
     let s : List ℕ = len_bytes order h.format n in
-    let begins : Begins order start (bytes ++ more) h.format n (h.content ++ more) = record { fits = h.begins.fits; split = ap (λ (b : List ℕ). b ++ more) h.begins.split ∙ append_assoc s h.content more } in
+    let begins : HasInitialLength order start (bytes ++ more) h.format n (h.content ++ more) = record { fits = h.begins.fits; split = ap (λ (b : List ℕ). b ++ more) h.begins.split ∙ append_assoc s h.content more } in
     let size : length bytes ≡ length_size h.format + n = ap length h.begins.split ∙ length-append s h.content ∙ ap (λ (m : ℕ). m + n) (initial-size order 0 h.format n) in
     let yes : nat_le (length_size h.format + n) (length (bytes ++ more)) ≡ true = le-leb (length_size h.format + n) (length (bytes ++ more)) (omega (arith, size, length-append bytes more)) in
     kind_at versions order abbreviations start (bytes ++ more) h.format n (h.content ++ more) begins false (shows_more versions order n h.content more false h.kind)
@@ -116,7 +116,7 @@ abbrev pub ItemSays : Versions → Order → List ℕ → ℕ → List ℕ → I
 ItemSays versions order abbreviations start bytes (IsItem x size) = ItemFits versions order start x × HoldsTable abbreviations x × ((rest : List ℕ) × (bytes ≡ item_bytes x ++ rest) × (length (item_bytes x) ≡ size))
 ItemSays versions order abbreviations start bytes (IsFault s offset reason) = ItemFails versions order abbreviations start bytes s offset reason
 
-module _ (versions : Versions) (order : Order) (abbreviations : List ℕ) (start : ℕ) (bytes : List ℕ) (format : Format) (n : ℕ) (rest : List ℕ) (begins : Begins order start bytes format n rest) where
+module _ (versions : Versions) (order : Order) (abbreviations : List ℕ) (start : ℕ) (bytes : List ℕ) (format : Format) (n : ℕ) (rest : List ℕ) (begins : HasInitialLength order start bytes format n rest) where
   known_says : ShowsKind versions order n rest true → (a : Answer) → AnswerSays versions order abbreviations bytes a → ItemSays versions order abbreviations start bytes (answer_known start a)
   known_says shows (Fault Info own reason) h = inr (inr (inr ((format, n, rest, begins, shows), (own, refl, h))))
   known_says shows (Fault Abbrev offset reason) h = ((format, n, rest, begins, shows), h)
@@ -150,7 +150,7 @@ begin_says versions order abbreviations start bytes fit_s fit (Broken own reason
 begin_says versions order abbreviations start bytes fit_s fit (Found x size) h =
     let s : List ℕ = len_bytes order x.0 x.1 in
     let d : drop size bytes ≡ h.rest = ap (λ (t : List ℕ). drop size t) h.split ∙ drop_at s h.rest size h.is_size in
-    let begins : Begins order start bytes x.0 x.1 h.rest = record { fits = h.fits; split = h.split } in
+    let begins : HasInitialLength order start bytes x.0 x.1 h.rest = record { fits = h.fits; split = h.split } in
     rw d (marks_say versions order abbreviations start bytes x.0 x.1 h.rest begins fit_s fit (read_marks versions order x.1 h.rest x.1) ((marks_decides versions order x.1).says h.rest x.1 (AreBytes-behind s h.rest (rw h.split at fit))))
 
 -- the reader's answer is always right
@@ -160,7 +160,7 @@ item_says versions order abbreviations start bytes fit_s fit = begin_says versio
 
 -- ---- faults that stay
 
-pub begins_stay : (order : Order) (start : ℕ) (bytes more : List ℕ) (format : Format) (n : ℕ) (rest : List ℕ) → Begins order start bytes format n rest → Begins order start (bytes ++ more) format n (rest ++ more)
+pub begins_stay : (order : Order) (start : ℕ) (bytes more : List ℕ) (format : Format) (n : ℕ) (rest : List ℕ) → HasInitialLength order start bytes format n rest → HasInitialLength order start (bytes ++ more) format n (rest ++ more)
 begins_stay order start bytes more format n rest h = record { fits = h.fits; split = ap (λ (b : List ℕ). b ++ more) h.split ∙ append_assoc (len_bytes order format n) rest more }
 
 pub known_stays : (versions : Versions) (order : Order) (start : ℕ) (bytes more : List ℕ) → IsKnown versions order start bytes → IsKnown versions order start (bytes ++ more)

@@ -19,7 +19,7 @@ use Rattle.dw_unit.specs.DecideUnit.{break_stays, break_fails}
 use Rattle.dw_unit.specs.UnitLaws.{units_break_where_accepted}
 use Rattle.dw_feed.specs.HeadFeed.{IsHeader}
 use Rattle.dw_feed.specs.BodyFeed.{PartialUnit, stream, BreaksAt, SaysDone, SaysFault}
-use Rattle.dw_section.specs.Item.{Known, item_bytes, HoldsTable, ItemFits, IsKnown, ItemFails, Begins}
+use Rattle.dw_section.specs.Item.{Known, item_bytes, HoldsTable, ItemFits, IsKnown, ItemFails, HasInitialLength}
 use Rattle.dw_section.specs.ItemPlace.{known_there}
 
 -- ---- the header
@@ -62,7 +62,7 @@ pub record FedUnit (versions : Versions) (order : Order) (abbreviations : List �
   pub split : left ≡ item_bytes (Known u) ++ more
 
 pub fed_unit : (versions : Versions) (order : Order) (abbreviations : List ℕ) (start : ℕ) (left : List ℕ) (format : Format) (count : ℕ) (rest : List ℕ) (g : PartialUnit) (piece more : List ℕ) (n : ℕ) (u : WholeUnit)
-    → Begins order start left format count rest → g.header.order ≡ order → Accepts versions g.header.kind → TableAt abbreviations g.header.abbrev_offset g.table
+    → HasInitialLength order start left format count rest → g.header.order ≡ order → Accepts versions g.header.kind → TableAt abbreviations g.header.abbrev_offset g.table
     → SaysDone g piece n u → left ≡ (stream g ++ take n piece) ++ more → FedUnit versions order abbreviations start left u more
 fed_unit versions order abbreviations start left format count rest g piece more n u begins order_is accepts place says split =
     let whole : left ≡ bytes_of u ++ more = split ∙ ap (λ (b : List ℕ). b ++ more) says.whole in

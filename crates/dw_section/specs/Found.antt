@@ -13,7 +13,7 @@ use Rattle.dw_abbrev.specs.Table.{Table, declared, zero_of}
 use Rattle.dw_header.specs.declared.versions.Versions.{Versions}
 use Rattle.dw_header.specs.Header.{fields, fields_of, context_of}
 use Rattle.dw_header.specs.HeaderPlace.{header_size}
-use Rattle.dw_tree.specs.Tree.{Tree, leaf, branch, Forest, none, more, values, declared_pairs, tree, nesting, nulls}
+use Rattle.dw_tree.specs.Tree.{Tree, leaf, branch, Forest, none, more, values, declared_pairs, nesting, nulls, unit_tree}
 use Rattle.dw_tree.specs.Spelling.{entry_bytes, tree_bytes, forest_bytes}
 use Rattle.dw_tree.specs.Structure.{spelled_by_structure}
 use Rattle.dw_tree.specs.Offset.{CodesFit, AllCodesFit}
@@ -102,9 +102,9 @@ entry_within u o e fits found =
     let k : Ctx = context_of u.header in
     let root : List ℕ = tree_bytes k u.table u.root in
     let f : List ℕ = (fields u.header.order u.header.format).spell (fields_of u.header) in
-    let same : (tree k u.table (nesting - 1)).spell u.root ≡ root = spelled_by_structure k u.table (nesting - 1) u.root fits.tree_fits in
+    let same : (unit_tree k u.table).spell u.root ≡ root = spelled_by_structure k u.table (nesting - 1) u.root fits.tree_fits in
     let body : length (body_bytes u) ≡ length f + (length root + length (nulls u.padding)) =
-    length-append f ((tree k u.table (nesting - 1)).spell u.root ++ nulls u.padding) ∙ ap (λ (m : ℕ). length f + m) (length-append ((tree k u.table (nesting - 1)).spell u.root) (nulls u.padding) ∙ ap (λ (b : List ℕ). length b + length (nulls u.padding)) same) in
+    length-append f ((unit_tree k u.table).spell u.root ++ nulls u.padding) ∙ ap (λ (m : ℕ). length f + m) (length-append ((unit_tree k u.table).spell u.root) (nulls u.padding) ∙ ap (λ (b : List ℕ). length b + length (nulls u.padding)) same) in
     let whole = length-append ((length_field u.header.order).spell (u.header.format, length (body_bytes u))) (body_bytes u) in
     let codes : CodesFit u.root = tree_codes k u.table (nesting - 1) u.root fits.tree_fits in
     found_below (length (bytes_of u)) o (entries_of (tree_of u)) e (tree_within k u.table u.root codes (header_size u.header) 1 (length (bytes_of u)) (omega (arith, body, whole, initial-size u.header.order 0 u.header.format (length (body_bytes u))))) found

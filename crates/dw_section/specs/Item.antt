@@ -67,7 +67,7 @@ pub record ShowsKind (versions : Versions) (order : Order) (n : ℕ) (bytes : Li
 -- ---- which items fit at a start
 
 -- An initial length n at a start is spelled at the front: so the item's end is judged from the section's first byte.
-pub record Begins (order : Order) (start : ℕ) (bytes : List ℕ) (format : Format) (n : ℕ) (rest : List ℕ) : Type 0 where
+pub record HasInitialLength (order : Order) (start : ℕ) (bytes : List ℕ) (format : Format) (n : ℕ) (rest : List ℕ) : Type 0 where
   pub fits : (initial_length order start).Fits (format, n)
   pub split : bytes ≡ (length_field order).spell (format, n) ++ rest
 
@@ -75,7 +75,7 @@ pub record Begins (order : Order) (start : ℕ) (bytes : List ℕ) (format : For
 pub record OtherFits (versions : Versions) (order : Order) (start : ℕ) (bytes : List ℕ) : Type 0 where
   pub format : Format
   pub content : List ℕ
-  pub begins : Begins order start bytes format (length content) content
+  pub begins : HasInitialLength order start bytes format (length content) content
   pub kind : ShowsKind versions order (length content) content false
 
 -- a unit of a version that is accepted, whose length is one at the start
@@ -103,17 +103,17 @@ LengthBreaks order start bytes offset reason = (own : ℕ) × (offset ≡ start 
 
 -- behind it, what shows the kind
 abbrev pub KindBreaks : Versions → Order → ℕ → List ℕ → ℕ → Reason → Type 0
-KindBreaks versions order start bytes offset reason = (format : Format) × (n : ℕ) × (rest : List ℕ) × (own : ℕ) × Begins order start bytes format n rest
+KindBreaks versions order start bytes offset reason = (format : Format) × (n : ℕ) × (rest : List ℕ) × (own : ℕ) × HasInitialLength order start bytes format n rest
     × (offset ≡ start + length_size format + own) × (marks versions order n).Break rest n own reason
 
 -- the bytes of an item of no known kind are cut: one field, at its first byte
 abbrev pub OtherCut : Versions → Order → ℕ → List ℕ → ℕ → Reason → Type 0
-OtherCut versions order start bytes offset reason = (format : Format) × (n : ℕ) × (rest : List ℕ) × Begins order start bytes format n rest × ShowsKind versions order n rest false
+OtherCut versions order start bytes offset reason = (format : Format) × (n : ℕ) × (rest : List ℕ) × HasInitialLength order start bytes format n rest × ShowsKind versions order n rest false
     × (length rest < n) × (offset ≡ start + length_size format) × (reason ≡ Truncated)
 
 -- the item is of a known kind
 abbrev pub IsKnown : Versions → Order → ℕ → List ℕ → Type 0
-IsKnown versions order start bytes = (format : Format) × (n : ℕ) × (rest : List ℕ) × Begins order start bytes format n rest × ShowsKind versions order n rest true
+IsKnown versions order start bytes = (format : Format) × (n : ℕ) × (rest : List ℕ) × HasInitialLength order start bytes format n rest × ShowsKind versions order n rest true
 
 -- an item of a known kind has the first fault of a unit that stands alone, moved by the start
 abbrev pub UnitFails : Versions → Order → List ℕ → ℕ → List ℕ → ℕ → Reason → Type 0

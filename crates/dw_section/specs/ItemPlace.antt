@@ -21,9 +21,9 @@ use Rattle.dw_header.specs.declared.kind.Kind.TheVariants.{Compile, Partial, Typ
 use Rattle.dw_header.specs.declared.versions.Versions.{Versions}
 use Rattle.dw_header.specs.declared.versions.Versions.TheVariants.{Five, FourAndFive}
 use Rattle.dw_header.specs.Header.{Accepts, fields, context_of}
-use Rattle.dw_tree.specs.Tree.{tree, nulls, nesting}
+use Rattle.dw_tree.specs.Tree.{nulls, unit_tree}
 use Rattle.dw_unit.specs.Unit.{WholeUnit, UnitFrontUnder, body_bytes}
-use Rattle.dw_section.specs.Item.{Item, Known, Other, item_bytes, least_length, marks_with, marks, is_type, is_known, ShowsKind, Begins, ItemFits}
+use Rattle.dw_section.specs.Item.{Item, Known, Other, item_bytes, least_length, marks_with, marks, is_type, is_known, ShowsKind, HasInitialLength, ItemFits}
 
 -- ---- a length at a start
 
@@ -125,7 +125,7 @@ shows_four order n rest low = record {
     }
 
 abbrev rest_of_unit : WholeUnit → List ℕ
-rest_of_unit u = (tree (context_of u.header) u.table (nesting - 1)).spell u.root ++ nulls u.padding
+rest_of_unit u = (unit_tree (context_of u.header) u.table).spell u.root ++ nulls u.padding
 
 -- behind its length a unit of version 5 begins with its version and type
 shows_front : (versions : Versions) (order : Order) (type : ℕ) (body fields rest more : List ℕ) → type < 256 → is_type (Some type) ≡ true → body ≡ (fixed_bytes order 2 5 ++ (fixed_bytes order 1 type ++ fields)) ++ rest
@@ -188,7 +188,7 @@ marks_cut versions order n bytes offset reason = by (nat_le (least_length versio
 -- ---- an item at the front
 
 -- behind a length that is taken at the start, a unit at the front is an item
-pub known_there : (versions : Versions) (order : Order) (start : ℕ) (left : List ℕ) (format : Format) (n : ℕ) (rest : List ℕ) (u : WholeUnit) (size : ℕ) → Begins order start left format n rest → UnitFrontUnder versions order left u size
+pub known_there : (versions : Versions) (order : Order) (start : ℕ) (left : List ℕ) (format : Format) (n : ℕ) (rest : List ℕ) (u : WholeUnit) (size : ℕ) → HasInitialLength order start left format n rest → UnitFrontUnder versions order left u size
     → ItemFits versions order start (Known u)
 known_there versions order start left format n rest u size begins h =
     let body : List ℕ = body_bytes u in
@@ -199,7 +199,7 @@ known_there versions order start left format n rest u size begins h =
     record { order_is = h.order_is; accepted = h.accepted; fits = h.fits; length_fits = subst (λ (x : Format × ℕ). (initial_length order start).Fits x) front.0 begins.fits }
 
 -- behind a length that is taken at the start, as many bytes that show no known kind are an item
-pub other_there : (versions : Versions) (order : Order) (start : ℕ) (left : List ℕ) (format : Format) (n : ℕ) (rest : List ℕ) → Begins order start left format n rest → ShowsKind versions order n rest false → n ≤ length rest
+pub other_there : (versions : Versions) (order : Order) (start : ℕ) (left : List ℕ) (format : Format) (n : ℕ) (rest : List ℕ) → HasInitialLength order start left format n rest → ShowsKind versions order n rest false → n ≤ length rest
     → ItemFits versions order start (Other (take (length_size format + n) left))
 other_there versions order start left format n rest begins shows le =
     let s : List ℕ = (length_field order).spell (format, n) in

@@ -8,7 +8,7 @@ pub mod Laws
 pub mod SectionLaws
 pub mod Streamed
 pub mod Reference
-pub mod Begins
+pub mod EntryOffsets
 pub mod Lookup
 pub mod StringBase
 pub mod ItemView

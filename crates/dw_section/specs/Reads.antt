@@ -13,7 +13,7 @@ use Rattle.dw_leb.specs.Number.{length_size}
 use Rattle.dw_header.specs.declared.versions.Versions.{Versions}
 use Rattle.dw_feed.specs.Feed.{Had, Takes, InField}
 use Rattle.dw_section.specs.declared.item.Item.{Item as TheItem}
-use Rattle.dw_section.specs.Item.{Item, item_bytes, ShowsKind, Begins, ItemFits, HoldsTable, ItemFails}
+use Rattle.dw_section.specs.Item.{Item, item_bytes, ShowsKind, HasInitialLength, ItemFits, HoldsTable, ItemFails}
 use Rattle.dw_section.specs.ItemView.{item_of}
 use Rattle.dw_section.specs.Section.{ItemsFit, HoldsTables, items_bytes, SectionIs, SectionFails, WholeSection}
 
@@ -21,7 +21,7 @@ use Rattle.dw_section.specs.Section.{ItemsFit, HoldsTables, items_bytes, Section
 
 -- So many bytes of those at an item's start are at most its length field, or at most the item whose length it tells.
 abbrev pub InItem : Order → ℕ → List ℕ → ℕ → Type 0
-InItem order start bytes k = InField bytes k ⊎ ((format : Format) × (n : ℕ) × (rest : List ℕ) × Begins order start bytes format n rest × (k ≤ length_size format + n))
+InItem order start bytes k = InField bytes k ⊎ ((format : Format) × (n : ℕ) × (rest : List ℕ) × HasInitialLength order start bytes format n rest × (k ≤ length_size format + n))
 
 -- Bytes that were taken of a section are items that stand at its front, and at most the one that stands behind these.
 pub record InSection (versions : Versions) (order : Order) (abbreviations all taken : List ℕ) : Type 0 where
@@ -84,13 +84,13 @@ TakesNoItem versions order abbreviations start old new e = (all : List ℕ) × (
 -- its length field
 pub record HasLength (order : Order) (start n : ℕ) (bytes : List ℕ) : Type 0 where
   pub format : Format
-  pub begins : Begins order start bytes format n []
+  pub begins : HasInitialLength order start bytes format n []
 
 -- its length field of so many bytes, and bytes behind it, no more than it says, which show of which kind it is
 pub record HasKind (versions : Versions) (order : Order) (start n field : ℕ) (bytes : List ℕ) (known : Bool) : Type 0 where
   pub format : Format
   pub rest : List ℕ
-  pub begins : Begins order start bytes format n rest
+  pub begins : HasInitialLength order start bytes format n rest
   pub field_is : field ≡ length_size format
   pub inside : length rest ≤ n
   pub few : length rest ≤ 3

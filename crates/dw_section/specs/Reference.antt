@@ -1,5 +1,8 @@
 -- What a reference names, and why one names nothing (sections 2.2 and 7.5.5).
 use Rattle.std.specs.Prelude.{ℕ, suc, ◌+◌, ◌-◌, List, [], ◌∷◌, length, Option, Some, None, Result, Ok, Err, nat_lt, nat_le, ◌==◌, if◌then◌else◌}
+use Rattle.dw_leb.specs.Constants.{DW_FORM_GNU_ref_alt, DW_FORM_ref1, DW_FORM_ref2, DW_FORM_ref4, DW_FORM_ref8}
+use Rattle.dw_leb.specs.Constants.{DW_FORM_ref_addr, DW_FORM_ref_sig8, DW_FORM_ref_sup4, DW_FORM_ref_sup8}
+use Rattle.dw_leb.specs.Constants.{DW_FORM_ref_udata}
 use Rattle.dw_form.specs.Form.{Value, at_number}
 use Rattle.dw_form.specs.Lent.{number_in}
 use Rattle.dw_header.specs.declared.kind.Kind.{Kind}
@@ -99,7 +102,18 @@ by_signature ps v = type_entry (first_type ps v)
 
 -- the forms of references: ref1, ref2, ref4, ref8, ref_udata; ref_addr; ref_sig8; ref_sup4, ref_sup8, GNU_ref_alt
 abbrev pub ref_forms : List (ℕ × RefKind)
-ref_forms = (0x11, InUnit) ∷ (0x12, InUnit) ∷ (0x13, InUnit) ∷ (0x14, InUnit) ∷ (0x15, InUnit) ∷ (0x10, InSection) ∷ (0x20, BySignature) ∷ (0x1c, Elsewhere) ∷ (0x24, Elsewhere) ∷ (0x1f20, Elsewhere) ∷ []
+ref_forms =
+    (DW_FORM_ref1, InUnit)
+    ∷ (DW_FORM_ref2, InUnit)
+    ∷ (DW_FORM_ref4, InUnit)
+    ∷ (DW_FORM_ref8, InUnit)
+    ∷ (DW_FORM_ref_udata, InUnit)
+    ∷ (DW_FORM_ref_addr, InSection)
+    ∷ (DW_FORM_ref_sig8, BySignature)
+    ∷ (DW_FORM_ref_sup4, Elsewhere)
+    ∷ (DW_FORM_ref_sup8, Elsewhere)
+    ∷ (DW_FORM_GNU_ref_alt, Elsewhere)
+    ∷ []
 
 abbrev pub named_by : List Item → ℕ → WholeUnit → ℕ → Option RefKind → Target
 named_by items item u v None = Err NotReference

@@ -1,5 +1,6 @@
 -- A section in which one number is another, and why a number isn't put.
 use Rattle.std.specs.Prelude.{◌≡◌, ℕ, ℤ, zero, suc, ◌==◌, Bool, true, false, List, [], ◌∷◌, length, map, Option, Some, None, Result, Ok, Err, not, if◌then◌else◌}
+use Rattle.dw_leb.specs.Constants.{DW_AT_sibling}
 use Rattle.dw_form.specs.declared.shape.Ctx.{Ctx}
 use Rattle.dw_form.specs.Form.{Value, Num, Wide, Uleb, Sleb, Block, Text, Present, Implicit, at_number}
 use Rattle.dw_form.specs.declared.value.Value.{Value as TheValue}
@@ -66,7 +67,7 @@ names_nothing (Some kind) (Err why) = true
 
 -- the value can't stand there: under DW_AT_sibling it isn't the right one, under another name it is a reference that names nothing
 abbrev pub is_bad_target : List Item → EntryId → WholeUnit → ℕ → EntryAt → ℕ → ℕ → Value → Bool
-is_bad_target items id u start e name form v = if name == 0x01 then not (is_right_sibling start e form v) else names_nothing (at_number form ref_forms) (named items id.item u form v)
+is_bad_target items id u start e name form v = if name == DW_AT_sibling then not (is_right_sibling start e form v) else names_nothing (at_number form ref_forms) (named items id.item u form v)
 
 abbrev pub value_refusal : List Item → EntryId → WholeUnit → ℕ → EntryAt → LentAttribute → Result Value SetRefusal → Option SetRefusal
 value_refusal items id u start e a (Err why) = Some why

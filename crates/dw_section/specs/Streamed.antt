@@ -10,7 +10,7 @@ use Rattle.dw_leb.specs.declared.order.Order.{Order}
 use Rattle.dw_leb.specs.declared.order.Format.{Format}
 use Rattle.dw_header.specs.declared.versions.Versions.{Versions}
 use Rattle.dw_leb.specs.Number.{initial_length, length_limit, length_size}
-use Rattle.dw_section.specs.Item.{Item, item_bytes, marks, ShowsKind, Begins, ItemFits, HoldsTable, ItemFails}
+use Rattle.dw_section.specs.Item.{Item, item_bytes, marks, ShowsKind, HasInitialLength, ItemFits, HoldsTable, ItemFails}
 use Rattle.dw_section.specs.Section.{items_bytes, ItemsFit, HoldsTables, SectionIs, SectionFails}
 
 -- of all the bytes these items are read, and those are left
@@ -66,11 +66,11 @@ pub length_fault : (versions : Versions) (order : Order) (abbreviations : List �
 length_fault versions order abbreviations start left own reason breaks = inl (own, refl, breaks)
 
 -- in what shows its kind
-pub kind_fault : (versions : Versions) (order : Order) (abbreviations : List ℕ) (start : ℕ) (left : List ℕ) (format : Format) (n : ℕ) (rest : List ℕ) (own : ℕ) (reason : Reason) → Begins order start left format n rest
+pub kind_fault : (versions : Versions) (order : Order) (abbreviations : List ℕ) (start : ℕ) (left : List ℕ) (format : Format) (n : ℕ) (rest : List ℕ) (own : ℕ) (reason : Reason) → HasInitialLength order start left format n rest
     → (marks versions order n).Break rest n own reason → ItemFails versions order abbreviations start left Info (start + length_size format + own) reason
 kind_fault versions order abbreviations start left format n rest own reason begins breaks = inr (inl (format, n, rest, own, begins, refl, breaks))
 
 -- in its bytes, where it is no unit that is read
-pub other_cut : (versions : Versions) (order : Order) (abbreviations : List ℕ) (start : ℕ) (left : List ℕ) (format : Format) (n : ℕ) (rest : List ℕ) → Begins order start left format n rest → ShowsKind versions order n rest false → length rest < n
+pub other_cut : (versions : Versions) (order : Order) (abbreviations : List ℕ) (start : ℕ) (left : List ℕ) (format : Format) (n : ℕ) (rest : List ℕ) → HasInitialLength order start left format n rest → ShowsKind versions order n rest false → length rest < n
     → ItemFails versions order abbreviations start left Info (start + length_size format) Truncated
 other_cut versions order abbreviations start left format n rest begins shows less = inr (inr (inl (format, n, rest, begins, shows, less, refl, refl)))

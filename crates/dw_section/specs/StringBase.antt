@@ -1,5 +1,6 @@
 -- Where the entries of a unit's strings begin in .debug_str_offsets (sections 3.1.1 and 7.26).
 use Rattle.std.proofs.Common.{ℕ, List, Option, Some, None}
+use Rattle.dw_leb.specs.Constants.{DW_AT_str_offsets_base}
 use Rattle.dw_form.specs.Lent.{number_in}
 use Rattle.dw_tree.specs.Lent.{LentAttribute, root_of, attributes_of, first_named}
 use Rattle.dw_unit.specs.Unit.{WholeUnit, tree_of}
@@ -13,7 +14,7 @@ number_of (Some a) = number_in a.attr.value
 
 -- the first DW_AT_str_offsets_base of the root, if its value is a number
 abbrev pub base_of : WholeUnit → Option ℕ
-base_of u = number_of (first_named 0x72 (attributes_of (root_of (tree_of u))))
+base_of u = number_of (first_named DW_AT_str_offsets_base (attributes_of (root_of (tree_of u))))
 
 abbrev pub base_if : Option WholeUnit → Option ℕ
 base_if None = None

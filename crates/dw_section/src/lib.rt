@@ -2,7 +2,7 @@
 #![tactic(auto)]
 
 mod base;
-mod begins;
+mod entry_offsets;
 mod find;
 mod id;
 mod item;
@@ -18,7 +18,7 @@ mod set_refusal;
 mod sibling;
 mod writer;
 
-pub use begins::Begins;
+pub use entry_offsets::EntryOffsets;
 pub use id::{EntryId, RefFault};
 pub use item::Item;
 pub use reader::{read_section, read_section_as};

@@ -4,11 +4,11 @@ ghost use Rattle.dw_form.specs.Form.{at_number};
 ghost use Rattle.dw_form.specs.Lent.{attribute_of};
 ghost use Rattle.dw_tree.specs.Lent.{EntryAt};
 ghost use Rattle.dw_unit.specs.Unit.{WholeUnit};
-ghost use Rattle.dw_section.specs.Begins.{AreBegins};
+ghost use Rattle.dw_section.specs.EntryOffsets.{AreEntryOffsets};
 ghost use Rattle.dw_section.specs.Reference.{ref_forms, in_unit, in_type, by_signature, items_at, named, named_by};
 ghost use Rattle.dw_section.specs.Lookup.{unit_at, entry};
 
-use crate::begins::Begins;
+use crate::entry_offsets::EntryOffsets;
 use crate::find::entry_in;
 use crate::id::{EntryId, RefFault};
 use crate::section::Section;
@@ -69,12 +69,12 @@ impl Section {
     #[inline(always)]
     pub fn resolve_among(
         &self,
-        begins: &Begins,
+        begins: &EntryOffsets,
         from: EntryId,
         attr: &AttrRef<'_>,
     ) -> Result<EntryId, RefFault>
         requires unit { IsSome (unit_at self.now.items from.item) }
-        requires known { (u : WholeUnit) → unit_at self.now.items from.item ≡ Some u → AreBegins u begins.now }
+        requires known { (u : WholeUnit) → unit_at self.now.items from.item ≡ Some u → AreEntryOffsets u begins.now }
         ensures named { (u : WholeUnit) → unit_at self.now.items from.item ≡ Some u → result ≡ named self.now.items from.item u attr.now.form (attribute_of attr.now.attr).value }
         ensures entry { IfOk result (λ id. (e : EntryAt) × (entry self.now.items id ≡ Some e) × (e.offset ≡ id.offset)) }
     {

@@ -1,6 +1,9 @@
 -- What a text form names, and why one names nothing (sections 7.5.5 and 7.26).
 use Rattle.std.specs.Prelude.{ℕ, ◌+◌, ◌*◌, Bool, false, List, [], ◌∷◌, length, take, drop, Option, Some, None, Result, Ok, Err, nat_le, ◌==◌, if◌then◌else◌}
 use Rattle.std.specs.Str.{bytes_eq}
+use Rattle.dw_leb.specs.Constants.{DW_FORM_GNU_strp_alt, DW_FORM_line_strp, DW_FORM_string, DW_FORM_strp}
+use Rattle.dw_leb.specs.Constants.{DW_FORM_strp_sup, DW_FORM_strx, DW_FORM_strx1, DW_FORM_strx2, DW_FORM_strx3}
+use Rattle.dw_leb.specs.Constants.{DW_FORM_strx4}
 use Rattle.dw_leb.specs.declared.order.Order.{Order}
 use Rattle.dw_leb.specs.Number.{offset_size}
 use Rattle.dw_leb.specs.ReadNumber.{undigits, ordered, before_zero}
@@ -66,7 +69,17 @@ by_index s h (Some base) index = at_entry (number_at h.order (offset_size h.form
 
 -- the forms of texts that a number names: strp; line_strp; strx, strx1 to strx4; strp_sup, GNU_strp_alt
 abbrev pub stored_forms : List (ℕ × StoredIn)
-stored_forms = (0x0e, Str) ∷ (0x1f, LineStr) ∷ (0x1a, StrOffsets) ∷ (0x25, StrOffsets) ∷ (0x26, StrOffsets) ∷ (0x27, StrOffsets) ∷ (0x28, StrOffsets) ∷ (0x1d, Elsewhere) ∷ (0x1f21, Elsewhere) ∷ []
+stored_forms =
+    (DW_FORM_strp, Str)
+    ∷ (DW_FORM_line_strp, LineStr)
+    ∷ (DW_FORM_strx, StrOffsets)
+    ∷ (DW_FORM_strx1, StrOffsets)
+    ∷ (DW_FORM_strx2, StrOffsets)
+    ∷ (DW_FORM_strx3, StrOffsets)
+    ∷ (DW_FORM_strx4, StrOffsets)
+    ∷ (DW_FORM_strp_sup, Elsewhere)
+    ∷ (DW_FORM_GNU_strp_alt, Elsewhere)
+    ∷ []
 
 abbrev pub stored : StringSections → WholeUnit → ℕ → Option StoredIn → Placed
 stored s u v None = Err NotText
@@ -85,7 +98,7 @@ own_text (Some bytes) = Ok (Own bytes)
 
 -- where the text begins that a value under a form names in a unit; one of the form string is its own text
 abbrev pub named_place : StringSections → WholeUnit → ℕ → Value → Placed
-named_place s u form value = if form == 0x08 then own_text (text_in value) else by_number s u form (number_in value)
+named_place s u form value = if form == DW_FORM_string then own_text (text_in value) else by_number s u form (number_in value)
 
 -- ---- by a value
 

@@ -2,7 +2,7 @@
 use crate::common::{FIFTEEN, REFERS, TWO_TABLES, takes};
 use dw_leb::Order;
 use dw_leb::constants::attribute::DW_AT_TYPE;
-use dw_section::{Begins, EntryId, RefFault, Section};
+use dw_section::{EntryOffsets, EntryId, RefFault, Section};
 use std::alloc::Global;
 use std::process::Abort;
 use std::test::Fail;
@@ -18,7 +18,7 @@ fn type_of(alloc: Global, section: &Section, from: EntryId) -> Option<Result<Ent
     let entry = unit.entry_at(from.offset)?;
     let named = entry.attr(DW_AT_TYPE)?;
     let target = section.resolve(from, &named);
-    let mut begins = Begins::new(alloc);
+    let mut begins = EntryOffsets::new(alloc);
     let among_none = section.resolve_among(&begins, from, &named);
     begins.learn(unit);
     let among_all = section.resolve_among(&begins, from, &named);

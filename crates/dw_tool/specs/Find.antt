@@ -1,5 +1,6 @@
 -- The entries of a name in a section, a line for each.
 use Rattle.std.specs.Prelude.{ℕ, suc, ◌+◌, Bool, true, false, List, [], ◌∷◌, ◌++◌, Option, Some, None, codes, if◌then◌else◌}
+use Rattle.dw_leb.specs.Constants.{DW_AT_name}
 use Rattle.dw_tree.specs.Lent.{LentAttribute, EntryAt, attributes_of, entries_of, first_named}
 use Rattle.dw_unit.specs.Unit.{tree_of}
 use Rattle.dw_section.specs.Item.{Item, Known, Other}
@@ -14,7 +15,7 @@ has_text strings items item name (Some a) = is_text name (text_of strings items 
 
 -- the first DW_AT_name of the entry has this text
 abbrev pub is_named : StringSections → List Item → ℕ → List ℕ → EntryAt → Bool
-is_named strings items item name e = has_text strings items item name (first_named 0x03 (attributes_of e))
+is_named strings items item name e = has_text strings items item name (first_named DW_AT_name (attributes_of e))
 
 -- where it begins if its unit starts here, and its tag
 abbrev pub found_line : ℕ → EntryAt → List ℕ

@@ -1,7 +1,7 @@
 -- A unit in its section.
 use Rattle.std.specs.Prelude.{◌≡◌, ℕ, Bool, true, false, List, Some, IsSome}
 use Rattle.dw_unit.specs.Unit.{WholeUnit}
-use Rattle.dw_section.specs.Begins.{AreBegins}
+use Rattle.dw_section.specs.EntryOffsets.{AreEntryOffsets}
 use Rattle.dw_section.specs.Item.{Item}
 use Rattle.dw_section.specs.Lookup.{unit_at}
 use Rattle.dw_tool.specs.declared.entries.Names.{Names}
@@ -17,7 +17,7 @@ pub record IsPlace (place : Place) : Type 0 where
 
 -- entries of the unit that is this item begin at the offsets that are marked
 abbrev pub BeginIn : List Item → ℕ → List ℕ → Type 0
-BeginIn items i words = (u : WholeUnit) → unit_at items i ≡ Some u → AreBegins u words
+BeginIn items i words = (u : WholeUnit) → unit_at items i ≡ Some u → AreEntryOffsets u words
 
 -- the entry is one of a unit, and entries of it begin at the offsets that are marked
 pub record IsOrigin (origin : Origin) : Type 0 where

@@ -1,6 +1,7 @@
 -- The text of a section: of its items, of the entries of its units, of their attributes.
 use Rattle.std.specs.Prelude.{ℕ, suc, ◌+◌, ◌==◌, List, [], ◌∷◌, ◌++◌, length, take, Option, Some, None, Ok, Err, codes, if◌then◌else◌}
 use Rattle.std.specs.Fmt.{signed_decimal}
+use Rattle.dw_leb.specs.Constants.{DW_FORM_string}
 use Rattle.dw_leb.specs.declared.order.Format.{Format}
 use Rattle.dw_leb.specs.declared.order.Format.TheVariants.{Dwarf32, Dwarf64}
 use Rattle.dw_form.specs.Form.{Value, Num, Wide, Uleb, Sleb, Block, Text, Present, Implicit}
@@ -95,7 +96,7 @@ text_of strings items item a = text_if strings a (unit_at items item)
 
 -- behind a number that names a text, that text; of the form string the value itself is the text
 abbrev pub stored_text : StringSections → List Item → ℕ → LentAttribute → List ℕ
-stored_text strings items item a = if a.form == 0x08 then [] else named_quoted (text_of strings items item a)
+stored_text strings items item a = if a.form == DW_FORM_string then [] else named_quoted (text_of strings items item a)
 
 -- what stands behind a value: what it names, an entry or a text
 abbrev pub named_behind : StringSections → List Item → ℕ → LentAttribute → List ℕ

@@ -1,5 +1,6 @@
 -- The type of the entry at an offset of a section, as a line of text.
 use Rattle.std.specs.Prelude.{◌≡◌, ℕ, Bool, List, [], ◌++◌, Option, Some, None, Result, Ok, Err, codes, unwrap_or, ◌==◌, ◌||◌, if◌then◌else◌}
+use Rattle.dw_leb.specs.Constants.{DW_TAG_formal_parameter, DW_TAG_member, DW_TAG_subprogram, DW_TAG_variable}
 use Rattle.dw_tree.specs.Lent.{EntryAt}
 use Rattle.dw_section.specs.Lookup.{entry, find}
 use Rattle.dw_section.specs.Section.{WholeSection}
@@ -12,7 +13,7 @@ use Rattle.dw_ctype.specs.Types.{Source, name_of, tag}
 
 -- a variable, formal_parameter, member or subprogram
 abbrev pub has_name : ℕ → Bool
-has_name tag = tag == 0x34 || (tag == 0x05 || (tag == 0x0d || tag == 0x2e))
+has_name tag = tag == DW_TAG_variable || (tag == DW_TAG_formal_parameter || (tag == DW_TAG_member || tag == DW_TAG_subprogram))
 
 -- the name of such an entry, where it can be looked up
 abbrev pub own_name : Source → ℕ → EntryAt → List ℕ

@@ -21,7 +21,7 @@ use crate::text::{
 use dw_form::Value;
 use dw_leb::WriteError;
 use dw_leb::constants::form::*;
-use dw_section::{Begins, EntryId, RefFault, Section};
+use dw_section::{EntryOffsets, EntryId, RefFault, Section};
 use dw_strings::{StrFault, Strings};
 use dw_unit::{AttrRef, Attrs, Entries, EntryRef, NumberRef};
 use std::io::Write;
@@ -43,7 +43,7 @@ struct Origin<'a> {
     section: &'a Section,
     strings: &'a Strings<'a>,
     /// Offsets at which entries of the unit begin.
-    begins: &'a Begins,
+    begins: &'a EntryOffsets,
     from: EntryId,
 }
 
@@ -51,7 +51,7 @@ struct Origin<'a> {
 pub(crate) fn push_entries<W: Write>(
     out: &mut Output<'_, W>,
     place: &Place<'_>,
-    begins: &Begins,
+    begins: &EntryOffsets,
     entries: Entries<'_>,
 ) -> Result<(), WriteError>
     requires clear { IsClear out.old }
@@ -70,7 +70,7 @@ pub(crate) fn push_entries<W: Write>(
 fn push_entry<W: Write>(
     out: &mut Output<'_, W>,
     place: &Place<'_>,
-    begins: &Begins,
+    begins: &EntryOffsets,
     entry: &EntryRef<'_>,
 ) -> Result<(), WriteError>
     requires clear { IsClear out.old }

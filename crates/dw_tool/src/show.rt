@@ -12,7 +12,7 @@ use crate::entries::{Place, push_entries};
 use crate::output::Output;
 use crate::text::{push_labelled, push_labelled_decimal};
 use dw_leb::{Format, WriteError};
-use dw_section::{Begins, Item, Section};
+use dw_section::{EntryOffsets, Item, Section};
 use dw_strings::Strings;
 use dw_unit::{Header, Kind, Unit};
 use std::alloc::Global;
@@ -31,7 +31,7 @@ pub(crate) fn push_section<W: Write>(
     requires { IsClear out.old }
     ensures { Puts W.contents out.old out.new (section_text (sections_of strings.now) section.now) result }
 {
-    let mut begins = Begins::new(alloc);
+    let mut begins = EntryOffsets::new(alloc);
     let mut number = 0;
     let mut left = section.items();
     while let Some((item, others)) = left.split_first() {
@@ -47,7 +47,7 @@ fn push_item<W: Write>(
     out: &mut Output<'_, W>,
     section: &Section,
     strings: &Strings<'_>,
-    begins: &mut Begins,
+    begins: &mut EntryOffsets,
     number: usize,
     item: &Item,
 ) -> Result<(), WriteError>
@@ -77,7 +77,7 @@ fn push_item<W: Write>(
 fn push_unit<W: Write>(
     out: &mut Output<'_, W>,
     place: &Place<'_>,
-    begins: &Begins,
+    begins: &EntryOffsets,
     unit: &Unit,
 ) -> Result<(), WriteError>
     requires clear { IsClear out.old }

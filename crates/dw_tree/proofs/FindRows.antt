@@ -1,5 +1,6 @@
 -- The entry at an offset, by its row.
-use Rattle.std.proofs.Common.{◌≡◌, ◌≢◌, ℕ, zero, suc, ◌+◌, ◌<◌, ◌≤◌, List, [], ◌∷◌, length, get_or, refl, sym, ◌∙◌, ap, subst, arith, Some, None}
+use Rattle.std.proofs.Common.{◌≡◌, ◌≢◌, ℕ, zero, suc, ◌+◌, ◌<◌, ◌≤◌, Bool, true, false, List, [], ◌∷◌, length, get_or, refl, sym, ◌∙◌, ap, subst, arith, Some, None}
+use Rattle.std.specs.Prelude.{◌==◌, if◌then◌else◌}
 use Rattle.std.proofs.lemmas.Bool.{ne_eqb, eq-eqb}
 use Rattle.std.proofs.lemmas.List.{length-append}
 use Rattle.dw_leb.specs.Number.{uleb, Unsigned}
@@ -17,7 +18,7 @@ use Rattle.dw_tree.specs.Steps.{TreeAt}
 use Rattle.dw_tree.specs.TreeView.{tree_at, tokens_in, IsTree}
 use Rattle.dw_tree.specs.Flat.{IsEntry, IsNull}
 use Rattle.dw_tree.specs.DraftInvariant.{Stand, TokenFits, level_after}
-use Rattle.dw_tree.specs.Lent.{EntryAt, find_at, entries_of, entries_from, entry_at_row}
+use Rattle.dw_tree.specs.Lent.{EntryAt, find_at, from_offset, entries_of, entries_from, entry_at_row}
 use Rattle.dw_tree.proofs.EntryRows.{Stands, chain_row, next_of, skips, none_left, row_offset}
 use Rattle.dw_tree.proofs.AllEntries.{all_entries}
 
@@ -53,13 +54,30 @@ module _ (k : Ctx) (t : Table) where
       let b = none_before (at + length (row_bytes k t x)) (level_after depth x) rows xs j d (omega (arith, l)) h.1 in omega (arith, b, h.0.0, row_some x h.0.2)
   grow at depth (r ∷ rows) (x ∷ xs) (suc i) (suc j) d o l h = grow (at + length (row_bytes k t x)) (level_after depth x) rows xs i j d (omega (arith, o)) (omega (arith, l)) h.1
 
--- ---- the first entry of an offset
+-- ---- the entries from that of an offset on
 
-passed : (o : ℕ) (x : EntryAt) (xs : List EntryAt) → x.offset ≢ o → find_at o (x ∷ xs) ≡ find_at o xs
+passed : (o : ℕ) (x : EntryAt) (xs : List EntryAt) → x.offset ≢ o → from_offset o (x ∷ xs) ≡ from_offset o xs
 passed o x xs n = rw (ne_eqb x.offset o n) refl
 
-taken : (o : ℕ) (x : EntryAt) (xs : List EntryAt) → x.offset ≡ o → find_at o (x ∷ xs) ≡ Some x
+taken : (o : ℕ) (x : EntryAt) (xs : List EntryAt) → x.offset ≡ o → from_offset o (x ∷ xs) ≡ x ∷ xs
 taken o x xs e = rw (eq-eqb x.offset o e) refl
+
+-- the first of them is the one at the offset
+found : (o : ℕ) (xs : List EntryAt) (x : EntryAt) (ys : List EntryAt) → from_offset o xs ≡ x ∷ ys → find_at o xs ≡ Some x
+found o [] x ys e = absurd cc
+found o (z ∷ xs) x ys e = by (z.offset == o) e (found o xs x ys)
+  where
+    by : (v : Bool) → (if v then z ∷ xs else from_offset o xs) ≡ x ∷ ys → (from_offset o xs ≡ x ∷ ys → find_at o xs ≡ Some x) → (if v then Some z else find_at o xs) ≡ Some x
+    by true f rest = cc
+    by false f rest = rest f
+
+not_found : (o : ℕ) (xs : List EntryAt) → from_offset o xs ≡ [] → find_at o xs ≡ None
+not_found o [] e = refl
+not_found o (z ∷ xs) e = by (z.offset == o) e (not_found o xs)
+  where
+    by : (v : Bool) → (if v then z ∷ xs else from_offset o xs) ≡ [] → (from_offset o xs ≡ [] → find_at o xs ≡ None) → (if v then Some z else find_at o xs) ≡ None
+    by true f rest = absurd cc
+    by false f rest = rest f
 
 module _ (a : Inside) (i : IsTree a) (v : TreeAt) (e : tree_at a ≡ v) where
   abbrev rows : List Row
@@ -76,37 +94,40 @@ module _ (a : Inside) (i : IsTree a) (v : TreeAt) (e : tree_at a ≡ v) where
     pub stands : (n : ℕ) (d : Row) → n < length rows → IsEntry (get_or rows n d).kind → Stands v n
     stands n d l is = (chain_row a i v e n d l is).stands_here
 
-    entry_passes : (n : ℕ) (d : Row) → n < length rows → IsEntry (get_or rows n d).kind → Passes n d → find_at o (entries_from v n) ≡ find_at o (entries_from v (suc n))
+    entry_passes : (n : ℕ) (d : Row) → n < length rows → IsEntry (get_or rows n d).kind → Passes n d → from_offset o (entries_from v n) ≡ from_offset o (entries_from v (suc n))
     entry_passes n d l is p =
-        ap (find_at o) (next_of a i v e n d l is (stands n d l is))
+        ap (from_offset o) (next_of a i v e n d l is (stands n d l is))
         ∙ passed o (entry_at_row v n) (entries_from v (suc n)) (λ same. p is (row_offset a i v e n d l ∙ same))
 
-    row_passes : (n : ℕ) (d : Row) → n < length rows → Passes n d → find_at o (entries_from v n) ≡ find_at o (entries_from v (suc n))
+    row_passes : (n : ℕ) (d : Row) → n < length rows → Passes n d → from_offset o (entries_from v n) ≡ from_offset o (entries_from v (suc n))
     row_passes n d l p = by (get_or rows n d).kind refl
       where
-        by : (k : RowKind) → (get_or rows n d).kind ≡ k → find_at o (entries_from v n) ≡ find_at o (entries_from v (suc n))
+        by : (k : RowKind) → (get_or rows n d).kind ≡ k → from_offset o (entries_from v n) ≡ from_offset o (entries_from v (suc n))
         by Leaf is = entry_passes n d l (subst IsEntry (sym is) tt) p
         by Branch is = entry_passes n d l (subst IsEntry (sym is) tt) p
         by Null is =
             let one : suc n ≡ n + 1 = omega arith in
-            ap (find_at o) (skips a i v e 1 n d (omega (arith, l)) (λ j x y. let here : n ≡ j = omega (arith, x, y) in subst (λ (m : ℕ). IsNull (get_or rows m d).kind) here (subst IsNull (sym is) tt)))
-            ∙ ap (λ (m : ℕ). find_at o (entries_from v m)) (sym one)
+            ap (from_offset o) (skips a i v e 1 n d (omega (arith, l)) (λ j x y. let here : n ≡ j = omega (arith, x, y) in subst (λ (m : ℕ). IsNull (get_or rows m d).kind) here (subst IsNull (sym is) tt)))
+            ∙ ap (λ (m : ℕ). from_offset o (entries_from v m)) (sym one)
 
     -- so the search may begin behind rows that it passes
-    rows_pass : (n : ℕ) (d : Row) → n ≤ length rows → ((j : ℕ) → j < n → Passes j d) → find_at o (entries_of v) ≡ find_at o (entries_from v n)
-    rows_pass zero d l p = ap (find_at o) (sym (all_entries v))
+    rows_pass : (n : ℕ) (d : Row) → n ≤ length rows → ((j : ℕ) → j < n → Passes j d) → from_offset o (entries_of v) ≡ from_offset o (entries_from v n)
+    rows_pass zero d l p = ap (from_offset o) (sym (all_entries v))
     rows_pass (suc n) d l p = rows_pass n d (omega (arith, l)) (λ j b. p j (omega (arith, b))) ∙ row_passes n d (omega (arith, l)) (p n (omega arith))
 
-    all_pass : (d : Row) → ((j : ℕ) → j < length rows → Passes j d) → find_at o (entries_of v) ≡ None
-    all_pass d p = rows_pass (length rows) d (omega arith) p ∙ ap (find_at o) (none_left a i v e (length rows) refl)
+    all_pass : (d : Row) → ((j : ℕ) → j < length rows → Passes j d) → from_offset o (entries_of v) ≡ []
+    all_pass d p = rows_pass (length rows) d (omega arith) p ∙ ap (from_offset o) (none_left a i v e (length rows) refl)
 
     -- no row begins at the offset
-    pub no_row : ((j : ℕ) (d : Row) → j < length rows → (get_or rows j d).offset ≢ o) → find_at o (entries_of v) ≡ None
-    no_row none = by rows refl
+    pub none_begins : ((j : ℕ) (d : Row) → j < length rows → (get_or rows j d).offset ≢ o) → from_offset o (entries_of v) ≡ []
+    none_begins none = by rows refl
       where
-        by : (rs : List Row) → rs ≡ rows → find_at o (entries_of v) ≡ None
-        by [] same = ap (find_at o) (sym (all_entries v) ∙ none_left a i v e 0 (ap length same))
+        by : (rs : List Row) → rs ≡ rows → from_offset o (entries_of v) ≡ []
+        by [] same = ap (from_offset o) (sym (all_entries v) ∙ none_left a i v e 0 (ap length same))
         by (r ∷ rs) same = all_pass r (λ j l is. none j r l)
+
+    pub no_row : ((j : ℕ) (d : Row) → j < length rows → (get_or rows j d).offset ≢ o) → find_at o (entries_of v) ≡ None
+    no_row none = not_found o (entries_of v) (none_begins none)
 
     -- one does
     module _ (n : ℕ) (d : Row) (l : n < length rows) (here : (get_or rows n d).offset ≡ o) where
@@ -116,8 +137,8 @@ module _ (a : Inside) (i : IsTree a) (v : TreeAt) (e : tree_at a ≡ v) where
       behind : (j : ℕ) → n < j → j < length rows → (get_or rows j d).offset ≢ o
       behind j b m same = let g = offsets_grow n j d b m in omega (arith, g, here, same)
 
-      pub null_row_there : IsNull (get_or rows n d).kind → find_at o (entries_of v) ≡ None
-      null_row_there is = all_pass d (λ j m en same. others j m en same)
+      pub null_begins : IsNull (get_or rows n d).kind → from_offset o (entries_of v) ≡ []
+      null_begins is = all_pass d (λ j m en same. others j m en same)
         where
           not_both : (k : RowKind) → IsNull k → IsEntry k → ⊥
           not_both Leaf x y = x
@@ -131,8 +152,15 @@ module _ (a : Inside) (i : IsTree a) (v : TreeAt) (e : tree_at a ≡ v) where
               let equal : n ≡ j → ⊥ = λ q. not_both (get_or rows n d).kind is (subst (λ (q : ℕ). IsEntry (get_or rows q d).kind) (sym q) en) in
               equal (omega (arith, low, high))
 
-      pub entry_there : IsEntry (get_or rows n d).kind → find_at o (entries_of v) ≡ Some (entry_at_row v n)
-      entry_there is =
+      pub entry_begins : IsEntry (get_or rows n d).kind → from_offset o (entries_of v) ≡ entries_from v n
+      entry_begins is =
+          let next = next_of a i v e n d l is (stands n d l is) in
           rows_pass n d (omega (arith, l)) (λ j b en. before j b)
-          ∙ (ap (find_at o) (next_of a i v e n d l is (stands n d l is))
-          ∙ taken o (entry_at_row v n) (entries_from v (suc n)) (sym (row_offset a i v e n d l) ∙ here))
+          ∙ (ap (from_offset o) next
+          ∙ (taken o (entry_at_row v n) (entries_from v (suc n)) (sym (row_offset a i v e n d l) ∙ here) ∙ sym next))
+
+      pub entry_there : IsEntry (get_or rows n d).kind → find_at o (entries_of v) ≡ Some (entry_at_row v n)
+      entry_there is = found o (entries_of v) (entry_at_row v n) (entries_from v (suc n)) (entry_begins is ∙ next_of a i v e n d l is (stands n d l is))
+
+      pub null_row_there : IsNull (get_or rows n d).kind → find_at o (entries_of v) ≡ None
+      null_row_there is = not_found o (entries_of v) (null_begins is)

@@ -7,7 +7,7 @@ use Rattle.dw_leb.specs.Repeat.{ItemsFit}
 use Rattle.dw_form.specs.declared.shape.Ctx.{Ctx}
 use Rattle.dw_abbrev.specs.Table.{Declaration, Table, declared, is_null, zero_of}
 use Rattle.dw_tree.specs.declared.row.Row.{Row}
-use Rattle.dw_tree.specs.Tree.{Tree, leaf, branch, Forest, none, more, Body, node_of, nodes_of, declares_children, unless_declared, unknown, bad_root, bad_child, body, children, tree, nesting}
+use Rattle.dw_tree.specs.Tree.{Tree, leaf, branch, Forest, none, more, Body, node_of, nodes_of, declares_children, unless_declared, unknown, bad_root, bad_child, body, children, tree, nesting, unit_tree}
 use Rattle.dw_tree.specs.Row.{Token, null_row, rows_of, all_rows, row_bytes}
 use Rattle.dw_tree.specs.DraftInvariant.{EntryFits, TokenFits, LevelFits, level_after, levels_after, shallower, Stand}
 
@@ -126,7 +126,7 @@ module _ (k : Ctx) (t : Table) where
   unfolding nesting
   one_and_more = refl
 
-  pub tree_fits : (x : Tree) (at : ℕ) (rows : List Row) → Stand k t at 1 rows (rows_of x) → (tree k t (nesting - 1)).Fits x
+  pub tree_fits : (x : Tree) (at : ℕ) (rows : List Row) → Stand k t at 1 rows (rows_of x) → (unit_tree k t).Fits x
   tree_fits x at rows h =
       let n : NodeFits (nesting - 1) x = node_fits x 0 (nesting - 1) one_and_more (stand_fit k t at 1 rows (rows_of x) h) in
       (root_fits (node_of x).0 n.0 n.1 n.2, n.3)

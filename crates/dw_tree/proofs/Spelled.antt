@@ -8,7 +8,7 @@ use Rattle.dw_form.specs.declared.shape.Ctx.{Ctx}
 use Rattle.dw_form.specs.Form.{Attribute}
 use Rattle.dw_abbrev.specs.Table.{Table, declared, is_null, zero_of}
 use Rattle.dw_tree.specs.declared.row.Row.{Row}
-use Rattle.dw_tree.specs.Tree.{Tree, leaf, branch, Forest, none, more, Body, node_of, nodes_of, values, declared_pairs, declares_children, bad_child, body, children, tree, nesting}
+use Rattle.dw_tree.specs.Tree.{Tree, leaf, branch, Forest, none, more, Body, node_of, nodes_of, values, declared_pairs, declares_children, bad_child, body, children, tree, nesting, unit_tree}
 use Rattle.dw_tree.specs.Spelling.{entry_bytes}
 use Rattle.dw_tree.specs.Row.{Token, null_row, rows_of, all_rows, row_bytes, rows_bytes}
 use Rattle.dw_tree.specs.DraftInvariant.{TokenFits, Stand, level_after}
@@ -68,5 +68,5 @@ module _ (k : Ctx) (t : Table) where
         ∙ (sym (append_assoc (rows_bytes k t (rows_of x)) (rows_bytes k t (all_rows ts)) null)
         ∙ ap (λ (bs : List ℕ). bs ++ null) (sym (bytes_append k t (rows_of x) (all_rows ts))))
 
-  pub tree_spelled : (x : Tree) (at : ℕ) (rows : List Row) → Stand k t at 1 rows (rows_of x) → (tree k t (nesting - 1)).spell x ≡ rows_bytes k t (rows_of x)
+  pub tree_spelled : (x : Tree) (at : ℕ) (rows : List Row) → Stand k t at 1 rows (rows_of x) → (unit_tree k t).spell x ≡ rows_bytes k t (rows_of x)
   tree_spelled x at rows h = node_spelled x 0 (nesting - 1) (one_and_more k t) (stand_fit k t at 1 rows (rows_of x) h)

@@ -3,7 +3,7 @@ use Rattle.std.proofs.Common.{◌≡◌, ◌-◌, length, sym, ◌∙◌, ap, su
 use Rattle.std.proofs.lemmas.List.{length-map}
 use Rattle.std.specs.List.{AllByRecursion}
 use Rattle.dw_tree.specs.declared.tree.EntryTree.TheInside.{Inside}
-use Rattle.dw_tree.specs.Tree.{tree, nesting}
+use Rattle.dw_tree.specs.Tree.{tree, unit_tree}
 use Rattle.dw_tree.specs.Row.{rows_of, rows_bytes}
 use Rattle.dw_tree.specs.PoolBytes.{held}
 use Rattle.dw_tree.specs.RowHeads.{rows_heads}
@@ -19,16 +19,16 @@ module _ (a : Inside) (i : IsTree a) where
   abbrev u : TreeAt
   u = tree_at a
 
-  here : rows_bytes a.context a.table.value (tokens_in a) ≡ (tree u.context u.table (nesting - 1)).spell u.root
+  here : rows_bytes a.context a.table.value (tokens_in a) ≡ (unit_tree u.context u.table).spell u.root
   here =
       ap (rows_bytes a.context a.table.value) i.one_tree
       ∙ sym (tree_spelled a.context a.table.value u.root a.start a.rows.items (subst (Stand a.context a.table.value a.start 1 a.rows.items) i.one_tree i.stand))
 
-  pub spelled_as : (v : TreeAt) → tree_at a ≡ v → rows_bytes a.context a.table.value (tokens_in a) ≡ (tree v.context v.table (nesting - 1)).spell v.root
-  spelled_as v e = here ∙ ap (λ (w : TreeAt). (tree w.context w.table (nesting - 1)).spell w.root) e
+  pub spelled_as : (v : TreeAt) → tree_at a ≡ v → rows_bytes a.context a.table.value (tokens_in a) ≡ (unit_tree v.context v.table).spell v.root
+  spelled_as v e = here ∙ ap (λ (w : TreeAt). (unit_tree w.context w.table).spell w.root) e
 
-  pub fits_as : (v : TreeAt) → tree_at a ≡ v → (tree v.context v.table (nesting - 1)).Fits v.root
-  fits_as v e = subst (λ (w : TreeAt). (tree w.context w.table (nesting - 1)).Fits w.root) e
+  pub fits_as : (v : TreeAt) → tree_at a ≡ v → (unit_tree v.context v.table).Fits v.root
+  fits_as v e = subst (λ (w : TreeAt). (unit_tree w.context w.table).Fits w.root) e
       (tree_fits a.context a.table.value u.root a.start a.rows.items (subst (Stand a.context a.table.value a.start 1 a.rows.items) i.one_tree i.stand))
 
   pub tokens_fit : AllByRecursion (TokenFits a.context a.table.value) (tokens_in a)
@@ -50,7 +50,7 @@ module _ (a : Inside) (i : IsTree a) where
   pub content_kept : (v : TreeAt) → tree_at a ≡ v → a.pool.items ≡ held (rows_of v.root)
   content_kept v e = i.exact.pool_is ∙ (append-nil (held (tokens_in a)) ∙ (ap held i.one_tree ∙ ap (λ (w : TreeAt). held (rows_of w.root)) e))
 
-  pub tree_short : (v : TreeAt) → tree_at a ≡ v → AreShort (length a.rows.items) (length a.heads.items) (length a.pool.items) (length ((tree v.context v.table (nesting - 1)).spell v.root))
+  pub tree_short : (v : TreeAt) → tree_at a ≡ v → AreShort (length a.rows.items) (length a.heads.items) (length a.pool.items) (length ((unit_tree v.context v.table).spell v.root))
   tree_short v e =
       let all = rows_short a.context a.table.value (tokens_in a) 0 tokens_fit in
       let bytes = ap length (spelled_as v e) in

@@ -149,6 +149,11 @@ abbrev pub find_at : ℕ → List EntryAt → Option EntryAt
 find_at offset [] = None
 find_at offset (e ∷ es) = if e.offset == offset then Some e else find_at offset es
 
+-- the entries from the one at an offset on
+abbrev pub from_offset : ℕ → List EntryAt → List EntryAt
+from_offset offset [] = []
+from_offset offset (e ∷ es) = if e.offset == offset then e ∷ es else from_offset offset es
+
 -- ---- by their rows
 
 -- what stands from a row on, up to the end of its chain

@@ -1,5 +1,5 @@
 -- Entries, their trees, and the padding after them (sections 2.3 and 7.5.2).
-use Rattle.std.specs.Prelude.{ℕ, zero, suc, ◌<◌, Bool, true, false, List, [], ◌∷◌, ◌++◌, Option, Some, None, if◌then◌else◌}
+use Rattle.std.specs.Prelude.{ℕ, zero, suc, ◌-◌, ◌<◌, Bool, true, false, List, [], ◌∷◌, ◌++◌, Option, Some, None, if◌then◌else◌}
 use Rattle.std.specs.List.{AllByRecursion}
 use Rattle.dw_leb.specs.declared.errors.Reason.{Reason}
 use Rattle.dw_leb.specs.declared.errors.Reason.TheVariants.{NoRoot, UnknownCode, TooDeep, SecondRoot}
@@ -88,6 +88,10 @@ nesting = 4096
 -- a tree with room for so many levels below its root
 abbrev pub tree : Ctx → Table → ℕ → Part Tree
 tree k t room = seen as_node (judged uleb (bad_root t) then body k t (children k t room))
+
+-- the tree of a unit, with as much room as there may be
+abbrev pub unit_tree : Ctx → Table → Part Tree
+unit_tree k t = tree k t (nesting - 1)
 
 -- ---- padding
 

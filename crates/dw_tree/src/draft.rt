@@ -6,7 +6,7 @@ ghost use Rattle.dw_form.specs.Form.{IsContext, Attribute};
 ghost use Rattle.dw_form.specs.Lent.{attribute_of};
 ghost use Rattle.dw_abbrev.specs.PairView.{pair_of};
 ghost use Rattle.dw_abbrev.specs.Table.{declared, zero_of};
-ghost use Rattle.dw_tree.specs.Tree.{nesting, tree as part};
+ghost use Rattle.dw_tree.specs.Tree.{nesting, unit_tree};
 ghost use Rattle.dw_tree.specs.Place.{nowhere, rows_before};
 ghost use Rattle.dw_tree.specs.DraftView.{partial_of};
 ghost use Rattle.dw_tree.specs.Flat.{with_end as row_ending};
@@ -444,8 +444,8 @@ impl TreeDraft {
     pub fn finish(self) -> EntryTree
         requires { IsSome (finished self) }
         ensures whole { finished self ≡ Some result }
-        ensures fits { (part result.context result.table (nesting - 1)).Fits result.root }
-        ensures size { end_of self ≡ result.start + length ((part result.context result.table (nesting - 1)).spell result.root) }
+        ensures fits { (unit_tree result.context result.table).Fits result.root }
+        ensures size { end_of self ≡ result.start + length ((unit_tree result.context result.table).spell result.root) }
     {
         let TreeDraft {
             context,

@@ -1,11 +1,12 @@
 //! All entries of a tree.
-ghost use Rattle.std.specs.Prelude.{◌≡◌, ℕ, ◌≤◌, ◌<◌, length, slice_index_or};
+ghost use Rattle.std.specs.Prelude.{◌≡◌, ℕ, ◌≤◌, ◌<◌, [], length, slice_index_or};
 ghost use Rattle.std.specs.Iterator.{YieldsFirst, item_count};
 ghost use Rattle.dw_tree.specs.declared.row.Row.{Row};
 ghost use Rattle.dw_tree.specs.Flat.{IsEntry, IsNull};
-ghost use Rattle.dw_tree.specs.Lent.{entries_of};
+ghost use Rattle.dw_tree.specs.Lent.{entries_of, from_offset};
 
 use crate::entry::EntryRef;
+use crate::find::row_at;
 use crate::row::{Row, RowKind};
 use crate::tree::EntryTree;
 use std::marker::Model;
@@ -39,6 +40,30 @@ impl EntryTree {
         ensures { result ≡ entries_of self.now }
     {
         Entries { tree: self, at: 0 }
+    }
+
+    /// The entries from the one on that begins exactly at this offset, counted from the unit's first byte, each before those
+    /// below it; none where no entry begins there (section 7.5.2). So a caller that keeps an entry's offset goes on from it.
+    /// No memory is taken.
+    pub fn entries_from(&self, offset: u64) -> Entries<'_>
+        ensures { result ≡ from_offset offset (entries_of self.now) }
+    {
+        let Some(at) = row_at(&self.rows, offset) else {
+            return self.no_entries();
+        };
+        match self.rows[at].kind {
+            RowKind::Null => self.no_entries(),
+            _ => Entries { tree: self, at },
+        }
+    }
+
+    fn no_entries(&self) -> Entries<'_>
+        ensures { result ≡ [] }
+    {
+        Entries {
+            tree: self,
+            at: self.rows.len(),
+        }
     }
 }
 

@@ -5,7 +5,7 @@ ghost use Rattle.dw_form.specs.Form.{IsContext};
 ghost use Rattle.dw_form.specs.Lent.{attribute_of};
 ghost use Rattle.dw_form.specs.Pieces.{HasSpelling};
 ghost use Rattle.dw_abbrev.specs.PairView.{pair_of};
-ghost use Rattle.dw_tree.specs.Tree.{tree as part, nesting};
+ghost use Rattle.dw_tree.specs.Tree.{unit_tree};
 ghost use Rattle.dw_tree.specs.RowHeads.{Here};
 ghost use Rattle.dw_tree.specs.Lent.{EntryAt, entries_of};
 ghost use Rattle.dw_tree.specs.Patch.{patch_in, new_head};
@@ -27,8 +27,8 @@ impl EntryTree {
     pub fn put_number(&mut self, offset: u64, name: u64, number: i128)
         requires { Takes (record { offset = offset; name = name; number = number }) self.old }
         ensures put { self.new ≡ put (record { offset = offset; name = name; number = number }) self.old }
-        ensures fits { (part self.new.context self.new.table (nesting - 1)).Fits self.new.root }
-        ensures size { length ((part self.new.context self.new.table (nesting - 1)).spell self.new.root) ≡ length ((part self.old.context self.old.table (nesting - 1)).spell self.old.root) }
+        ensures fits { (unit_tree self.new.context self.new.table).Fits self.new.root }
+        ensures size { length ((unit_tree self.new.context self.new.table).spell self.new.root) ≡ length ((unit_tree self.old.context self.old.table).spell self.old.root) }
         ensures offsets { map (λ (e : EntryAt). e.offset) (entries_of self.new) ≡ map (λ (e : EntryAt). e.offset) (entries_of self.old) }
     {
         let row = match row_at(&self.rows, offset) {

@@ -1,6 +1,6 @@
 //! Trees of entries (section 2.3).
 ghost use Rattle.std.specs.Prelude.{◌≡◌, ◌≤◌, ◌-◌, ◌*◌, length};
-ghost use Rattle.dw_tree.specs.Tree.{tree as part, nesting};
+ghost use Rattle.dw_tree.specs.Tree.{unit_tree};
 ghost use Rattle.dw_tree.specs.Row.{rows_of};
 ghost use Rattle.dw_tree.specs.PoolBytes.{held};
 ghost use Rattle.dw_tree.specs.RowHeads.{rows_heads};
@@ -54,7 +54,7 @@ impl EntryTree {
     /// entry. A row is kept in 40 bytes.
     pub fn row_count(&self) -> usize
         ensures exact { result ≡ length (rows_of self.now.root) }
-        ensures short { result ≤ length ((part self.now.context self.now.table (nesting - 1)).spell self.now.root) }
+        ensures short { result ≤ length ((unit_tree self.now.context self.now.table).spell self.now.root) }
     {
         self.rows.len()
     }
@@ -63,7 +63,7 @@ impl EntryTree {
     /// content, and what finds the content among those of the tree. It keeps no others.
     pub fn heads(&self) -> &[u8]
         ensures exact { result.now ≡ rows_heads self.now.context self.now.table 0 (rows_of self.now.root) }
-        ensures short { length result.now ≤ 16 * length ((part self.now.context self.now.table (nesting - 1)).spell self.now.root) }
+        ensures short { length result.now ≤ 16 * length ((unit_tree self.now.context self.now.table).spell self.now.root) }
     {
         &self.heads
     }
@@ -71,7 +71,7 @@ impl EntryTree {
     /// The bytes of its texts and blocks, in the order of the entries. It keeps no others.
     pub fn content(&self) -> &[u8]
         ensures exact { result.now ≡ held (rows_of self.now.root) }
-        ensures short { length result.now ≤ length ((part self.now.context self.now.table (nesting - 1)).spell self.now.root) }
+        ensures short { length result.now ≤ length ((unit_tree self.now.context self.now.table).spell self.now.root) }
     {
         &self.pool
     }

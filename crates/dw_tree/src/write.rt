@@ -6,7 +6,7 @@ ghost use Rattle.dw_leb.specs.Scan.{is_last};
 ghost use Rattle.dw_abbrev.specs.PairView.{pair_of};
 ghost use Rattle.dw_abbrev.specs.Table.{zero_of};
 ghost use Rattle.dw_form.specs.Form.{IsContext};
-ghost use Rattle.dw_tree.specs.Tree.{tree as part, nesting};
+ghost use Rattle.dw_tree.specs.Tree.{unit_tree};
 ghost use Rattle.dw_tree.specs.Row.{row_bytes};
 ghost use Rattle.dw_tree.specs.RowHeads.{Here, First, run_bytes, first_bytes, behind_first};
 ghost use Rattle.dw_tree.specs.Runs.{size_of_shape};
@@ -29,8 +29,8 @@ impl EntryTree {
     /// Errors: `Io` with the kind of the writer's failure, `WriteZero` where it took no byte of some.
     pub fn write<W: Write>(&self, writer: &mut Watched<W>) -> Result<(), WriteError>
         requires { fault_of writer.old ≡ None }
-        ensures written { Wrote (W.contents (inner_of writer.old)) (W.contents (inner_of writer.new)) ((part self.now.context self.now.table (nesting - 1)).spell self.now.root) result }
-        ensures fits { (part self.now.context self.now.table (nesting - 1)).Fits self.now.root }
+        ensures written { Wrote (W.contents (inner_of writer.old)) (W.contents (inner_of writer.new)) ((unit_tree self.now.context self.now.table).spell self.now.root) result }
+        ensures fits { (unit_tree self.now.context self.now.table).Fits self.now.root }
         ensures fault { fault_of writer.new ≡ writer_fault result }
     {
         let mut gathered = Gathered::new();

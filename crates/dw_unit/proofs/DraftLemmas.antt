@@ -15,7 +15,7 @@ use Rattle.dw_form.specs.Pieces.{HasSpelling, spelling, has_spelling}
 use Rattle.dw_abbrev.specs.Build.{is_width}
 use Rattle.dw_abbrev.specs.Table.{Pair, Declaration, Table, declared, zero_of}
 use Rattle.dw_form.specs.declared.shape.Ctx.{Ctx}
-use Rattle.dw_tree.specs.Tree.{Tree, Forest, none, more, leaf, branch, declared_pairs, nulls, AreNulls, nesting, tree as part}
+use Rattle.dw_tree.specs.Tree.{Tree, Forest, none, more, leaf, branch, declared_pairs, nulls, AreNulls, nesting, tree as part, unit_tree}
 use Rattle.dw_tree.specs.Row.{push}
 use Rattle.dw_tree.specs.Place.{Frame, Spot, leave_from, PartialValue, UnfinishedEntry, Place}
 use Rattle.dw_tree.specs.Steps.{Growing, TreeAt, settled, settle_by, settle, begun_at, value_at, with_value, partial_in, partial_attribute, ended_by, ended as ended_at, closed_at, undone as undone_at, end_of, finished as finished_at, whole_tree, FirstsFit, FirstFits, NextFits, first_bytes, next_bytes, next_pairs, next_pair}
@@ -304,7 +304,7 @@ finished_is g t e = by (whole_tree g.place.spot.above g.place.spot.left g.place.
     by (Some x) h = let same : build x ≡ t = cc in sym same ∙ ap (λ (s : TreeAt). build s.root) same
 
 module _ (d : Drafted) (tree : Growing) (padded_by size : ℕ) (i : IsDrafted d tree padded_by) (sized : size ≡ drafted_size d) where
-  module _ (t : TreeAt) (whole : finished_at tree ≡ Some t) (fits : (part t.context t.table (nesting - 1)).Fits t.root) (ends : end_of tree ≡ t.start + length ((part t.context t.table (nesting - 1)).spell t.root)) where
+  module _ (t : TreeAt) (whole : finished_at tree ≡ Some t) (fits : (unit_tree t.context t.table).Fits t.root) (ends : end_of tree ≡ t.start + length ((unit_tree t.context t.table).spell t.root)) where
     abbrev same_tree : TreeAt
     same_tree = record { context = context_of d.header; table = d.table; start = header_size d.header; root = t.root }
 
@@ -318,7 +318,7 @@ module _ (d : Drafted) (tree : Growing) (padded_by size : ℕ) (i : IsDrafted d 
     tree_part = part (context_of d.header) d.table (nesting - 1)
 
     tree_fits : tree_part.Fits t.root
-    tree_fits = subst (λ (s : TreeAt). (part s.context s.table (nesting - 1)).Fits s.root) tree_same fits
+    tree_fits = subst (λ (s : TreeAt). (unit_tree s.context s.table).Fits s.root) tree_same fits
 
     abbrev body : List ℕ
     body = body_bytes unit_here
@@ -327,7 +327,7 @@ module _ (d : Drafted) (tree : Growing) (padded_by size : ℕ) (i : IsDrafted d 
     body_size =
         let f = (fields d.header.order d.header.format).spell (fields_of d.header) in
         let r = tree_part.spell t.root in
-        let one = ends ∙ ap (λ (s : TreeAt). s.start + length ((part s.context s.table (nesting - 1)).spell s.root)) tree_same in
+        let one = ends ∙ ap (λ (s : TreeAt). s.start + length ((unit_tree s.context s.table).spell s.root)) tree_same in
         let all = ap end_of i.tree_is in
         omega (arith, length-append f (r ++ nulls d.padding), length-append r (nulls d.padding), one, all, sized)
 

@@ -2,7 +2,7 @@
 use Rattle.std.proofs.Common.{◌≡◌, ℕ, ◌-◌, List, ◌++◌, length, sym, ap, subst, ◌∙◌, arith, length-append}
 use Rattle.dw_leb.specs.Number.{length_field, initial_length}
 use Rattle.dw_header.specs.Header.{fields, fields_of, context_of}
-use Rattle.dw_tree.specs.Tree.{tree, nesting, nulls}
+use Rattle.dw_tree.specs.Tree.{tree, nesting, nulls, unit_tree}
 use Rattle.dw_tree.specs.Steps.{TreeAt}
 use Rattle.dw_tree.specs.Put.{Edit, put}
 use Rattle.dw_unit.specs.Unit.{WholeUnit, UnitFits, body_bytes, bytes_of, tree_of}
@@ -11,10 +11,10 @@ use Rattle.dw_unit.specs.Put.{put_in_unit}
 
 -- a tree as the part says it
 abbrev pub TreeFits : TreeAt → Type 0
-TreeFits t = (tree t.context t.table (nesting - 1)).Fits t.root
+TreeFits t = (unit_tree t.context t.table).Fits t.root
 
 abbrev pub tree_size : TreeAt → ℕ
-tree_size t = length ((tree t.context t.table (nesting - 1)).spell t.root)
+tree_size t = length ((unit_tree t.context t.table).spell t.root)
 
 -- a unit with another tree
 abbrev pub with_tree : WholeUnit → TreeAt → WholeUnit

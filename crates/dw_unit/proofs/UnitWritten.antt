@@ -4,7 +4,7 @@ use Rattle.std.proofs.lemmas.List.{length-append}
 use Rattle.dw_leb.specs.Number.{length_field, length_size}
 use Rattle.dw_leb.specs.DecideNumber.{initial-size}
 use Rattle.dw_header.specs.Header.{fields, fields_of, context_of}
-use Rattle.dw_tree.specs.Tree.{tree, nulls, nesting}
+use Rattle.dw_tree.specs.Tree.{nulls, unit_tree}
 use Rattle.dw_unit.specs.Unit.{WholeUnit, body_bytes, bytes_of}
 
 -- the length field counts what follows it
@@ -18,7 +18,7 @@ abbrev pub head_bytes : WholeUnit → ℕ → List ℕ
 head_bytes u n = (length_field u.header.order).spell (u.header.format, n) ++ (fields u.header.order u.header.format).spell (fields_of u.header)
 
 abbrev pub root_bytes : WholeUnit → List ℕ
-root_bytes u = (tree (context_of u.header) u.table (nesting - 1)).spell u.root
+root_bytes u = (unit_tree (context_of u.header) u.table).spell u.root
 
 pub parted : (u : WholeUnit) (n : ℕ) → n ≡ length (body_bytes u) → head_bytes u n ++ (root_bytes u ++ nulls u.padding) ≡ bytes_of u
 parted u n is =

@@ -10,7 +10,7 @@ use Rattle.dw_form.specs.declared.shape.Ctx.{Ctx}
 use Rattle.dw_abbrev.specs.Table.{Table, TableAt}
 use Rattle.dw_header.specs.declared.versions.Versions.{Versions}
 use Rattle.dw_header.specs.Header.{Header, fields, fields_of, context_of}
-use Rattle.dw_tree.specs.Tree.{Tree, tree, nesting, nulls, AreNulls, PaddingBreaks}
+use Rattle.dw_tree.specs.Tree.{Tree, tree, nesting, nulls, AreNulls, PaddingBreaks, unit_tree}
 use Rattle.dw_unit.specs.Unit.{WholeUnit, body_bytes, bytes_of, UnitFrontUnder, left_behind, EntriesBreak, BodyBreaksUnder, UnitBreaksUnder, UnitAtUnder, FailsUnder}
 use Rattle.dw_header.specs.HeaderPlace.{SpelledHeaderUnder, HeaderAtUnder, header_size}
 use Rattle.dw_leb.specs.declared.errors.SectionId.{SectionId}
@@ -109,7 +109,7 @@ abbrev field_bytes : Header → List ℕ
 field_bytes h = (fields h.order h.format).spell (fields_of h)
 
 abbrev pub rest_bytes : WholeUnit → List ℕ
-rest_bytes u = (tree (context_of u.header) u.table (nesting - 1)).spell u.root ++ nulls u.padding
+rest_bytes u = (unit_tree (context_of u.header) u.table).spell u.root ++ nulls u.padding
 
 -- the header of a unit at the front stands there, with the unit's length
 pub unit_headed : (versions : Versions) (order : Order) (bytes : List ℕ) (u : WholeUnit) (size : ℕ) (h : UnitFrontUnder versions order bytes u size) → SpelledHeaderUnder versions order bytes u.header.format (length (body_bytes u)) (fields_of u.header) (rest_bytes u ++ h.rest)
@@ -172,7 +172,7 @@ body_take : (versions : Versions) (order : Order) (bytes : List ℕ) (u : WholeU
 body_take versions order bytes u size h =
     let n : ℕ = length (body_bytes u) in
     let f : List ℕ = field_bytes u.header in
-    let root : List ℕ = (tree (context_of u.header) u.table (nesting - 1)).spell u.root in
+    let root : List ℕ = (unit_tree (context_of u.header) u.table).spell u.root in
     let size_f : n ≡ length f + length (rest_bytes u) = length-append f (rest_bytes u) in
     let size_e : length (rest_bytes u) ≡ length root + length (nulls u.padding) = length-append root (nulls u.padding) in
     let total : length (bytes_of u) ≡ length (len_bytes u.header n) + n = length-append (len_bytes u.header n) (body_bytes u) in

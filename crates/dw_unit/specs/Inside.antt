@@ -14,7 +14,7 @@ use Rattle.dw_leb.specs.DecideNumber.{uleb_field, initial_length_field}
 use Rattle.dw_form.specs.declared.shape.Ctx.{Ctx}
 use Rattle.dw_form.specs.Form.{attribute}
 use Rattle.dw_abbrev.specs.Table.{Pair, Table, is_null, declared}
-use Rattle.dw_tree.specs.Tree.{Forest, Body, values, declared_pairs, declares_children, bad_root, bad_child, body, children, tree, nesting, nulls, not_null, MoreBreaks, PaddingBreaks}
+use Rattle.dw_tree.specs.Tree.{Forest, Body, values, declared_pairs, declares_children, bad_root, bad_child, body, children, tree, nesting, nulls, not_null, MoreBreaks, PaddingBreaks, unit_tree}
 use Rattle.dw_header.specs.declared.versions.Versions.{Versions}
 use Rattle.dw_header.specs.Header.{Header, added_sizes, numbers, bad_version_under, bad_type, bad_address_size, five_part, four_part, fields_behind, fields_under, context_of}
 use Rattle.dw_header.specs.HeaderPlace.{HeaderBreaksUnder, HeaderAtUnder, header_size}
@@ -134,7 +134,7 @@ more_inside bytes lim offset reason h = code_inside not_null bytes lim offset re
 pub entries_inside : (k : Ctx) (t : Table) → Inside (EntriesBreak k t)
 entries_inside k t bytes lim offset reason (inl one) = tree_inside k t (nesting - 1) bytes lim offset reason one
 entries_inside k t bytes lim offset reason (inr two) =
-    After_inside ((tree k t (nesting - 1)).spell two.0) PaddingBreaks (λ b l o r h. After_inside (nulls h.0) MoreBreaks more_inside b l o r h.2) bytes lim offset reason two.2
+    After_inside ((unit_tree k t).spell two.0) PaddingBreaks (λ b l o r h. After_inside (nulls h.0) MoreBreaks more_inside b l o r h.2) bytes lim offset reason two.2
 
 -- ---- units
 

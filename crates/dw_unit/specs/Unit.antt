@@ -12,7 +12,7 @@ use Rattle.dw_header.specs.declared.versions.Versions.{Versions}
 use Rattle.dw_header.specs.declared.versions.Versions.TheVariants.{Five}
 use Rattle.dw_header.specs.Header.{Header, Accepts, versions_for, HeaderFits, fields, fields_of, context_of}
 use Rattle.dw_header.specs.HeaderPlace.{HeaderAtUnder, HeaderBreaksUnder, header_size}
-use Rattle.dw_tree.specs.Tree.{Tree, tree, nesting, nulls, AreNulls, PaddingBreaks}
+use Rattle.dw_tree.specs.Tree.{Tree, tree, nulls, AreNulls, PaddingBreaks, unit_tree}
 use Rattle.dw_tree.specs.Steps.{TreeAt}
 
 -- a header, the table of its entries' declarations, the root with all entries below it, and the widths of the nulls after it
@@ -24,7 +24,7 @@ pub record WholeUnit : Type 0 where
 
 -- what the initial length counts
 abbrev pub body_bytes : WholeUnit → List ℕ
-body_bytes u = (fields u.header.order u.header.format).spell (fields_of u.header) ++ ((tree (context_of u.header) u.table (nesting - 1)).spell u.root ++ nulls u.padding)
+body_bytes u = (fields u.header.order u.header.format).spell (fields_of u.header) ++ ((unit_tree (context_of u.header) u.table).spell u.root ++ nulls u.padding)
 
 -- the one spelling of a unit: its length is computed from what follows it
 abbrev pub bytes_of : WholeUnit → List ℕ
@@ -34,7 +34,7 @@ bytes_of u = (length_field u.header.order).spell (u.header.format, length (body_
 pub record UnitFits (u : WholeUnit) : Type 0 where
   pub length_fits : (initial_length u.header.order 0).Fits (u.header.format, length (body_bytes u))
   pub header_fits : HeaderFits u.header
-  pub tree_fits : (tree (context_of u.header) u.table (nesting - 1)).Fits u.root
+  pub tree_fits : (unit_tree (context_of u.header) u.table).Fits u.root
   pub padding_fits : AreNulls u.padding
 
 -- the tree of a unit: the root stands behind the header
@@ -58,8 +58,8 @@ left_behind h n = length_size h.format + n - header_size h
 
 -- behind its header a unit breaks in its root, or behind a root that is spelled in its padding
 abbrev pub EntriesBreak : Ctx → Table → Breaks
-EntriesBreak k t bytes lim offset reason = (tree k t (nesting - 1)).Break bytes lim offset reason
-    ⊎ ((root : Tree) × (tree k t (nesting - 1)).Fits root × After ((tree k t (nesting - 1)).spell root) PaddingBreaks bytes lim offset reason)
+EntriesBreak k t bytes lim offset reason = (unit_tree k t).Break bytes lim offset reason
+    ⊎ ((root : Tree) × (unit_tree k t).Fits root × After ((unit_tree k t).spell root) PaddingBreaks bytes lim offset reason)
 
 -- the entries break, behind a header that is spelled; the table is one that goes with the header's offset
 pub record BodyBreaksUnder (versions : Versions) (order : Order) (IsTable : ℕ → Table → Type 0) (bytes : List ℕ) (offset : ℕ) (reason : Reason) : Type 0 where

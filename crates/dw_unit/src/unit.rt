@@ -1,7 +1,7 @@
 //! Units (section 7.5).
 ghost use Rattle.std.specs.Prelude.{◌≡◌, ◌≢◌, ◌↔◌, length, None, Some, IfSome};
 ghost use Rattle.std.specs.List.{All, Contains};
-ghost use Rattle.dw_tree.specs.Lent.{EntryAt, root_of, entries_of, find_at};
+ghost use Rattle.dw_tree.specs.Lent.{EntryAt, root_of, entries_of, find_at, from_offset};
 ghost use Rattle.dw_unit.specs.Unit.{UnitFits, bytes_of, tree_of};
 ghost use Rattle.dw_unit.specs.UnitView.{IsUnit};
 
@@ -101,5 +101,14 @@ impl Unit {
         ensures { result ≡ entries_of (tree_of self.now) }
     {
         self.tree.entries()
+    }
+
+    /// The entries from the one on that begins exactly at this offset, counted from the unit's first byte, each before those
+    /// below it; none where no entry begins there (section 7.5.2). So a caller that keeps an entry's offset goes on from it.
+    /// No memory is taken.
+    pub fn entries_from(&self, offset: u64) -> Entries<'_>
+        ensures { result ≡ from_offset offset (entries_of (tree_of self.now)) }
+    {
+        self.tree.entries_from(offset)
     }
 }

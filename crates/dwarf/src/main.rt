@@ -1,17 +1,17 @@
 //! The program `dwarf`: reads and writes DWARF 5 debugging entries. It ends with status 0 where all
 //! is well, 1 where the sections are refused, 2 where the command line is, 3 where a file or the
 //! output failed, and 4 where there was no memory, and says why on standard error. Which status and
-//! which line that is, `dw_tool::failure` and `dw_line::outcome` say.
+//! which line that is, `dw_tool::failure` and `dw_cli::outcome` say.
 #![tactic(auto)]
 
 ghost use Rattle.std.specs.Prelude.{◌≡◌, map};
-ghost use Rattle.dw_line.specs.Run.{EndsLine, EndsWith};
+ghost use Rattle.dw_cli.specs.Run.{EndsLine, EndsWith};
 ghost use Rattle.dw_tool.specs.Failure.{exit_status};
 
 use dw_leb::Watched;
-use dw_line::line::{line, unreadable};
-use dw_line::outcome::{Line, LineError};
-use dw_line::run::run_line;
+use dw_cli::line::{line, unreadable};
+use dw_cli::outcome::{Line, LineError};
+use dw_cli::run::run_line;
 use dw_tool::failure::{Failure, exit_status};
 use dw_tool::status::Status;
 use std::io::{BufReader, BufWriter, Write};

@@ -18,7 +18,7 @@
 //!   `read_section_as` also reads units of version 4;
 //! - `Section` holds the units of a whole section: looked up by item, `EntryId` and offset; `Section::resolve`
 //!   names the entry that a reference means, or says by `RefFault` why there is none; so does
-//!   `Section::resolve_among`, faster for many references of one unit, with the offsets of its entries in a `Begins`;
+//!   `Section::resolve_among`, faster for many references of one unit, with the offsets of its entries in a `EntryOffsets`;
 //!   `Section::set_number` puts a number in the place of that of an attribute, or says by `SetRefusal` why it doesn't;
 //! - `Strings` holds the sections of texts: `Strings::text` lends the text that an attribute names, or says by
 //!   `StrFault` why there is none;
@@ -40,7 +40,7 @@ pub use dw_leb::{
     Fault, Format, Order, ReadError, Reason, SectionId, Sleb, Uleb, Watched, WriteError, constants,
 };
 pub use dw_section::{
-    Begins, EntryId, Item, RefFault, Section, SectionRefusal, SetRefusal, read_section,
+    EntryOffsets, EntryId, Item, RefFault, Section, SectionRefusal, SetRefusal, read_section,
     read_section_as, write_section,
 };
 pub use dw_strings::{StrFault, Strings, TextPlace};

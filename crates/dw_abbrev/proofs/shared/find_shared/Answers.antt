@@ -1,7 +1,7 @@
 use Rattle.std.proofs.Common.{◌∙◌, List, sym, ap}
 use Rattle.dw_abbrev.specs.Table.{Declaration, declared_in}
 use Rattle.dw_abbrev.specs.TableView.{joined}
-use Rattle.dw_abbrev.proofs.SharedLemmas.{declared_before, declared_after, none_joined}
+use Rattle.dw_abbrev.proofs.ListLemmas.{declared_before, declared_after, none_joined}
 use Rattle.dw_abbrev.proofs.shared.find_shared.Goals as goal
 
 pub returns-in-Some-get : goal.returns-in-Some-get

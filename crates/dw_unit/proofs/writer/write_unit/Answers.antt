@@ -3,7 +3,7 @@ use Rattle.std.specs.Io.KnownBytes.{Appends}
 use Rattle.dw_leb.specs.Watch.{inner_of, Wrote, AppendsFront}
 use Rattle.dw_leb.specs.Transfers.{wrote_then, wrote_err}
 use Rattle.dw_leb.specs.Number.{length_size}
-use Rattle.dw_tree.specs.Tree.{tree, nulls, nesting}
+use Rattle.dw_tree.specs.Tree.{nulls, unit_tree}
 use Rattle.dw_tree.specs.Steps.{TreeAt}
 use Rattle.dw_unit.specs.Unit.{WholeUnit, body_bytes, bytes_of, UnitFits}
 use Rattle.dw_header.specs.declared.versions.Versions.TheVariants.{FourAndFive}
@@ -33,7 +33,7 @@ returns-in_err-write-clause-written g c =
     let a = g.W.Write.contents (inner_of c.args.writer.now) in
     let b = g.W.Write.contents (inner_of c.write_header.new.writer) in
     let d = g.W.Write.contents (inner_of c.write.new.writer) in
-    let root_is : (tree i.tree.context i.tree.table (nesting - 1)).spell i.tree.root ≡ root_bytes u = ap (λ (w : TreeAt). (tree w.context w.table (nesting - 1)).spell w.root) c.unit.invariant.tree_is in
+    let root_is : (unit_tree i.tree.context i.tree.table).spell i.tree.root ≡ root_bytes u = ap (λ (w : TreeAt). (unit_tree w.context w.table).spell w.root) c.unit.invariant.tree_is in
     let r = c.from_residual-in_err-write.result in
     let front : AppendsFront b d (root_bytes u) = subst (λ (bytes : List ℕ). AppendsFront b d bytes) root_is c.in_err-write.ensures.written in
     subst (λ (bytes : List ℕ). Wrote a d bytes r) same
@@ -50,7 +50,7 @@ returns-clause-written g c =
     let a = g.W.Write.contents (inner_of c.args.writer.now) in
     let b = g.W.Write.contents (inner_of c.write_header.new.writer) in
     let d = g.W.Write.contents (inner_of c.write.new.writer) in
-    let root_is : (tree i.tree.context i.tree.table (nesting - 1)).spell i.tree.root ≡ root_bytes u = ap (λ (w : TreeAt). (tree w.context w.table (nesting - 1)).spell w.root) c.unit.invariant.tree_is in
+    let root_is : (unit_tree i.tree.context i.tree.table).spell i.tree.root ≡ root_bytes u = ap (λ (w : TreeAt). (unit_tree w.context w.table).spell w.root) c.unit.invariant.tree_is in
     let e = g.W.Write.contents (inner_of c.write_nulls.new.writer) in
     let r = c.write_nulls.result in
     let second : Appends b d (root_bytes u) = subst (λ (bytes : List ℕ). Appends b d bytes) root_is c.in_ok-write.ensures.written in

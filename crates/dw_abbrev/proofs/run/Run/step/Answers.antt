@@ -3,8 +3,6 @@ use Rattle.std.proofs.lemmas.Bool.{ne_eqb}
 use Rattle.dw_leb.specs.View.{uleb_of}
 use Rattle.dw_leb.specs.Field.{are_bytes}
 use Rattle.dw_abbrev.specs.Table.{Declaration, is_null}
-use Rattle.dw_abbrev.specs.TableView.{decls_in}
-use Rattle.dw_abbrev.proofs.TableLemmas.{keyed-push, decls-push}
 use Rattle.dw_abbrev.proofs.RunLemmas.{zero_stands, declaration_there, row_there, rows_pushed}
 use Rattle.dw_abbrev.proofs.run.Run.step.Goals as goal
 
@@ -24,12 +22,11 @@ returns-in_ok-push-in-Ok-decl_behind c =
     let some : is_null (uleb_of c.in-Ok.code) ≡ false = ne_eqb c.in-Ok.code.value 0 c.if-code-eq0.false in
     let row = row_there abbreviations fit c.args.here (uleb_of c.in-Ok.code) c.in-Ok.behind c.in-Ok.ensures.ok decl c.in-Ok-decl_behind.ensures.code some next c.in-Ok-decl_behind.ensures.ok in
     let fits = declaration_there abbreviations fit c.args.here (uleb_of c.in-Ok.code) c.in-Ok.behind c.in-Ok.ensures.ok decl c.in-Ok-decl_behind.ensures.code some next c.in-Ok-decl_behind.ensures.ok in
-    let rows = rows_pushed abbreviations old.starts.items (decls_in old.decls.entries) c.args.here decl next c.requires.rows row fits in
+    let rows = rows_pushed abbreviations old.starts.items old.decls c.args.here decl next c.requires.rows row fits in
     let e = c.in_ok-push-in-Ok-decl_behind.ensures in (
       omega (arith, c.in-Ok.ensures.forward.0, c.in-Ok-decl_behind.ensures.forward.0),
       record {
         within = c.in-Ok-decl_behind.ensures.forward.1;
-        keyed = rw e.decls (keyed-push old.decls.entries decl c.requires.keyed);
-        rows = rw (e.decls, e.starts, decls-push old.decls.entries decl) rows;
+        rows = rw (e.decls, e.starts) rows;
       },
     )

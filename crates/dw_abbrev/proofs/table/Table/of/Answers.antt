@@ -1,4 +1,4 @@
 use Rattle.dw_abbrev.proofs.table.Table.of.Goals as goal
 
 pub invariant_of-result : goal.invariant_of-result
-invariant_of-result c = rw c.new-shared.ensures.items (record { keyed = c.requires.keyed; zero = c.requires.zero; fits = c.requires.fits })
+invariant_of-result c = rw c.new-shared.ensures.items (record { zero = c.requires.zero; fits = c.requires.fits })

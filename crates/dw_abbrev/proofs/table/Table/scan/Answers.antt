@@ -4,32 +4,30 @@ use Rattle.std.proofs.lemmas.Bool.{eq-eqb, ne_eqb}
 use Rattle.std.proofs.lemmas.Result.{err_from_is_err_and}
 use Rattle.dw_leb.specs.Field.{are_bytes}
 use Rattle.dw_abbrev.specs.Table.{is_null}
-use Rattle.dw_abbrev.specs.TableView.{decls_in}
-use Rattle.dw_abbrev.proofs.TableLemmas.{no_decls, code_fails, table_there, table_fits, declaration_fails, one_declaration, keyed-push, declares, no_memory}
+use Rattle.dw_abbrev.proofs.TableLemmas.{no_decls, code_fails, table_there, table_fits, declaration_fails, one_declaration, declares, no_memory}
 use Rattle.dw_abbrev.proofs.table.Table.scan.Goals as goal
 
 pub loop-decls-init : goal.loop-decls-init
-loop-decls-init c = rw c.new-decls.ensures.empty (record { read = no_decls c.args.abbreviations.now c.args.at c.requires; keyed = tt; begun = inl refl; within = c.requires; keeps = refl })
+loop-decls-init c = rw c.new-decls.ensures (record { read = no_decls c.args.abbreviations.now c.args.at c.requires; begun = inl refl; within = c.requires; keeps = refl })
 
 pub returns-in_err-code-clause-err : goal.returns-in_err-code-clause-err
 returns-in_err-code-clause-err c =
     let p = err_from_is_err_and c.from_residual.result c.from_residual.ensures.1 in
-    rw (p.1, p.2) (code_fails c.args.abbreviations.now c.args.at c.loop-decls.decls.entries c.loop-decls.here c.loop-decls.invariant.read _ c.in_err-code.ensures.err)
+    rw (p.1, p.2) (code_fails c.args.abbreviations.now c.args.at c.loop-decls.decls c.loop-decls.here c.loop-decls.invariant.read _ c.in_err-code.ensures.err)
 
 pub returns-then-code-eq0-clause-ok : goal.returns-then-code-eq0-clause-ok
 returns-then-code-eq0-clause-ok c = rw c.new.ensures.items (
   c.in_ok-code.behind,
-  table_there c.args.abbreviations.now c.args.at c.loop-decls.decls.entries c.loop-decls.here c.loop-decls.invariant.read (uleb_of c.in_ok-code.code) c.in_ok-code.behind c.in_ok-code.ensures.ok
+  table_there c.args.abbreviations.now c.args.at c.loop-decls.decls c.loop-decls.here c.loop-decls.invariant.read (uleb_of c.in_ok-code.code) c.in_ok-code.behind c.in_ok-code.ensures.ok
       (eq-eqb c.in_ok-code.code.value 0 (omega arith)),
 )
 
 pub invariant_of-result : goal.invariant_of-result
 invariant_of-result c = rw c.new.ensures.items (record {
-  keyed = c.loop-decls.invariant.keyed;
   zero = omega arith;
-  fits = table_fits c.args.abbreviations.now c.args.at (are_bytes c.args.abbreviations.now (λ k. omega (arith, c.type_inv.abbreviations k))) (record { declarations = decls_in c.loop-decls.decls.entries; last_zero = c.in_ok-code.code.width })
+  fits = table_fits c.args.abbreviations.now c.args.at (are_bytes c.args.abbreviations.now (λ k. omega (arith, c.type_inv.abbreviations k))) (record { declarations = c.loop-decls.decls; last_zero = c.in_ok-code.code.width })
       c.in_ok-code.behind
-      (table_there c.args.abbreviations.now c.args.at c.loop-decls.decls.entries c.loop-decls.here c.loop-decls.invariant.read (uleb_of c.in_ok-code.code) c.in_ok-code.behind c.in_ok-code.ensures.ok
+      (table_there c.args.abbreviations.now c.args.at c.loop-decls.decls c.loop-decls.here c.loop-decls.invariant.read (uleb_of c.in_ok-code.code) c.in_ok-code.behind c.in_ok-code.ensures.ok
       (eq-eqb c.in_ok-code.code.value 0 (omega arith)));
 })
 
@@ -37,15 +35,14 @@ pub returns-in_err-decl-clause-err : goal.returns-in_err-decl-clause-err
 returns-in_err-decl-clause-err c =
     let p = err_from_is_err_and c.from_residual-in_err-decl.result c.from_residual-in_err-decl.ensures.1 in
     let some : is_null (uleb_of c.in_ok-code.code) ≡ false = ne_eqb c.in_ok-code.code.value 0 c.if-code-eq0.false in
-    rw (p.1, p.2) (declaration_fails c.args.abbreviations.now c.args.at c.loop-decls.decls.entries c.loop-decls.here c.loop-decls.invariant.read (uleb_of c.in_ok-code.code) c.in_ok-code.behind c.in_ok-code.ensures.ok some _ c.in_err-decl.ensures.err)
+    rw (p.1, p.2) (declaration_fails c.args.abbreviations.now c.args.at c.loop-decls.decls c.loop-decls.here c.loop-decls.invariant.read (uleb_of c.in_ok-code.code) c.in_ok-code.behind c.in_ok-code.ensures.ok some _ c.in_err-decl.ensures.err)
 
 pub loop-decls-preserved : goal.loop-decls-preserved
 loop-decls-preserved c =
     let some : is_null (uleb_of c.in_ok-code.code) ≡ false = ne_eqb c.in_ok-code.code.value 0 c.if-code-eq0.false in
     rw c.in-Ok.ensures.ok (record {
-      read = one_declaration c.args.abbreviations.now c.args.at c.loop-decls.decls.entries c.loop-decls.here c.loop-decls.invariant.read (uleb_of c.in_ok-code.code) c.in_ok-code.behind c.in_ok-code.ensures.ok some c.in_ok-code.ensures.forward.0
+      read = one_declaration c.args.abbreviations.now c.args.at c.loop-decls.decls c.loop-decls.here c.loop-decls.invariant.read (uleb_of c.in_ok-code.code) c.in_ok-code.behind c.in_ok-code.ensures.ok some c.in_ok-code.ensures.forward.0
           c.in_ok-decl.decl c.in_ok-decl.ensures.code c.in_ok-decl.next c.in_ok-decl.ensures.ok;
-      keyed = keyed-push c.loop-decls.decls.entries c.in_ok-decl.decl c.loop-decls.invariant.keyed;
       begun = inr (declares c.args.abbreviations.now c.args.at (are_bytes c.args.abbreviations.now (λ k. omega (arith, c.type_inv.abbreviations k))) c.loop-decls.here c.loop-decls.invariant.begun _ (uleb_of c.in_ok-code.code) c.in_ok-code.behind c.in_ok-code.ensures.ok
           c.in_ok-code.ensures.forward.0 c.in_ok-code.ensures.forward.1 some);
       within = c.in_ok-decl.ensures.forward.1;

@@ -1,5 +1,5 @@
 use Rattle.std.proofs.Common.{◌≡◌, ◌+◌, drop, length}
-use Rattle.dw_abbrev.specs.TableView.{decls_in, joined}
+use Rattle.dw_abbrev.specs.TableView.{joined}
 use Rattle.dw_abbrev.specs.Runs.{StandTogether}
 use Rattle.dw_abbrev.proofs.tables.Tables.keep_each.Given as goal
 
@@ -8,7 +8,7 @@ abbrev pub invariant-loop-start : goal.invariant-loop-start
 invariant-loop-start l =
     record {
       same : l.self ≡ l.fn.self;
-      left : StandTogether l.fn.self l.left (drop l.from (decls_in l.run.value.entries)) (record { declarations = joined l.rest; last_zero = l.last_zero.width });
+      left : StandTogether l.fn.self l.left (drop l.from l.run.value) (record { declarations = joined l.rest; last_zero = l.last_zero.width });
       count : l.from + length l.left ≡ length l.starts;
     }
 

@@ -4,7 +4,7 @@ use Rattle.dw_form.specs.Form.{at_number}
 use Rattle.dw_unit.specs.Unit.{WholeUnit}
 use Rattle.dw_section.specs.declared.resolve.RefKind.{RefKind}
 use Rattle.dw_section.specs.declared.resolve.RefKind.TheVariants.{InUnit}
-use Rattle.dw_section.specs.Begins.{AreBegins, is_marked}
+use Rattle.dw_section.specs.EntryOffsets.{AreEntryOffsets, is_marked}
 use Rattle.dw_section.specs.Item.{Item}
 use Rattle.dw_section.specs.Lookup.{unit_at}
 use Rattle.dw_section.specs.Reference.{named_by, named_if, ref_forms}
@@ -12,7 +12,7 @@ use Rattle.dw_section.proofs.Named.{unit_there, ok_names}
 use Rattle.dw_section.proofs.section.Section.resolve_among.Goals as goal
 
 -- a number that is marked names the entry that begins there
-marked_named : (items : List Item) (item offset : ℕ) (u : WholeUnit) (words : List ℕ) (kind : Option RefKind) → kind ≡ Some InUnit → AreBegins u words → is_marked words offset ≡ true → named_by items item u offset kind ≡ Ok (record { item = item; offset = offset })
+marked_named : (items : List Item) (item offset : ℕ) (u : WholeUnit) (words : List ℕ) (kind : Option RefKind) → kind ≡ Some InUnit → AreEntryOffsets u words → is_marked words offset ≡ true → named_by items item u offset kind ≡ Ok (record { item = item; offset = offset })
 marked_named items item offset u words kind is begins marked = ap (named_by items item u offset) is ∙ begins item offset marked
 
 pub returns-then-knows-clause-named : goal.returns-then-knows-clause-named

@@ -2,7 +2,7 @@ use Rattle.std.proofs.Common.{◌≡◌, ◌+◌, ◌-◌, List, [], length, sym
 use Rattle.std.specs.Prelude.{IsSome}
 use Rattle.dw_form.specs.Form.{Attribute}
 use Rattle.dw_tree.specs.declared.row.Unfinished.{Unfinished}
-use Rattle.dw_tree.specs.Tree.{Tree, tree, nesting}
+use Rattle.dw_tree.specs.Tree.{Tree, unit_tree}
 use Rattle.dw_tree.specs.Row.{Token, rows_of, rows_bytes, rest_of, head_of, tree_of_rows}
 use Rattle.dw_tree.specs.Place.{spot_after, open_rows}
 use Rattle.dw_tree.specs.RowHeads.{Account}
@@ -93,7 +93,7 @@ returns-clause-fits c =
     let free_size : length (unfinished_bytes k t o) ≡ 0 = idle_size k t (spot_after xs).above (spot_after xs).left o h in
     let seen : tokens_at k t rows a.heads.items a.pool.items ≡ xs = tokens_are_in k t a.start rows a.heads.items a.pool.items a.nested.items a.unfinished a.here xs g.values l in
     let root : w.0 ≡ head_of (rest_of (tokens_at k t rows a.heads.items a.pool.items)).here = sym (tree_of_rows w.0) ∙ ap (λ (ys : List Token). head_of (rest_of ys).here) (sym (seen ∙ w.1)) in
-    subst (λ (x : Tree). (tree k t (nesting - 1)).Fits x) root
+    subst (λ (x : Tree). (unit_tree k t).Fits x) root
     (tree_fits k t w.0 a.start rows (subst (Stand k t a.start 1 rows) w.1 l.stand))
 
 pub returns-clause-size : goal.returns-clause-size
@@ -118,5 +118,5 @@ returns-clause-size c =
     let end = ap end_of (sym c.self.view_is) ∙ ends_here a c.self.invariant in
     let spelled = ap length (ap (λ (ys : List Token). rows_bytes k t ys) w.1
     ∙ (sym (tree_spelled k t w.0 a.start rows (subst (Stand k t a.start 1 rows) w.1 l.stand))
-    ∙ ap (λ (x : Tree). (tree k t (nesting - 1)).spell x) root)) in
+    ∙ ap (λ (x : Tree). (unit_tree k t).spell x) root)) in
     omega (arith, end, l.here_is, free_size, spelled)

@@ -1,0 +1,65 @@
+#!/usr/bin/env python3
+"""Looks whether what the documents quote of the sources stands there word for word.
+
+Usage: scripts/quoted.py
+
+A quotation is a fenced block of README.md or docs/*.md whose first line names a file below crates/ behind the language, as
+
+    ```antt dw_unit/specs/Unit.antt
+
+Its words have to stand in that file one behind the other, whatever the lines are; `..` alone on a line leaves out words. The last line is `N passed,
+M failed`, of the quotations, and the status is 0 where none failed.
+"""
+
+import glob
+import os
+import re
+import sys
+
+TOP = os.path.dirname(os.path.dirname(os.path.abspath(__file__)))
+BLOCK = re.compile(r"^```\w+ (\S+)\n(.*?)^```$", re.MULTILINE | re.DOTALL)
+
+
+def quotations(path):
+    """Of a document the quoted files with what is quoted, and the lines where the blocks begin."""
+    with open(path, encoding="utf-8") as file:
+        text = file.read()
+    for block in BLOCK.finditer(text):
+        yield block[1], block[2], text.count("\n", 0, block.start()) + 1
+
+
+def words_of(text):
+    return " ".join(text.split())
+
+
+def stands(quoted, source):
+    """Whether the parts of a quotation stand in the source, one behind the other."""
+    at = 0
+    for part in re.split(r"(?m)^\s*\.\.$", quoted):
+        found = source.find(words_of(part), at)
+        if found < 0:
+            return False
+        at = found + len(words_of(part))
+    return True
+
+
+def main():
+    passed = failed = 0
+    for document in ["README.md", *sorted(glob.glob("docs/**/*.md", root_dir=TOP, recursive=True))]:
+        for name, quoted, line in quotations(os.path.join(TOP, document)):
+            path = os.path.join(TOP, "crates", name)
+            is_there = os.path.isfile(path)
+            if is_there:
+                with open(path, encoding="utf-8") as file:
+                    is_there = stands(quoted, words_of(file.read()))
+            if is_there:
+                passed += 1
+            else:
+                failed += 1
+                print(f"{document}:{line}: not in crates/{name} word for word")
+    print(f"{passed} passed, {failed} failed")
+    return 0 if passed and not failed else 1
+
+
+if __name__ == "__main__":
+    sys.exit(main())
