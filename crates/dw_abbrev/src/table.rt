@@ -265,11 +265,7 @@ impl Table {
 
 /// The code at `at`, behind these declarations, and where what follows begins.
 #[inline(always)]
-fn code_at(
-    decls: &Decls,
-    abbreviations: &[u8],
-    at: usize,
-) -> Result<(Uleb, usize), ReadError>
+fn code_at(decls: &Decls, abbreviations: &[u8], at: usize) -> Result<(Uleb, usize), ReadError>
     requires within { at ≤ length abbreviations.now }
     ensures ok { IfOk result (λ x. Gives (read_code (map declaration_parts decls.now)) abbreviations.now at (uleb_of x.0) x.1) }
     ensures forward { IfOk result (λ x. (at < x.1) × (x.1 ≤ length abbreviations.now)) }

@@ -16,7 +16,7 @@ use crate::finding::{Finding, FindingKind, push_if};
 use crate::place::Place;
 use dw_leb::constants::attribute::DW_AT_SIBLING;
 use dw_leb::constants::form::*;
-use dw_section::{EntryOffsets, EntryId, RefFault, is_right_sibling};
+use dw_section::{EntryId, EntryOffsets, RefFault, is_right_sibling};
 use dw_strings::StrFault;
 use dw_unit::{AttrRef, EntryRef, NumberRef};
 use std::alloc::AllocError;

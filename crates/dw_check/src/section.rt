@@ -107,7 +107,13 @@ fn check_unit(
 /// Learns where the entries of the unit begin, unless that is learnt, where a value of this code can be a reference to one of
 /// them. Not where they are so few that their places would cost more than they save: in a unit with a large block or text, or
 /// with much padding. The memory is that of `spare`.
-fn learn_for(code: u64, is_learnt: &mut bool, begins: &mut EntryOffsets, spare: &mut EntryOffsets, unit: &Unit)
+fn learn_for(
+    code: u64,
+    is_learnt: &mut bool,
+    begins: &mut EntryOffsets,
+    spare: &mut EntryOffsets,
+    unit: &Unit,
+)
     requires { AreEntryOffsets unit.now begins.old }
     ensures { AreEntryOffsets unit.now begins.new }
 {

@@ -1,7 +1,7 @@
 //! How the program ends where memory is refused, or what it says can't be printed.
-use dw_leb::{Fault, Reason, SectionId};
 use dw_cli::line::{line, unreadable};
 use dw_cli::outcome::LineError;
+use dw_leb::{Fault, Reason, SectionId};
 use dw_tool::failure::{Failure, exit_status};
 use dw_tool::status::{Refused, ToolError};
 use std::alloc::{AllocError, Global};

@@ -1,8 +1,8 @@
 //! A command line as a caller of `line` gets it.
-use dw_leb::Order;
 use dw_cli::line::line;
 use dw_cli::outcome::{Line, LineError};
 use dw_cli::word::{Argument, BadWord};
+use dw_leb::Order;
 use dw_tool::command::Command;
 use dw_unit::Versions;
 use std::alloc::Global;

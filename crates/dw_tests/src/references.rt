@@ -2,7 +2,7 @@
 use crate::common::{FIFTEEN, REFERS, TWO_TABLES, takes};
 use dw_leb::Order;
 use dw_leb::constants::attribute::DW_AT_TYPE;
-use dw_section::{EntryOffsets, EntryId, RefFault, Section};
+use dw_section::{EntryId, EntryOffsets, RefFault, Section};
 use std::alloc::Global;
 use std::process::Abort;
 use std::test::Fail;

@@ -21,7 +21,7 @@ use crate::text::{
 use dw_form::Value;
 use dw_leb::WriteError;
 use dw_leb::constants::form::*;
-use dw_section::{EntryOffsets, EntryId, RefFault, Section};
+use dw_section::{EntryId, EntryOffsets, RefFault, Section};
 use dw_strings::{StrFault, Strings};
 use dw_unit::{AttrRef, Attrs, Entries, EntryRef, NumberRef};
 use std::io::Write;

@@ -8,10 +8,10 @@ ghost use Rattle.std.specs.Prelude.{◌≡◌, map};
 ghost use Rattle.dw_cli.specs.Run.{EndsLine, EndsWith};
 ghost use Rattle.dw_tool.specs.Failure.{exit_status};
 
-use dw_leb::Watched;
 use dw_cli::line::{line, unreadable};
 use dw_cli::outcome::{Line, LineError};
 use dw_cli::run::run_line;
+use dw_leb::Watched;
 use dw_tool::failure::{Failure, exit_status};
 use dw_tool::status::Status;
 use std::io::{BufReader, BufWriter, Write};

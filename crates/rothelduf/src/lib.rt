@@ -40,7 +40,7 @@ pub use dw_leb::{
     Fault, Format, Order, ReadError, Reason, SectionId, Sleb, Uleb, Watched, WriteError, constants,
 };
 pub use dw_section::{
-    EntryOffsets, EntryId, Item, RefFault, Section, SectionRefusal, SetRefusal, read_section,
+    EntryId, EntryOffsets, Item, RefFault, Section, SectionRefusal, SetRefusal, read_section,
     read_section_as, write_section,
 };
 pub use dw_strings::{StrFault, Strings, TextPlace};
