@@ -19,10 +19,12 @@ width_refusal width = if is_width width then None else Some BadWidth
 -- ---- a declaration without pairs
 
 abbrev pub new_refusal : Unsigned → ℕ × ℕ → Option TableRefusal
-new_refusal code zeros = if is_null code then Some ZeroCode else first_of (width_refusal zeros.0) (width_refusal zeros.1)
+new_refusal code zeros =
+    if is_null code then Some ZeroCode else first_of (width_refusal zeros.0) (width_refusal zeros.1)
 
 abbrev pub without_pairs : Unsigned → Unsigned → Bool → ℕ × ℕ → Declaration
-without_pairs code tag children zeros = record { code = code; tag = tag; children = children; pairs = []; name_zero = zeros.0; form_zero = zeros.1 }
+without_pairs code tag children zeros =
+    record { code = code; tag = tag; children = children; pairs = []; name_zero = zeros.0; form_zero = zeros.1 }
 
 -- ---- one more pair
 
@@ -32,10 +34,20 @@ constant_belongs form None = not (form.value == DW_FORM_implicit_const)
 constant_belongs form (Some constant) = form.value == DW_FORM_implicit_const
 
 abbrev pub pair_refusal : Pair → Option TableRefusal
-pair_refusal p = if is_null p.name || is_null p.form then Some HalfPair else if constant_belongs p.form p.constant then None else Some WrongConstant
+pair_refusal p =
+    if is_null p.name || is_null p.form then Some HalfPair else if constant_belongs p.form p.constant then None
+    else Some WrongConstant
 
 abbrev pub with_pair : Declaration → Pair → Declaration
-with_pair d p = record { code = d.code; tag = d.tag; children = d.children; pairs = d.pairs ++ p ∷ []; name_zero = d.name_zero; form_zero = d.form_zero }
+with_pair d p =
+    record {
+      code = d.code;
+      tag = d.tag;
+      children = d.children;
+      pairs = d.pairs ++ p ∷ [];
+      name_zero = d.name_zero;
+      form_zero = d.form_zero;
+    }
 
 -- ---- one more declaration
 
@@ -43,7 +55,9 @@ abbrev pub has_too_many : Declaration → Bool
 has_too_many d = nat_lt most_pairs (length d.pairs)
 
 abbrev pub add_refusal : List Declaration → Declaration → Option TableRefusal
-add_refusal ds d = if is_some (declared_in ds d.code.value) then Some DuplicateCode else if has_too_many d then Some TooManyPairs else None
+add_refusal ds d =
+    if is_some (declared_in ds d.code.value) then Some DuplicateCode else if has_too_many d then Some TooManyPairs
+    else None
 
 -- what is refused for no other reason, is refused for want of memory
 abbrev pub or_memory : Option TableRefusal → TableRefusal

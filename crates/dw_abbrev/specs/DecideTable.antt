@@ -20,7 +20,8 @@ use Rattle.dw_abbrev.specs.Table.{Pair, Declaration, Table, is_null, half, is_en
 use Rattle.dw_abbrev.specs.ReadTable.{read_pairs, read_described, read_declarations, pair_from, declaration_from, table_from, read_table, placed, read_table_at}
 
 pub null_is : (u : Unsigned) → is_null u ≡ true → zero_of u.width ≡ u
-null_is u e = let z : u.value ≡ 0 = eqb-true u.value 0 e in ap (λ (v : ℕ). (record { value = v; width = u.width })) (sym z)
+null_is u e =
+    let z : u.value ≡ 0 = eqb-true u.value 0 e in ap (λ (v : ℕ). (record { value = v; width = u.width })) (sym z)
 
 abbrev two : Part (Unsigned × Unsigned)
 two = uleb then λ _. uleb
@@ -38,20 +39,32 @@ abbrev pub pair_rest : Unsigned × Unsigned → Part (Option Signed)
 pair_rest x = optional (x.1.value == DW_FORM_implicit_const) sleb
 
 pairs_decides : Decides pairs read_pairs
-pairs_decides = repeated_decides pair_head is_end pair_rest (λ before. checked (checked read_two half) (too_many (length before))) (λ x. read_optional (x.1.value == DW_FORM_implicit_const) read_sleb)
-    (λ before. judged_decides (judged two half) (checked read_two half) (too_many (length before)) (judged_decides two read_two half (then_decides uleb (λ _. uleb) read_uleb (λ _. read_uleb) uleb_decides (λ _. uleb_decides))))
+pairs_decides =
+    repeated_decides pair_head is_end pair_rest (λ before. checked (checked read_two half) (too_many (length before)))
+    (λ x. read_optional (x.1.value == DW_FORM_implicit_const) read_sleb)
+    (λ before.
+    judged_decides (judged two half) (checked read_two half) (too_many (length before))
+    (judged_decides two read_two half
+    (then_decides uleb (λ _. uleb) read_uleb (λ _. read_uleb) uleb_decides (λ _. uleb_decides))))
     (λ x. optional_decides (x.1.value == DW_FORM_implicit_const) sleb read_sleb sleb_decides)
     (λ before h fits. omega (arith, uleb_some h.0 fits.0.0.0, length-append (uleb.spell h.0) (uleb.spell h.1)))
 
 pub described_decides : Decides described read_described
-described_decides = then_decides _ _ _ _ uleb_decides (λ _. then_decides _ _ _ _ (judged_decides (fixed Little 1) (read_fixed Little 1) bad_flag (fixed_decides Little 1)) (λ _. pairs_decides))
+described_decides =
+    then_decides _ _ _ _ uleb_decides
+    (λ _.
+    then_decides _ _ _ _ (judged_decides (fixed Little 1) (read_fixed Little 1) bad_flag (fixed_decides Little 1))
+    (λ _. pairs_decides))
 
 abbrev pub code_head : List (Unsigned × Described) → Part Unsigned
 code_head before = judged uleb (repeats before)
 
 declarations_decides : Decides declarations read_declarations
-declarations_decides = repeated_decides code_head is_null (λ _. described) (λ before. checked read_uleb (repeats before)) (λ _. read_described)
-    (λ before. judged_decides uleb read_uleb (repeats before) uleb_decides) (λ _. described_decides) (λ before h fits. uleb_some h fits.0)
+declarations_decides =
+    repeated_decides code_head is_null (λ _. described) (λ before. checked read_uleb (repeats before))
+    (λ _. read_described)
+    (λ before. judged_decides uleb read_uleb (repeats before) uleb_decides) (λ _. described_decides)
+    (λ before h fits. uleb_some h fits.0)
 
 -- ---- the same with names
 
@@ -74,7 +87,8 @@ flag_there x e = by (nat_lt x 2) refl e
     at true z lt = sym (eqb-true x 0 z)
     at false z lt = omega (arith, eqb-false x 0 z, lt)
 
-    by : (v : Bool) → nat_lt x 2 ≡ v → cond v None (Some BadChildren) ≡ None → (if (if x == 0 then false else true) then 1 else 0) ≡ x
+    by : (v : Bool) → nat_lt x 2 ≡ v → cond v None (Some BadChildren) ≡ None
+        → (if (if x == 0 then false else true) then 1 else 0) ≡ x
     by true lt h = at (x == 0) refl (ltb-true x 2 lt)
     by false lt h = absurd cc
 
@@ -84,21 +98,32 @@ declaration_back d = rw (flag_back d.children, pairs_back d.pairs) refl
 declaration_there : (x : Unsigned × Described) → described.Fits x.1 → declaration_parts (declaration_from x) ≡ x
 declaration_there x fits =
     let ends = and_parts _ _ (items_end pair_head is_end pair_rest [] x.1.1.1.0 x.1.1.1.1 fits.1.1) in
-    rw (flag_there x.1.1.0 fits.1.0.1, pairs_there x.1.1.1.0, null_is x.1.1.1.1.0 ends.0, null_is x.1.1.1.1.1 ends.1) refl
+    rw (flag_there x.1.1.0 fits.1.0.1, pairs_there x.1.1.1.0, null_is x.1.1.1.1.0 ends.0, null_is x.1.1.1.1.1 ends.1)
+    refl
 
 pub declarations_back : (ds : List Declaration) → map declaration_from (map declaration_parts ds) ≡ ds
 declarations_back [] = refl
 declarations_back (d ∷ ds) = rw (declaration_back d, declarations_back ds) refl
 
-declarations_there : (before xs : List (Unsigned × Described)) (end : Unsigned) → ItemsFit code_head is_null (λ _. described) before xs end → map declaration_parts (map declaration_from xs) ≡ xs
+declarations_there : (before xs : List (Unsigned × Described)) (end : Unsigned)
+    → ItemsFit code_head is_null (λ _. described) before xs end → map declaration_parts (map declaration_from xs) ≡ xs
 declarations_there before [] end fits = refl
-declarations_there before (x ∷ xs) end fits = rw (declaration_there x fits.0.2, declarations_there (before ++ x ∷ []) xs end fits.1) refl
+declarations_there before (x ∷ xs) end fits =
+    rw (declaration_there x fits.0.2, declarations_there (before ++ x ∷ []) xs end fits.1) refl
 
 table_view : IsView declarations table_parts table_from
 table_view = record {
   back = λ t a e fits. let c : (map declaration_parts t.declarations, zero_of t.last_zero) ≡ a = cc in
-      ap table_from (sym c) ∙ ap (λ (ds : List Declaration). (record { declarations = ds; last_zero = t.last_zero })) (declarations_back t.declarations);
-  there = λ a fits. rw (declarations_there [] a.0 a.1 fits, null_is a.1 (items_end code_head is_null (λ _. described) [] a.0 a.1 fits)) refl;
+      ap table_from (sym c)
+      ∙ ap (λ (ds : List Declaration). (record { declarations = ds; last_zero = t.last_zero }))
+      (declarations_back t.declarations);
+  there =
+      λ a fits.
+      rw (
+        declarations_there [] a.0 a.1 fits,
+        null_is a.1 (items_end code_head is_null (λ _. described) [] a.0 a.1 fits),
+      )
+      refl;
 }
 
 pub table_decides : Decides table read_table
@@ -107,21 +132,27 @@ table_decides = seen_decides declarations read_declarations table_parts table_fr
 
 -- ---- at a place
 
-pub table_take : (abbreviations : List ℕ) (offset : ℕ) (t : Table) → TableAt abbreviations offset t → read_table_at abbreviations offset ≡ found t (length (table.spell t))
+pub table_take : (abbreviations : List ℕ) (offset : ℕ) (t : Table) → TableAt abbreviations offset t
+    → read_table_at abbreviations offset ≡ found t (length (table.spell t))
 unfolding read_table_at
 table_take abbreviations offset t h =
-    let len : length (drop offset abbreviations) ≡ length (table.spell t) + length h.rest = ap length h.split ∙ length-append (table.spell t) h.rest in
+    let len : length (drop offset abbreviations) ≡ length (table.spell t) + length h.rest =
+    ap length h.split ∙ length-append (table.spell t) h.rest in
     let len2 : length (drop offset abbreviations) ≡ length abbreviations - offset = length-drop offset abbreviations in
     let within : length (table.spell t) ≤ unbounded abbreviations = omega arith in
     rw (lt-ltb offset (length abbreviations) h.inside)
     (ap (λ (b : List ℕ). placed offset (read_table b (unbounded abbreviations))) h.split
     ∙ ap (placed offset) (table_decides.takes t h.rest (unbounded abbreviations) h.fits within))
 
-pub table_fault : (abbreviations : List ℕ) (offset at : ℕ) (reason : Reason) → TableBreaks abbreviations offset at reason → read_table_at abbreviations offset ≡ broken Table at reason
+pub table_fault : (abbreviations : List ℕ) (offset at : ℕ) (reason : Reason)
+    → TableBreaks abbreviations offset at reason → read_table_at abbreviations offset ≡ broken Table at reason
 unfolding read_table_at
 table_fault abbreviations offset at reason h = elim h [
   | inl past ↦ rw (le-ltb offset (length abbreviations) (omega (arith, past.0)), past.1, past.2) refl
-  | inr own ↦ rw (lt-ltb offset (length abbreviations) own.0) (ap (placed offset) (table_decides.faults (drop offset abbreviations) (unbounded abbreviations) own.1.0 reason own.1.2) ∙ ap (λ (n : ℕ). broken Table n reason) (sym own.1.1))
+  | inr own ↦ rw (lt-ltb offset (length abbreviations) own.0)
+      (ap (placed offset)
+      (table_decides.faults (drop offset abbreviations) (unbounded abbreviations) own.1.0 reason own.1.2)
+      ∙ ap (λ (n : ℕ). broken Table n reason) (sym own.1.1))
 ]
 
 abbrev pub TableSays : List ℕ → ℕ → Outcome Table → Type 0
@@ -133,14 +164,23 @@ AreBytes-drop zero bytes h = h
 AreBytes-drop (suc n) [] h = tt
 AreBytes-drop (suc n) (b ∷ bytes) h = AreBytes-drop n bytes h.1
 
-pub table_says : (abbreviations : List ℕ) (offset : ℕ) → AreBytes abbreviations → TableSays abbreviations offset (read_table_at abbreviations offset)
+pub table_says : (abbreviations : List ℕ) (offset : ℕ) → AreBytes abbreviations
+    → TableSays abbreviations offset (read_table_at abbreviations offset)
 unfolding read_table_at
 table_says abbreviations offset fit = by (nat_lt offset (length abbreviations)) refl
   where
-    in_place : offset < length abbreviations → (o : Outcome Table) → Says table (drop offset abbreviations) (unbounded abbreviations) o → TableSays abbreviations offset (placed offset o)
+    in_place : offset < length abbreviations → (o : Outcome Table)
+        → Says table (drop offset abbreviations) (unbounded abbreviations) o
+        → TableSays abbreviations offset (placed offset o)
     in_place lt (Found t size) h = record { inside = lt; fits = h.fits; rest = h.rest; split = h.split }
     in_place lt (Broken own reason) h = inr (lt, (own, refl, h))
 
-    by : (v : Bool) → nat_lt offset (length abbreviations) ≡ v → TableSays abbreviations offset (if v then placed offset (read_table (drop offset abbreviations) (unbounded abbreviations)) else Broken offset AbbrevOffset)
-    by true e = in_place (ltb-true _ _ e) (read_table (drop offset abbreviations) (unbounded abbreviations)) (table_decides.says (drop offset abbreviations) (unbounded abbreviations) (AreBytes-drop offset abbreviations fit))
+    by : (v : Bool) → nat_lt offset (length abbreviations) ≡ v
+        → TableSays abbreviations offset
+        (if v then placed offset (read_table (drop offset abbreviations) (unbounded abbreviations))
+        else Broken offset AbbrevOffset)
+    by true e =
+        in_place (ltb-true _ _ e) (read_table (drop offset abbreviations) (unbounded abbreviations))
+        (table_decides.says (drop offset abbreviations) (unbounded abbreviations)
+        (AreBytes-drop offset abbreviations fit))
     by false e = inl (omega (arith, ltb-false _ _ e), refl, refl)

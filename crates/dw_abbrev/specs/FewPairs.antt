@@ -16,26 +16,33 @@ FewPairs t = (code : ℕ) → IfSome (declared t code) (λ d. length d.pairs ≤
 fewer_before : (n : ℕ) (x : Unsigned × Unsigned) → is_end x ≡ false → too_many n x ≡ None → n < most_pairs
 fewer_before n x e h = by (is_end x) (nat_lt n most_pairs) e refl h
   where
-    by : (end few : Bool) → end ≡ false → nat_lt n most_pairs ≡ few → (if end || few then None else Some TooManyPairs) ≡ None → n < most_pairs
+    by : (end few : Bool) → end ≡ false → nat_lt n most_pairs ≡ few
+        → (if end || few then None else Some TooManyPairs) ≡ None → n < most_pairs
     by true few e f h = absurd cc
     by false true e f h = ltb-true n most_pairs f
     by false false e f h = absurd cc
 
-few_items : (before xs : List Item) (end : Unsigned × Unsigned) → ItemsFit pair_head is_end pair_rest before xs end → length before ≤ most_pairs → length before + length xs ≤ most_pairs
+few_items : (before xs : List Item) (end : Unsigned × Unsigned) → ItemsFit pair_head is_end pair_rest before xs end
+    → length before ≤ most_pairs → length before + length xs ≤ most_pairs
 few_items before [] end h m = omega (arith, m)
 few_items before (x ∷ xs) end h m =
     let n = fewer_before (length before) x.0 h.0.1 h.0.0.1 in
     let l : length (before ++ x ∷ []) ≡ length before + 1 = length-append before (x ∷ []) in
     omega (arith, l, few_items (before ++ x ∷ []) xs end h.1 (omega (arith, l, n)))
 
-few_declared : (before : List (Unsigned × Described)) (ds : List Declaration) (end : Unsigned) → ItemsFit code_head is_null (λ _. described) before (map declaration_parts ds) end
+few_declared : (before : List (Unsigned × Described)) (ds : List Declaration) (end : Unsigned)
+    → ItemsFit code_head is_null (λ _. described) before (map declaration_parts ds) end
     → (code : ℕ) → IfSome (declared_in ds code) (λ d. length d.pairs ≤ most_pairs)
 few_declared before [] end h code = tt
-few_declared before (d ∷ ds) end h code = by (code == d.code.value) (few_declared (before ++ declaration_parts d ∷ []) ds end h.1 code)
+few_declared before (d ∷ ds) end h code =
+    by (code == d.code.value) (few_declared (before ++ declaration_parts d ∷ []) ds end h.1 code)
   where
-    by : (b : Bool) → IfSome (declared_in ds code) (λ d. length d.pairs ≤ most_pairs) → IfSome (if b then Some d else declared_in ds code) (λ d. length d.pairs ≤ most_pairs)
+    by : (b : Bool) → IfSome (declared_in ds code) (λ d. length d.pairs ≤ most_pairs)
+        → IfSome (if b then Some d else declared_in ds code) (λ d. length d.pairs ≤ most_pairs)
     by true others =
-        let few = few_items [] (map pair_parts d.pairs) (zero_of d.name_zero, zero_of d.form_zero) h.0.2.1.1 (omega arith) in
+        let few =
+        few_items [] (map pair_parts d.pairs) (zero_of d.name_zero, zero_of d.form_zero) h.0.2.1.1
+        (omega arith) in
         omega (arith, few, length-map d.pairs pair_parts)
     by false others = others
 

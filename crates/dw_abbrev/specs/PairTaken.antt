@@ -11,5 +11,7 @@ use Rattle.dw_abbrev.specs.Place.{Gives}
 -- with the constant that its form has at this place, and what follows begins at the next
 abbrev pub HasConstant : List ℕ → ℕ → Uleb → Uleb → ℕ → List Pair → List Pair → Type 0
 HasConstant section at name form next old new =
-    (constant : Option Sleb) × Gives (read_constant (uleb_of name, uleb_of form)) section at (option_map sleb_of constant) next × (constant_belongs (uleb_of form) (option_map sleb_of constant) ≡ true)
+    (constant : Option Sleb)
+    × Gives (read_constant (uleb_of name, uleb_of form)) section at (option_map sleb_of constant) next
+    × (constant_belongs (uleb_of form) (option_map sleb_of constant) ≡ true)
     × (new ≡ old ++ (record { name = name; form = form; constant = constant }) ∷ [])

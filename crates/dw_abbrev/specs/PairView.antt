@@ -12,7 +12,8 @@ abbrev pub pair_of : Pair → ThePair
 pair_of p = record { name = uleb_of p.name; form = uleb_of p.form; constant = option_map sleb_of p.constant }
 
 abbrev pub pair_from : Uleb → Uleb → Option Sleb → ThePair
-pair_from name form constant = record { name = uleb_of name; form = uleb_of form; constant = option_map sleb_of constant }
+pair_from name form constant =
+    record { name = uleb_of name; form = uleb_of form; constant = option_map sleb_of constant }
 
 -- pairs that are read, as the plain reader sees them
 abbrev pub pairs_of : List Pair → Zeros → List ((Unsigned × Unsigned) × Option Signed) × (Unsigned × Unsigned)

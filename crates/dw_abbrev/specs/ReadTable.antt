@@ -38,7 +38,15 @@ abbrev pub pair_from : (Unsigned × Unsigned) × Option Signed → Pair
 pair_from x = record { name = x.0.0; form = x.0.1; constant = x.1 }
 
 abbrev pub declaration_from : Unsigned × Described → Declaration
-declaration_from x = record { code = x.0; tag = x.1.0; children = (if x.1.1.0 == 0 then false else true); pairs = map pair_from x.1.1.1.0; name_zero = x.1.1.1.1.0.width; form_zero = x.1.1.1.1.1.width }
+declaration_from x =
+    record {
+      code = x.0;
+      tag = x.1.0;
+      children = (if x.1.1.0 == 0 then false else true);
+      pairs = map pair_from x.1.1.1.0;
+      name_zero = x.1.1.1.1.0.width;
+      form_zero = x.1.1.1.1.1.width;
+    }
 
 abbrev pub table_from : List (Unsigned × Described) × Unsigned → Table
 table_from x = record { declarations = map declaration_from x.0; last_zero = x.1.width }
@@ -51,4 +59,7 @@ placed offset (Found t size) = Found t size
 placed offset (Broken own reason) = Broken (offset + own) reason
 
 unfoldable pub read_table_at : List ℕ → ℕ → Outcome Table
-read_table_at abbreviations offset = if nat_lt offset (length abbreviations) then placed offset (read_table (drop offset abbreviations) (unbounded abbreviations)) else Broken offset AbbrevOffset
+read_table_at abbreviations offset =
+    if nat_lt offset (length abbreviations)
+    then placed offset (read_table (drop offset abbreviations) (unbounded abbreviations))
+    else Broken offset AbbrevOffset

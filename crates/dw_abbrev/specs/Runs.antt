@@ -20,7 +20,8 @@ first_start (start ∷ starts) behind = start
 abbrev pub AreRows : List ℕ → List ℕ → List Declaration → ℕ → Type 0
 AreRows abbreviations [] [] behind = Unit {0}
 AreRows abbreviations (start ∷ starts) (d ∷ ds) behind =
-    (drop start abbreviations ≡ declaration_bytes d ++ drop (first_start starts behind) abbreviations) × DeclarationFits d × AreRows abbreviations starts ds behind
+    (drop start abbreviations ≡ declaration_bytes d ++ drop (first_start starts behind) abbreviations)
+    × DeclarationFits d × AreRows abbreviations starts ds behind
 AreRows abbreviations [] (d ∷ ds) behind = ⊥
 AreRows abbreviations (start ∷ starts) [] behind = ⊥
 
@@ -41,10 +42,14 @@ pub record IsRun (abbreviations : List ℕ) (run : Run) (here : ℕ) : Type 0 wh
 -- what stands behind a run: a declaration, with which it is the new one; or a zero
 abbrev pub IsStep : List ℕ → ℕ → Run → Run → Step → Type 0
 IsStep abbreviations here old new (steps.Declaration next) = (here < next) × IsRun abbreviations new next
-IsStep abbreviations here old new (steps.Zero last) = (new ≡ old) × IsZero (uleb_of last) × TableAt abbreviations here (record { declarations = []; last_zero = last.width })
+IsStep abbreviations here old new (steps.Zero last) =
+    (new ≡ old) × IsZero (uleb_of last)
+    × TableAt abbreviations here (record { declarations = []; last_zero = last.width })
 IsStep abbreviations here old new steps.Broken = Unit {0}
 
 -- a run with what stands behind it
 pub record IsJoined (abbreviations : List ℕ) (run : JoinedRun) : Type 0 where
   pub zero : IsZero (uleb_of run.last_zero)
-  pub together : StandTogether abbreviations run.run.starts.items run.run.decls (record { declarations = joined run.rest.items; last_zero = run.last_zero.width })
+  pub together :
+      StandTogether abbreviations run.run.starts.items run.run.decls
+      (record { declarations = joined run.rest.items; last_zero = run.last_zero.width })

@@ -39,7 +39,8 @@ abbrev pub most_pairs : ℕ
 most_pairs = 1024
 
 abbrev pub half : Unsigned × Unsigned → Option Reason
-half x = if is_null x.0 then (if is_null x.1 then None else Some HalfPair) else (if is_null x.1 then Some HalfPair else None)
+half x =
+    if is_null x.0 then (if is_null x.1 then None else Some HalfPair) else (if is_null x.1 then Some HalfPair else None)
 
 abbrev pub is_end : Unsigned × Unsigned → Bool
 is_end x = is_null x.0 && is_null x.1
@@ -58,7 +59,9 @@ refused_pair before x = first_of (half x) (too_many before x)
 
 -- pairs of name and form, with a constant after form 0x21, until the pair 0, 0
 abbrev pub pairs : Part (List ((Unsigned × Unsigned) × Option Signed) × (Unsigned × Unsigned))
-pairs = repeated (λ before. judged (judged (uleb then λ _. uleb) half) (too_many (length before))) is_end (λ x. optional (x.1.value == DW_FORM_implicit_const) sleb)
+pairs =
+    repeated (λ before. judged (judged (uleb then λ _. uleb) half) (too_many (length before))) is_end
+    (λ x. optional (x.1.value == DW_FORM_implicit_const) sleb)
 
 abbrev pub bad_flag : ℕ → Option Reason
 bad_flag x = if nat_lt x 2 then None else Some BadChildren
@@ -91,7 +94,8 @@ zero_of width = record { value = 0; width = width }
 
 -- what stands behind the code
 abbrev pub described_of : Declaration → Described
-described_of d = (d.tag, ((if d.children then 1 else 0), (map pair_parts d.pairs, (zero_of d.name_zero, zero_of d.form_zero))))
+described_of d =
+    (d.tag, ((if d.children then 1 else 0), (map pair_parts d.pairs, (zero_of d.name_zero, zero_of d.form_zero))))
 
 abbrev pub declaration_parts : Declaration → Unsigned × Described
 declaration_parts d = (d.code, described_of d)
@@ -118,7 +122,8 @@ pub record TableAt (abbreviations : List ℕ) (offset : ℕ) (t : Table) : Type 
 abbrev pub TableBreaks : List ℕ → ℕ → ℕ → Reason → Type 0
 TableBreaks abbreviations offset at reason =
     (length abbreviations < suc offset) × (at ≡ offset) × (reason ≡ AbbrevOffset)
-    ⊎ (offset < length abbreviations) × ((own : ℕ) × (at ≡ offset + own) × table.Break (drop offset abbreviations) (unbounded abbreviations) own reason)
+    ⊎ (offset < length abbreviations)
+    × ((own : ℕ) × (at ≡ offset + own) × table.Break (drop offset abbreviations) (unbounded abbreviations) own reason)
 
 -- the declaration of a code
 abbrev pub declared_in : List Declaration → ℕ → Option Declaration

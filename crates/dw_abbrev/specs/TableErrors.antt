@@ -12,7 +12,8 @@ use Rattle.dw_abbrev.specs.Place.{Gives}
 -- An error of reading the table at an offset: a fault tells where the table breaks, and why. A reading without a reader
 -- has no reader's error.
 abbrev pub IsTableError : List ℕ → ℕ → ReadError → Type 0
-IsTableError abbreviations offset (reads.Fault f) = (f.section ≡ sections.Abbrev) × TableBreaks abbreviations offset f.offset f.reason
+IsTableError abbreviations offset (reads.Fault f) =
+    (f.section ≡ sections.Abbrev) × TableBreaks abbreviations offset f.offset f.reason
 IsTableError abbreviations offset reads.NoMemory = Unit {0}
 IsTableError abbreviations offset (reads.Io kind) = ⊥
 

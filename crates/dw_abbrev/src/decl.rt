@@ -27,8 +27,8 @@ pub struct Decl {
     code: Uleb,
     tag: Uleb,
     children: bool,
-    /// In how many bytes each of the two zeros behind the pairs is written: their numbers, of sixteen bytes each, would be a
-    /// third of what a declaration takes.
+    /// In how many bytes each of the two zeros behind the pairs is written: their numbers, of sixteen bytes each, would
+    /// be a third of what a declaration takes.
     name_zero: u8,
     form_zero: u8,
     pairs: Vec<Pair>,
@@ -49,9 +49,24 @@ impl Model for Decl {
     ghost use Rattle.dw_abbrev.specs.Prefix.{IsPrefix};
     ghost use Rattle.dw_abbrev.specs.Table.{is_null};
 
-    ghost view = { λ d. record { code = uleb_of d.code; tag = uleb_of d.tag; children = d.children; pairs = map pair_of d.pairs.items; name_zero = d.name_zero; form_zero = d.form_zero } };
+    ghost view = { λ d.
+        record {
+          code = uleb_of d.code;
+          tag = uleb_of d.tag;
+          children = d.children;
+          pairs = map pair_of d.pairs.items;
+          name_zero = d.name_zero;
+          form_zero = d.form_zero;
+        } };
 
-    ghost invariant = { λ d. record { name_zero : UlebFits (zero_of d.name_zero); form_zero : UlebFits (zero_of d.form_zero); some : is_null (uleb_of d.code) ≡ false; pairs : ArePairs (map pair_of d.pairs.items); prefix : IsPrefix (map pair_of d.pairs.items) d.prefix } };
+    ghost invariant = { λ d.
+        record {
+          name_zero : UlebFits (zero_of d.name_zero);
+          form_zero : UlebFits (zero_of d.form_zero);
+          some : is_null (uleb_of d.code) ≡ false;
+          pairs : ArePairs (map pair_of d.pairs.items);
+          prefix : IsPrefix (map pair_of d.pairs.items) d.prefix;
+        } };
 }
 
 /// What is written, without what is kept of it.
@@ -185,7 +200,9 @@ impl Decl {
     /// Writes the declaration, the two zeros behind its pairs included.
     pub(crate) fn write<W: Write>(&self, writer: &mut Watched<W>) -> Result<(), WriteError>
         requires { fault_of writer.old ≡ None }
-        ensures written { Wrote (W.contents (inner_of writer.old)) (W.contents (inner_of writer.new)) (declaration_bytes self.now) result }
+        ensures written { Wrote (W.contents (inner_of writer.old)) (W.contents (inner_of writer.new))
+            (declaration_bytes self.now)
+            result }
         ensures fault { fault_of writer.new ≡ writer_fault result }
     {
         self.write_head(writer)?;
@@ -196,7 +213,8 @@ impl Decl {
     /// Writes what stands before the pairs.
     fn write_head<W: Write>(&self, writer: &mut Watched<W>) -> Result<(), WriteError>
         requires { fault_of writer.old ≡ None }
-        ensures written { Wrote (W.contents (inner_of writer.old)) (W.contents (inner_of writer.new)) (head_bytes self.now) result }
+        ensures written { Wrote (W.contents (inner_of writer.old)) (W.contents (inner_of writer.new))
+            (head_bytes self.now) result }
         ensures fault { fault_of writer.new ≡ writer_fault result }
     {
         write_uleb(writer, self.code)?;
@@ -207,7 +225,8 @@ impl Decl {
     /// Writes the two zeros behind the pairs.
     fn write_zeros<W: Write>(&self, writer: &mut Watched<W>) -> Result<(), WriteError>
         requires { fault_of writer.old ≡ None }
-        ensures written { Wrote (W.contents (inner_of writer.old)) (W.contents (inner_of writer.new)) (zeros_bytes self.now) result }
+        ensures written { Wrote (W.contents (inner_of writer.old)) (W.contents (inner_of writer.new))
+            (zeros_bytes self.now) result }
         ensures fault { fault_of writer.new ≡ writer_fault result }
     {
         write_uleb(writer, kept_zero(self.name_zero))?;
@@ -215,8 +234,8 @@ impl Decl {
     }
 }
 
-/// The declaration of a code: what stands behind the code, at `at`, and where what follows begins. (It is inlined where tables are read for
-/// themselves, as nearly all are: a result that holds a vector is copied byte by byte.)
+/// The declaration of a code: what stands behind the code, at `at`, and where what follows begins. (It is inlined where
+/// tables are read for themselves, as nearly all are: a result that holds a vector is copied byte by byte.)
 #[inline(always)]
 pub(crate) fn decl_at(
     alloc: Global,

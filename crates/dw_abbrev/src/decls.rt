@@ -14,8 +14,9 @@ use std::marker::Model;
 
 /// Declarations of distinct codes, in their order.
 ///
-/// Compilers number the codes of a table 1, 2 and so on. As long as they are, the code itself tells where its declaration stands, and no memory is
-/// taken but for the declarations. From the first code on that isn't the next number a map tells it of each.
+/// Compilers number the codes of a table 1, 2 and so on. As long as they are, the code itself tells where its
+/// declaration stands, and no memory is taken but for the declarations. From the first code on that isn't the next
+/// number a map tells it of each.
 #[derive(Drop)]
 pub(crate) struct Decls {
     list: Vec<Decl>,
@@ -32,7 +33,11 @@ impl Model for Decls {
 
     ghost view = { λ d. d.list.items };
 
-    ghost invariant = { λ d. record { places : ArePlaces d.places.entries d.list.items; apart : AreApart d.list.items [] } };
+    ghost invariant = { λ d. record {
+      places : ArePlaces d.places.entries d.list.items;
+      apart :
+          AreApart d.list.items [];
+    } };
 }
 
 /// A map of the declarations by their codes.
@@ -164,7 +169,8 @@ fn numbered_index(code: u64, count: usize) -> Option<usize>
     if index < count { Some(index) } else { None }
 }
 
-/// There is room for one more declaration: for that one where it is the first, since many a table has no more, and else for as many again.
+/// There is room for one more declaration: for that one where it is the first, since many a table has no more, and else
+/// for as many again.
 fn make_room(list: &mut Vec<Decl>) -> Result<(), AllocError>
     ensures items { list.new.items ≡ list.old.items }
     ensures room { OnOk result (vec_len list.new < vec_capacity list.new) }
@@ -176,14 +182,15 @@ fn make_room(list: &mut Vec<Decl>) -> Result<(), AllocError>
     }
 }
 
-/// Takes down where the declaration of a new code stands, which comes behind those of the list. After an error the places are those of the list
-/// still.
+/// Takes down where the declaration of a new code stands, which comes behind those of the list. After an error the
+/// places are those of the list still.
 #[inline(always)]
 fn note(places: &mut IndexMap<u64, usize>, list: &[Decl], code: u64) -> Result<(), AllocError>
     requires places { ArePlaces places.old.entries list.now }
     requires apart { AreApart list.now [] }
     requires new { declared_in list.now code ≡ None }
-    ensures ok { OnOk result ((d : Declaration) → d.code.value ≡ code → ArePlaces places.new.entries (list.now ++ d ∷ [])) }
+    ensures ok { OnOk result ((d : Declaration) → d.code.value ≡ code
+        → ArePlaces places.new.entries (list.now ++ d ∷ [])) }
     ensures err { OnErr result (ArePlaces places.new.entries list.now) }
 {
     if !places.is_empty() {
@@ -223,7 +230,8 @@ fn places_of(alloc: Global, list: &[Decl]) -> Result<IndexMap<u64, usize>, Alloc
 fn put(places: &mut IndexMap<u64, usize>, list: &[Decl], code: u64) -> Result<(), AllocError>
     requires there { places.old.entries ≡ places_from 0 list.now }
     requires new { declared_in list.now code ≡ None }
-    ensures ok { OnOk result ((d : Declaration) → d.code.value ≡ code → ArePlaces places.new.entries (list.now ++ d ∷ [])) }
+    ensures ok { OnOk result ((d : Declaration) → d.code.value ≡ code
+        → ArePlaces places.new.entries (list.now ++ d ∷ [])) }
     ensures err { OnErr result (places.new.entries ≡ places.old.entries) }
 {
     places.insert(code, list.len())?;

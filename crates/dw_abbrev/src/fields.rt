@@ -129,7 +129,8 @@ pub(crate) fn flag_at(abbreviations: &[u8], at: usize) -> Result<(bool, usize), 
 /// Writes an unsigned number.
 pub(crate) fn write_uleb<W: Write>(writer: &mut Watched<W>, n: Uleb) -> Result<(), WriteError>
     requires { fault_of writer.old ≡ None }
-    ensures written { Wrote (W.contents (inner_of writer.old)) (W.contents (inner_of writer.new)) (uleb.spell (uleb_of n)) result }
+    ensures written { Wrote (W.contents (inner_of writer.old)) (W.contents (inner_of writer.new))
+        (uleb.spell (uleb_of n)) result }
     ensures fault { fault_of writer.new ≡ writer_fault result }
 {
     write_all(writer, n.bytes().as_slice())
@@ -138,7 +139,8 @@ pub(crate) fn write_uleb<W: Write>(writer: &mut Watched<W>, n: Uleb) -> Result<(
 /// Writes a signed number.
 pub(crate) fn write_sleb<W: Write>(writer: &mut Watched<W>, n: Sleb) -> Result<(), WriteError>
     requires { fault_of writer.old ≡ None }
-    ensures written { Wrote (W.contents (inner_of writer.old)) (W.contents (inner_of writer.new)) (sleb.spell (sleb_of n)) result }
+    ensures written { Wrote (W.contents (inner_of writer.old)) (W.contents (inner_of writer.new))
+        (sleb.spell (sleb_of n)) result }
     ensures fault { fault_of writer.new ≡ writer_fault result }
 {
     write_all(writer, n.bytes().as_slice())
@@ -147,7 +149,8 @@ pub(crate) fn write_sleb<W: Write>(writer: &mut Watched<W>, n: Sleb) -> Result<(
 /// Writes a children flag.
 pub(crate) fn write_flag<W: Write>(writer: &mut Watched<W>, flag: bool) -> Result<(), WriteError>
     requires { fault_of writer.old ≡ None }
-    ensures written { Wrote (W.contents (inner_of writer.old)) (W.contents (inner_of writer.new)) (flag_bytes flag) result }
+    ensures written { Wrote (W.contents (inner_of writer.old)) (W.contents (inner_of writer.new))
+        (flag_bytes flag) result }
     ensures fault { fault_of writer.new ≡ writer_fault result }
 {
     write_all(writer, &[flag as u8])

@@ -6,9 +6,9 @@ use crate::fields::uleb_at;
 use dw_leb::ReadError;
 use std::alloc::{AllocError, Global};
 
-/// Offsets of a section at which declarations begin that were read: a bit for each offset up to the last of them. They only say where
-/// tables may meet: no answer depends on them. None are kept as long as each table begins behind all others, as compilers write them:
-/// then no two meet.
+/// Offsets of a section at which declarations begin that were read: a bit for each offset up to the last of them. They
+/// only say where tables may meet: no answer depends on them. None are kept as long as each table begins behind all
+/// others, as compilers write them: then no two meet.
 #[derive(Debug, Drop)]
 pub(crate) struct KnownOffsets {
     /// The bit of an offset stands in the word of its number by 64.

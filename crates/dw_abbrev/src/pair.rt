@@ -106,12 +106,13 @@ fn names_at(
     }
 }
 
-/// The same, where the name and the form have one byte each, as nearly all do: the compiler then knows their widths, and what it
-/// keeps of the pair. None too where they are refused.
+/// The same, where the name and the form have one byte each, as nearly all do: the compiler then knows their widths,
+/// and what it keeps of the pair. None too where they are refused.
 #[inline(always)]
 fn small_names_at(abbreviations: &[u8], at: usize, before: usize) -> Option<((Uleb, Uleb), usize)>
     requires { at ≤ length abbreviations.now }
-    ensures there { IfSome result (λ x. Gives (read_names before) abbreviations.now at (uleb_of x.0.0, uleb_of x.0.1) x.1) }
+    ensures there { IfSome result (λ x. Gives (read_names before) abbreviations.now at
+        (uleb_of x.0.0, uleb_of x.0.1) x.1) }
     ensures forward { IfSome result (λ x. (at < x.1) × (x.1 ≤ length abbreviations.now)) }
     ensures judged { IfSome result (λ x. refused_pair before (uleb_of x.0.0, uleb_of x.0.1) ≡ None) }
 {
@@ -151,7 +152,8 @@ fn constant_at(
     form: Uleb,
 ) -> Result<(Option<Sleb>, usize), ReadError>
     requires { at ≤ length abbreviations.now }
-    ensures ok { IfOk result (λ x. Gives (read_constant (uleb_of name, uleb_of form)) abbreviations.now at (option_map sleb_of x.0) x.1) }
+    ensures ok { IfOk result
+        (λ x. Gives (read_constant (uleb_of name, uleb_of form)) abbreviations.now at (option_map sleb_of x.0) x.1) }
     ensures forward { IfOk result (λ x. (at ≤ x.1) × (x.1 ≤ length abbreviations.now)) }
     ensures belongs { IfOk result (λ x. constant_belongs (uleb_of form) (option_map sleb_of x.0) ≡ true) }
     ensures err { IfErr result (λ e. IsErrorAt (read_constant (uleb_of name, uleb_of form)) abbreviations.now at e) }
@@ -164,8 +166,8 @@ fn constant_at(
 }
 
 /// The pairs at `at` go to the list, which has none, and the result is the zeros behind them and where what follows
-/// begins. The list grows by one pair at a time, each judged before. (It is the caller's, since a result that holds a vector is
-/// copied byte by byte.)
+/// begins. The list grows by one pair at a time, each judged before. (It is the caller's, since a result that holds a
+/// vector is copied byte by byte.)
 #[inline(always)]
 pub(crate) fn pairs_at(
     list: &mut Vec<Pair>,
@@ -197,8 +199,8 @@ pub(crate) fn pairs_at(
     }
 }
 
-/// The pair of a name and a form goes to the list, behind the others, with the constant that stands at `at` where it has one.
-/// The result is where what follows begins.
+/// The pair of a name and a form goes to the list, behind the others, with the constant that stands at `at` where it
+/// has one. The result is where what follows begins.
 #[inline(always)]
 fn take_pair(
     list: &mut Vec<Pair>,
@@ -235,7 +237,8 @@ pub(crate) fn write_pairs<W: Write>(
     pairs: &[Pair],
 ) -> Result<(), WriteError>
     requires { fault_of writer.old ≡ None }
-    ensures written { Wrote (W.contents (inner_of writer.old)) (W.contents (inner_of writer.new)) (pairs_bytes (map pair_of pairs.now)) result }
+    ensures written { Wrote (W.contents (inner_of writer.old)) (W.contents (inner_of writer.new))
+        (pairs_bytes (map pair_of pairs.now)) result }
     ensures fault { fault_of writer.new ≡ writer_fault result }
 {
     for pair in pairs {
@@ -246,7 +249,8 @@ pub(crate) fn write_pairs<W: Write>(
 
 fn write_pair<W: Write>(writer: &mut Watched<W>, pair: Pair) -> Result<(), WriteError>
     requires { fault_of writer.old ≡ None }
-    ensures written { Wrote (W.contents (inner_of writer.old)) (W.contents (inner_of writer.new)) (pair_bytes (pair_of pair)) result }
+    ensures written { Wrote (W.contents (inner_of writer.old)) (W.contents (inner_of writer.new))
+        (pair_bytes (pair_of pair)) result }
     ensures fault { fault_of writer.new ≡ writer_fault result }
 {
     write_uleb(writer, pair.name)?;

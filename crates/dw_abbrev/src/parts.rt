@@ -1,6 +1,6 @@
-//! What a value adds to the size of its entry, where its form tells it: bytes, an address or an offset (section 7.5.6). Nearly all
-//! forms have low numbers. They are looked up in tables, without a jump that would often be guessed wrong; tables of text, since the
-//! compiler makes any other list anew at each look.
+//! What a value adds to the size of its entry, where its form tells it: bytes, an address or an offset (section 7.5.6).
+//! Nearly all forms have low numbers. They are looked up in tables, without a jump that would often be guessed wrong;
+//! tables of text, since the compiler makes any other list anew at each look.
 ghost use Rattle.std.specs.Prelude.{◌≡◌, ◌<◌, ◌≤◌, Some, None, is_some, IsTrue, IsFalse};
 ghost use Rattle.dw_form.specs.declared.size.FormSize.TheVariants.{Offset};
 ghost use Rattle.dw_abbrev.specs.Parts.{told_by, bytes_or, addresses_or, offsets_or};

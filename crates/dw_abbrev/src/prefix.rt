@@ -7,8 +7,8 @@ use crate::parts::{LOW_FORMS, addresses_of, bytes_of, has_offset, is_told, offse
 /// The most values that are counted.
 const MOST_VALUES: u16 = 1024;
 
-/// The values at the front of each entry of a declaration whose sizes their forms tell: how many they are, and how many bytes
-/// they have in all, whatever their bytes are. Of more than 1,024 the first 1,024 are counted.
+/// The values at the front of each entry of a declaration whose sizes their forms tell: how many they are, and how many
+/// bytes they have in all, whatever their bytes are. Of more than 1,024 the first 1,024 are counted.
 #[derive(Clone, Copy, Debug, PartialEq, Eq)]
 pub struct FixedPrefix {
     /// How many values.
@@ -86,7 +86,8 @@ impl FixedPrefix {
     /// With one pair more behind `before` others, of which it is that.
     pub(crate) fn extended(self, pair: &Pair, before: usize) -> FixedPrefix
         requires { pair_refusal (pair_of pair.now) ≡ None }
-        ensures { (ps : List ThePair) → length ps ≡ before → IsPrefix ps self → IsPrefix (ps ++ pair_of pair.now ∷ []) result }
+        ensures { (ps : List ThePair) → length ps ≡ before → IsPrefix ps self
+            → IsPrefix (ps ++ pair_of pair.now ∷ []) result }
     {
         if self.count as usize != before {
             return self;
@@ -101,12 +102,15 @@ impl FixedPrefix {
         prefix
     }
 
-    /// Counts one value more, of this form, if the form tells its size. Else nothing is changed, and the answer is false.
+    /// Counts one value more, of this form, if the form tells its size. Else nothing is changed, and the answer is
+    /// false.
     #[inline(always)]
     fn count_form(&mut self, form: u64) -> bool
         requires { self.old.count ≤ 1023 }
         ensures count { IsTrue result → self.new.count ≡ self.old.count + 1 }
-        ensures prefix { IsTrue result → (ps : List ThePair) (p : ThePair) → IsPrefix ps self.old → length ps ≡ self.old.count → told p ≡ told_by form → IsPrefix (ps ++ p ∷ []) self.new }
+        ensures prefix { IsTrue result → (ps : List ThePair) (p : ThePair) → IsPrefix ps self.old → length ps
+            ≡ self.old.count
+            → told p ≡ told_by form → IsPrefix (ps ++ p ∷ []) self.new }
         ensures untold { IsFalse result → told_by form ≡ None }
         ensures same { IsFalse result → self.new ≡ self.old }
     {
@@ -126,7 +130,9 @@ impl FixedPrefix {
         requires room { self.old.count ≤ 1023 }
         requires high { 45 ≤ form }
         ensures count { IsTrue result → self.new.count ≡ self.old.count + 1 }
-        ensures prefix { IsTrue result → (ps : List ThePair) (p : ThePair) → IsPrefix ps self.old → length ps ≡ self.old.count → told p ≡ told_by form → IsPrefix (ps ++ p ∷ []) self.new }
+        ensures prefix { IsTrue result → (ps : List ThePair) (p : ThePair) → IsPrefix ps self.old → length ps
+            ≡ self.old.count
+            → told p ≡ told_by form → IsPrefix (ps ++ p ∷ []) self.new }
         ensures untold { IsFalse result → told_by form ≡ None }
         ensures same { IsFalse result → self.new ≡ self.old }
     {

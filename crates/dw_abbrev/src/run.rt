@@ -90,10 +90,12 @@ impl Run {
         }
     }
 
-    /// The table that is kept of `here`, where it begins with declarations that are shared, at least twice as many as the run has. With
-    /// fewer they are read once more: so of the runs of a table each has twice as many declarations as all before it have.
+    /// The table that is kept of `here`, where it begins with declarations that are shared, at least twice as many as
+    /// the run has. With fewer they are read once more: so of the runs of a table each has twice as many declarations
+    /// as all before it have.
     fn meets<'k>(&self, kept: &'k IndexMap<u64, Rc<Table>>, here: usize) -> Option<&'k Table>
-        ensures { (abbreviations : List ℕ) → AllByRecursion (λ e. TableAt abbreviations e.0 e.1.value) kept.now.entries → IfSome result (λ t. TableAt abbreviations here t.now) }
+        ensures { (abbreviations : List ℕ) → AllByRecursion (λ e. TableAt abbreviations e.0 e.1.value) kept.now.entries
+            → IfSome result (λ t. TableAt abbreviations here t.now) }
     {
         let table = kept.get(&(here as u64))?;
         if table.first_shared() / 2 < self.decls.len() {
@@ -104,7 +106,9 @@ impl Run {
 
     /// The run before the declarations that this table shares, if it has no others and none of a code that the run has.
     fn before(self, table: &Table) -> Result<Option<JoinedRun>, AllocError>
-        ensures { (abbreviations : List ℕ) (here : ℕ) → TableAt abbreviations here table.now → IsRun abbreviations self here → IfOk result (λ o. IfSome o (IsJoined abbreviations)) }
+        ensures { (abbreviations : List ℕ) (here : ℕ) → TableAt abbreviations here table.now
+            → IsRun abbreviations self here
+            → IfOk result (λ o. IfSome o (IsJoined abbreviations)) }
     {
         match table.shared_runs()? {
             Some((rest, last_zero)) => Ok(self.join(rest, last_zero)),
@@ -115,7 +119,9 @@ impl Run {
     /// The run with what stands behind it, if no code is there twice.
     fn join(self, rest: Vec<SharedRun>, last_zero: Uleb) -> Option<JoinedRun>
         requires zero { IsZero (uleb_of last_zero) }
-        ensures { (abbreviations : List ℕ) (here : ℕ) → TableAt abbreviations here (record { declarations = joined rest.items; last_zero = last_zero.width }) → IsRun abbreviations self here → IfSome result (IsJoined abbreviations) }
+        ensures { (abbreviations : List ℕ) (here : ℕ)
+            → TableAt abbreviations here (record { declarations = joined rest.items; last_zero = last_zero.width })
+            → IsRun abbreviations self here → IfSome result (IsJoined abbreviations) }
     {
         if !self.decls.are_apart_from(rest.as_slice()) {
             return None;
@@ -129,8 +135,8 @@ impl Run {
 }
 
 impl JoinedRun {
-    /// The declarations from `at` on, up to a table that is kept and begins with enough shared ones, or to the zero. None where the table at
-    /// `at` breaks.
+    /// The declarations from `at` on, up to a table that is kept and begins with enough shared ones, or to the zero.
+    /// None where the table at `at` breaks.
     pub(crate) fn read(
         alloc: Global,
         abbreviations: &[u8],

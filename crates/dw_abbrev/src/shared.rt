@@ -13,7 +13,8 @@ use std::io::Write;
 use std::marker::Model;
 use std::rc::Rc;
 
-/// The declarations of a run from one of them on. A run is declarations that stand one behind the other in their section; it never changes, and the tables that have its end in common share it.
+/// The declarations of a run from one of them on. A run is declarations that stand one behind the other in their
+/// section; it never changes, and the tables that have its end in common share it.
 #[derive(Drop)]
 pub(crate) struct SharedRun {
     run: Rc<Decls>,
@@ -75,7 +76,9 @@ impl SharedRun {
     /// Writes the declarations, one behind the other.
     fn write<W: Write>(&self, writer: &mut Watched<W>) -> Result<(), WriteError>
         requires { fault_of writer.old ≡ None }
-        ensures written { Wrote (W.contents (inner_of writer.old)) (W.contents (inner_of writer.new)) (declarations_bytes self.now) result }
+        ensures written { Wrote (W.contents (inner_of writer.old)) (W.contents (inner_of writer.new))
+            (declarations_bytes self.now)
+            result }
         ensures fault { fault_of writer.new ≡ writer_fault result }
     {
         write_decls(writer, self.as_slice())
@@ -114,7 +117,8 @@ pub(crate) fn write_shared<W: Write>(
     runs: &[SharedRun],
 ) -> Result<(), WriteError>
     requires { fault_of writer.old ≡ None }
-    ensures written { Wrote (W.contents (inner_of writer.old)) (W.contents (inner_of writer.new)) (declarations_bytes (joined runs.now)) result }
+    ensures written { Wrote (W.contents (inner_of writer.old)) (W.contents (inner_of writer.new))
+        (declarations_bytes (joined runs.now)) result }
     ensures fault { fault_of writer.new ≡ writer_fault result }
 {
     let mut left = runs;
@@ -131,7 +135,9 @@ pub(crate) fn write_decls<W: Write>(
     decls: &[Decl],
 ) -> Result<(), WriteError>
     requires { fault_of writer.old ≡ None }
-    ensures written { Wrote (W.contents (inner_of writer.old)) (W.contents (inner_of writer.new)) (declarations_bytes decls.now) result }
+    ensures written { Wrote (W.contents (inner_of writer.old)) (W.contents (inner_of writer.new))
+        (declarations_bytes decls.now)
+        result }
     ensures fault { fault_of writer.new ≡ writer_fault result }
 {
     let mut left = decls;

@@ -41,7 +41,12 @@ impl Model for Table {
 
     ghost view = { λ t. record { declarations = with_shared t.decls t.shared.items; last_zero = t.last_zero.width } };
 
-    ghost invariant = { λ t. record { zero : IsZero (uleb_of t.last_zero); fits : table.Fits (record { declarations = with_shared t.decls t.shared.items; last_zero = t.last_zero.width }) } };
+    ghost invariant = { λ t.
+        record {
+          zero : IsZero (uleb_of t.last_zero);
+          fits : table.Fits
+              (record { declarations = with_shared t.decls t.shared.items; last_zero = t.last_zero.width });
+        } };
 }
 
 /// What is written, whether the table has it alone or not.
@@ -89,7 +94,8 @@ impl Table {
     /// one pair or one declaration was refused; so there is one. Never `Io`.
     pub fn read(alloc: Global, abbreviations: &[u8], offset: u64) -> Result<Table, ReadError>
         ensures found { IfOk result (λ t. TableAt abbreviations.now offset t) }
-        ensures only { (t : Spelled) → TableAt abbreviations.now offset t → IfOk result (λ x. x ≡ t) × IfErr result (λ e. e ≡ refused_memory) }
+        ensures only { (t : Spelled) → TableAt abbreviations.now offset t
+            → IfOk result (λ x. x ≡ t) × IfErr result (λ e. e ≡ refused_memory) }
         ensures broken { IfErr result (λ e. IsTableError abbreviations.now offset e) }
         ensures memory { IfErr result (λ e. e ≡ refused_memory → Declares abbreviations.now offset) }
     {
@@ -100,7 +106,8 @@ impl Table {
         }
     }
 
-    /// The same where no declaration of the table is known yet, all of which are then. None where one is: another table was read there.
+    /// The same where no declaration of the table is known yet, all of which are then. None where one is: another table
+    /// was read there.
     #[inline(always)]
     pub(crate) fn read_unknown(
         alloc: Global,
@@ -109,7 +116,8 @@ impl Table {
         known: &mut KnownOffsets,
     ) -> Result<Option<Table>, ReadError>
         ensures found { IfOk result (λ o. IfSome o (λ t. TableAt abbreviations.now offset t)) }
-        ensures only { (t : Spelled) → TableAt abbreviations.now offset t → IfOk result (λ o. IfSome o (λ x. x ≡ t)) × IfErr result (λ e. e ≡ refused_memory) }
+        ensures only { (t : Spelled) → TableAt abbreviations.now offset t
+            → IfOk result (λ o. IfSome o (λ x. x ≡ t)) × IfErr result (λ e. e ≡ refused_memory) }
         ensures broken { IfErr result (λ e. IsTableError abbreviations.now offset e) }
         ensures memory { IfErr result (λ e. e ≡ refused_memory → Declares abbreviations.now offset) }
         ensures met { IfOk result (λ o. IfNone o (IsTrue known.old.keeps)) }
@@ -184,7 +192,10 @@ impl Table {
     ) -> Result<Table, AllocError>
         requires zero { IsZero (uleb_of last_zero) }
         requires fits { part.Fits (record { declarations = first ++ joined rest.now; last_zero = last_zero.width }) }
-        ensures { IfOk result (λ t. t ≡ record { declarations = first ++ joined rest.now; last_zero = last_zero.width }) }
+        ensures { IfOk result (λ t. t ≡ record {
+          declarations = first ++ joined rest.now;
+          last_zero = last_zero.width;
+        }) }
     {
         let mut shared = Vec::new(alloc);
         shared.push(first)?;
@@ -206,7 +217,8 @@ impl Table {
 
     /// What the table shares, once more, and the zero behind it, if it has no declarations of its own.
     pub(crate) fn shared_runs(&self) -> Result<Option<(Vec<SharedRun>, Uleb)>, AllocError>
-        ensures { IfOk result (λ o. IfSome o (λ x. (self.now ≡ record { declarations = joined x.0.items; last_zero = x.1.width }) × IsZero (uleb_of x.1))) }
+        ensures { IfOk result (λ o. IfSome o (λ x. (self.now ≡ record
+            { declarations = joined x.0.items; last_zero = x.1.width }) × IsZero (uleb_of x.1))) }
     {
         if !self.decls.is_empty() {
             return Ok(None);
@@ -228,7 +240,8 @@ impl Table {
         }
     }
 
-    /// The same wherever it stands, also among what is shared. (It stands alone, since compilers number codes from 1 on.)
+    /// The same wherever it stands, also among what is shared. (It stands alone, since compilers number codes from 1
+    /// on.)
     #[inline(never)]
     fn search(&self, code: u64) -> Option<&Decl>
         ensures { option_copied result ≡ declared self.now code }
@@ -253,7 +266,8 @@ impl Table {
     /// a beginning of the table was written.
     pub fn write<W: Write>(&self, writer: &mut Watched<W>) -> Result<(), WriteError>
         requires { fault_of writer.old ≡ None }
-        ensures written { Wrote (W.contents (inner_of writer.old)) (W.contents (inner_of writer.new)) (part.spell self.now) result }
+        ensures written { Wrote (W.contents (inner_of writer.old)) (W.contents (inner_of writer.new))
+            (part.spell self.now) result }
         ensures fits { part.Fits self.now }
         ensures fault { fault_of writer.new ≡ writer_fault result }
     {
@@ -267,7 +281,8 @@ impl Table {
 #[inline(always)]
 fn code_at(decls: &Decls, abbreviations: &[u8], at: usize) -> Result<(Uleb, usize), ReadError>
     requires within { at ≤ length abbreviations.now }
-    ensures ok { IfOk result (λ x. Gives (read_code (map declaration_parts decls.now)) abbreviations.now at (uleb_of x.0) x.1) }
+    ensures ok { IfOk result (λ x. Gives (read_code (map declaration_parts decls.now))
+        abbreviations.now at (uleb_of x.0) x.1) }
     ensures forward { IfOk result (λ x. (at < x.1) × (x.1 ≤ length abbreviations.now)) }
     ensures fresh { IfOk result (λ x. declared_in decls.now x.0.value ≡ None) }
     ensures err { IfErr result (λ e. IsErrorAt (read_code (map declaration_parts decls.now)) abbreviations.now at e) }

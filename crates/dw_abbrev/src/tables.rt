@@ -65,7 +65,8 @@ impl<'a> Tables<'a> {
     /// answered where a table couldn't be kept, or where declarations begin couldn't be kept track of.
     pub fn get(&mut self, offset: u64) -> Result<Rc<Table>, ReadError>
         ensures found { IfOk result (λ t. TableAt self.old offset t.value) }
-        ensures only { (t : Spelled) → TableAt self.old offset t → IfOk result (λ x. x.value ≡ t) × IfErr result (λ e. e ≡ refused_memory) }
+        ensures only { (t : Spelled) → TableAt self.old offset t
+            → IfOk result (λ x. x.value ≡ t) × IfErr result (λ e. e ≡ refused_memory) }
         ensures broken { IfErr result (λ e. IsTableError self.old offset e) }
         ensures memory { IfErr result (λ e. e ≡ refused_memory → offset < length self.old) }
         ensures abbreviations { self.new ≡ self.old }
@@ -111,7 +112,8 @@ impl<'a> Tables<'a> {
     fn get_shared(&mut self, offset: u64) -> Result<Rc<Table>, ReadError>
         requires { offset < length self.old }
         ensures found { IfOk result (λ t. TableAt self.old offset t.value) }
-        ensures only { (t : Spelled) → TableAt self.old offset t → IfOk result (λ x. x.value ≡ t) × IfErr result (λ e. e ≡ refused_memory) }
+        ensures only { (t : Spelled) → TableAt self.old offset t
+            → IfOk result (λ x. x.value ≡ t) × IfErr result (λ e. e ≡ refused_memory) }
         ensures broken { IfErr result (λ e. IsTableError self.old offset e) }
         ensures abbreviations { self.new ≡ self.old }
     {
@@ -147,8 +149,8 @@ impl<'a> Tables<'a> {
         Ok(())
     }
 
-    /// Keeps the table at `offset`, which meets others, and those that begin with its declarations, by what they share. Where the table
-    /// breaks nothing is kept.
+    /// Keeps the table at `offset`, which meets others, and those that begin with its declarations, by what they share.
+    /// Where the table breaks nothing is kept.
     fn share(&mut self, offset: u64) -> Result<(), AllocError>
         requires { offset < length self.old }
         ensures { self.new ≡ self.old }
@@ -182,7 +184,8 @@ impl<'a> Tables<'a> {
         last_zero: Uleb,
     ) -> Result<(), AllocError>
         requires zero { IsZero (uleb_of last_zero) }
-        requires stand { StandTogether self.old starts.now run.now.value (record { declarations = joined rest.now; last_zero = last_zero.width }) }
+        requires stand { StandTogether self.old starts.now run.now.value
+            (record { declarations = joined rest.now; last_zero = last_zero.width }) }
         ensures { self.new ≡ self.old }
     {
         let mut left = starts;
@@ -195,8 +198,8 @@ impl<'a> Tables<'a> {
         Ok(())
     }
 
-    /// Keeps the table that begins at `start` with the run's declaration of the index `from`, unless what is kept there shares more than half
-    /// as much in its first run.
+    /// Keeps the table that begins at `start` with the run's declaration of the index `from`, unless what is kept there
+    /// shares more than half as much in its first run.
     fn keep_from(
         &mut self,
         start: u64,
@@ -206,7 +209,8 @@ impl<'a> Tables<'a> {
         last_zero: Uleb,
     ) -> Result<(), AllocError>
         requires zero { IsZero (uleb_of last_zero) }
-        requires stands { TableAt self.old start (record { declarations = drop from run.now.value ++ joined rest.now; last_zero = last_zero.width }) }
+        requires stands { TableAt self.old start
+            (record { declarations = drop from run.now.value ++ joined rest.now; last_zero = last_zero.width }) }
         ensures { self.new ≡ self.old }
     {
         let first = SharedRun::new(run.clone()?, from);

@@ -83,7 +83,9 @@ findings_at u e position a repeated =
 -- of attributes behind others
 abbrev pub findings_behind : UnitIn → EntryAt → List LentAttribute → List LentAttribute → List Finding
 findings_behind u e before [] = []
-findings_behind u e before (a ∷ others) = findings_at u e (suc (length before)) a (is_named_among a.name before) ++ findings_behind u e (before ++ a ∷ []) others
+findings_behind u e before (a ∷ others) =
+    findings_at u e (suc (length before)) a (is_named_among a.name before)
+    ++ findings_behind u e (before ++ a ∷ []) others
 
 -- ---- entries
 
@@ -133,12 +135,14 @@ unit_findings u = root_findings u ++ entries_findings u (entries_of (tree_of u.u
 
 -- what isn't read has none
 abbrev pub item_findings : List Item → StringSections → ℕ → ℕ → Item → List Finding
-item_findings items strings number start (Known u) = unit_findings (record { items = items; strings = strings; number = number; start = start; unit = u })
+item_findings items strings number start (Known u) =
+    unit_findings (record { items = items; strings = strings; number = number; start = start; unit = u })
 item_findings items strings number start (Other bytes) = []
 
 abbrev pub items_findings : List Item → StringSections → List ItemAt → List Finding
 items_findings items strings [] = []
-items_findings items strings (x ∷ xs) = item_findings items strings x.number x.start x.item ++ items_findings items strings xs
+items_findings items strings (x ∷ xs) =
+    item_findings items strings x.number x.start x.item ++ items_findings items strings xs
 
 abbrev pub findings : StringSections → WholeSection → List Finding
 findings strings s = items_findings s.items strings (items_at s.items)

@@ -17,7 +17,10 @@ use Rattle.dw_check.specs.Kinds.{kind_number}
 
 -- by the entry's offset, then by the attribute's position, then by the number of the kind
 abbrev pub Precedes : Finding → Finding → Type 0
-Precedes f g = (f.offset < g.offset) ⊎ ((f.offset ≡ g.offset) × ((f.position < g.position) ⊎ ((f.position ≡ g.position) × (kind_number f.kind < kind_number g.kind))))
+Precedes f g =
+    (f.offset < g.offset)
+    ⊎ ((f.offset ≡ g.offset)
+    × ((f.position < g.position) ⊎ ((f.position ≡ g.position) × (kind_number f.kind < kind_number g.kind))))
 
 -- each one precedes all that stand behind it; so none stands twice
 abbrev pub FindingsAscend : Type 0
@@ -67,7 +70,13 @@ pub record IsFinding (strings : StringSections) (s : WholeSection) (f : Finding)
   pub unit : WholeUnit
   pub among : Contains (items_at s.items) item
   pub known : item.item ≡ Known unit
-  pub there : AtRoot (record { items = s.items; strings = strings; number = item.number; start = item.start; unit = unit }) f ⊎ AtAttribute (record { items = s.items; strings = strings; number = item.number; start = item.start; unit = unit }) f
+  pub there : AtRoot
+      (record { items = s.items; strings = strings; number = item.number; start = item.start; unit = unit }) f
+      ⊎ AtAttribute
+      (record { items = s.items; strings = strings; number = item.number; start = item.start; unit = unit })
+      f
 
 abbrev pub FindingsAreThose : Type 0
-FindingsAreThose = (strings : StringSections) (s : WholeSection) (f : Finding) → Contains (findings strings s) f ↔ IsFinding strings s f
+FindingsAreThose =
+    (strings : StringSections) (s : WholeSection) (f : Finding)
+    → Contains (findings strings s) f ↔ IsFinding strings s f

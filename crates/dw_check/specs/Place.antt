@@ -8,7 +8,14 @@ use Rattle.dw_check.specs.Ends.{AreEnds}
 use Rattle.dw_check.specs.Findings.{UnitIn}
 
 abbrev pub unit_in : Place → UnitIn
-unit_in p = record { items = p.section.now.items; strings = sections_of p.strings.now; number = p.item; start = p.start; unit = p.unit.now }
+unit_in p =
+    record {
+      items = p.section.now.items;
+      strings = sections_of p.strings.now;
+      number = p.item;
+      start = p.start;
+      unit = p.unit.now;
+    }
 
 -- the unit is this item of the section, has a spelling, and ends within 64 bits; the texts end there
 pub record IsPlace (p : Place) : Type 0 where

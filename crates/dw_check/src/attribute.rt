@@ -36,7 +36,10 @@ pub(crate) fn check_attribute(
     requires place { IsPlace place.now }
     requires begins { AreEntryOffsets place.now.unit.now begins.now }
     requires near { place.now.start + entry.now.offset < 2 ^ 64 }
-    ensures { OnOk result (found.new.items ≡ found.old.items ++ definition.findings_at (unit_in place.now) entry.now position (attr_of attribute.now) repeated) }
+    ensures { OnOk result
+        (found.new.items
+        ≡ found.old.items
+        ++ definition.findings_at (unit_in place.now) entry.now position (attr_of attribute.now) repeated) }
 {
     let wrong = Wrong {
         reference: is_bad_reference(place, begins, entry, attribute),
@@ -51,8 +54,8 @@ pub(crate) fn check_attribute(
     push_wrong(found, offset, position, wrong)
 }
 
-/// Adds the findings of an attribute whose value is a number of a fixed size, as `check_attribute` does. Only one that is looked
-/// at becomes an attribute first.
+/// Adds the findings of an attribute whose value is a number of a fixed size, as `check_attribute` does. Only one that
+/// is looked at becomes an attribute first.
 #[inline(always)]
 pub(crate) fn check_number(
     found: &mut Vec<Finding>,
@@ -66,7 +69,10 @@ pub(crate) fn check_number(
     requires place { IsPlace place.now }
     requires begins { AreEntryOffsets place.now.unit.now begins.now }
     requires near { place.now.start + entry.now.offset < 2 ^ 64 }
-    ensures { OnOk result (found.new.items ≡ found.old.items ++ definition.findings_at (unit_in place.now) entry.now position (number_of number.now) repeated) }
+    ensures { OnOk result
+        (found.new.items
+        ≡ found.old.items
+        ++ definition.findings_at (unit_in place.now) entry.now position (number_of number.now) repeated) }
 {
     if number.name == DW_AT_SIBLING || repeated || names_entry(number.form) {
         let attribute = number.attribute();
@@ -91,7 +97,10 @@ fn check_text(
     requires near { place.now.start + entry.now.offset < 2 ^ 64 }
     requires other { (attribute.now.name == 0x01) ≡ false }
     requires unnamed { is_some (at_number attribute.now.form ref_forms) ≡ false }
-    ensures { OnOk result (found.new.items ≡ found.old.items ++ definition.findings_at (unit_in place.now) entry.now position (attr_of attribute.now) false) }
+    ensures { OnOk result
+        (found.new.items
+        ≡ found.old.items
+        ++ definition.findings_at (unit_in place.now) entry.now position (attr_of attribute.now) false) }
 {
     if is_bad_text(place, entry, attribute) {
         let wrong = Wrong {
@@ -105,8 +114,8 @@ fn check_text(
     Ok(())
 }
 
-/// Adds the findings of an attribute whose value has no bytes, as `check_attribute` does. Such a value is no reference and no
-/// text, so it has findings only where it is named as a sibling or has the name of an earlier one.
+/// Adds the findings of an attribute whose value has no bytes, as `check_attribute` does. Such a value is no reference
+/// and no text, so it has findings only where it is named as a sibling or has the name of an earlier one.
 #[inline(always)]
 pub(crate) fn check_bare(
     found: &mut Vec<Finding>,
@@ -121,7 +130,10 @@ pub(crate) fn check_bare(
     requires begins { AreEntryOffsets place.now.unit.now begins.now }
     requires near { place.now.start + entry.now.offset < 2 ^ 64 }
     requires bare { is_some (own_bare (attribute_of bare.now.attr)) ≡ true }
-    ensures { OnOk result (found.new.items ≡ found.old.items ++ definition.findings_at (unit_in place.now) entry.now position (attr_of bare.now) repeated) }
+    ensures { OnOk result
+        (found.new.items
+        ≡ found.old.items
+        ++ definition.findings_at (unit_in place.now) entry.now position (attr_of bare.now) repeated) }
 {
     if bare.name == DW_AT_SIBLING || repeated {
         return check_rare(found, place, begins, entry, position, bare, repeated);
@@ -143,7 +155,10 @@ fn check_rare(
     requires place { IsPlace place.now }
     requires begins { AreEntryOffsets place.now.unit.now begins.now }
     requires near { place.now.start + entry.now.offset < 2 ^ 64 }
-    ensures { OnOk result (found.new.items ≡ found.old.items ++ definition.findings_at (unit_in place.now) entry.now position (attr_of attribute.now) repeated) }
+    ensures { OnOk result
+        (found.new.items
+        ≡ found.old.items
+        ++ definition.findings_at (unit_in place.now) entry.now position (attr_of attribute.now) repeated) }
 {
     check_attribute(found, place, begins, entry, position, attribute, repeated)
 }
@@ -218,8 +233,8 @@ fn is_bad_sibling(place: &Place<'_>, entry: &EntryRef<'_>, attribute: &AttrRef<'
     attribute.name == DW_AT_SIBLING && !is_right_sibling(place.start, entry, attribute)
 }
 
-/// Whether an attribute is a text that can't be looked up. One that stands in the unit itself always can; most others are
-/// offsets, for which it suffices to know where the texts end.
+/// Whether an attribute is a text that can't be looked up. One that stands in the unit itself always can; most others
+/// are offsets, for which it suffices to know where the texts end.
 #[inline(always)]
 fn is_bad_text(place: &Place<'_>, entry: &EntryRef<'_>, attribute: &AttrRef<'_>) -> bool
     requires { IsPlace place.now }

@@ -30,7 +30,8 @@ impl TextEnds {
     /// Whether there is no text at a place in `.debug_str`.
     pub(crate) fn has_none(self, place: TextPlace<'_>) -> bool
         requires { (offset : ℕ) × (place_of place ≡ InStr offset) }
-        ensures { (s : StringSections) → AreEnds s self → result ≡ is_unreadable (text_in_place s (place_of place.entry)) }
+        ensures { (s : StringSections) → AreEnds s self → result
+            ≡ is_unreadable (text_in_place s (place_of place.entry)) }
     {
         match place {
             TextPlace::Str(offset) => offset >= self.str,

@@ -1,5 +1,5 @@
-//! Which attributes of an entry have the name of an earlier one, and which are to be looked at at all. Its declaration tells
-//! that, once for all entries of its code.
+//! Which attributes of an entry have the name of an earlier one, and which are to be looked at at all. Its declaration
+//! tells that, once for all entries of its code.
 ghost use Rattle.std.specs.Prelude.{◌≡◌, [], nat_eq, map, option_copied, IfOk, IsSome, None, OnOk};
 ghost use Rattle.indexmap.specs.IndexMap.{get};
 ghost use Rattle.dw_abbrev.specs.PairView.{pair_of};
@@ -17,8 +17,8 @@ use dw_leb::constants::form::{
 use indexmap::{IndexMap, IndexSet};
 use std::alloc::{AllocError, Global};
 
-/// A mark for each attribute of the entries of a code, by the code: whether an earlier one has its name. Those at the end that can't
-/// have findings have no mark.
+/// A mark for each attribute of the entries of a code, by the code: whether an earlier one has its name. Those at the
+/// end that can't have findings have no mark.
 pub(crate) type Marks = IndexMap<u64, Vec<bool>>;
 
 /// Keeps the marks of a code of this table, of which none are kept.
@@ -61,7 +61,8 @@ fn marks_of(alloc: Global, table: &Table, code: u64) -> Result<Vec<bool>, AllocE
     }
 }
 
-/// Drops the marks of the pairs at the end whose values have no findings: those that aren't looked at and have no earlier name.
+/// Drops the marks of the pairs at the end whose values have no findings: those that aren't looked at and have no
+/// earlier name.
 fn drop_plain(marks: &mut Vec<bool>, pairs: &[Pair])
     requires { AreMarksFor [] (map pair_of pairs.now) marks.old.items }
     ensures { AreMarksFor [] (map pair_of pairs.now) marks.new.items }
@@ -91,7 +92,8 @@ fn is_looked_at(pair: &Pair) -> bool
 
 /// Whether a value of a code of this table can be a reference to an entry of its unit.
 pub(crate) fn refers(table: &Table, code: u64) -> bool
-    ensures { result ≡ list_any (λ p. refers_within p.name.value p.form.value) (declared_pairs (declared table.now code)) }
+    ensures { result ≡ list_any (λ p. refers_within p.name.value p.form.value)
+        (declared_pairs (declared table.now code)) }
 {
     match table.get(code) {
         Some(declaration) => any_refers(declaration.pairs()),

@@ -73,8 +73,8 @@ pub fn check<'a>(
     Ok(found)
 }
 
-/// Adds the findings of a unit. Where its entries begin is learnt as soon as there is one that can refer to another. `spare` has
-/// the memory for that from unit to unit.
+/// Adds the findings of a unit. Where its entries begin is learnt as soon as there is one that can refer to another.
+/// `spare` has the memory for that from unit to unit.
 fn check_unit(
     alloc: Global,
     found: &mut Vec<Finding>,
@@ -104,9 +104,9 @@ fn check_unit(
     Ok(())
 }
 
-/// Learns where the entries of the unit begin, unless that is learnt, where a value of this code can be a reference to one of
-/// them. Not where they are so few that their places would cost more than they save: in a unit with a large block or text, or
-/// with much padding. The memory is that of `spare`.
+/// Learns where the entries of the unit begin, unless that is learnt, where a value of this code can be a reference to
+/// one of them. Not where they are so few that their places would cost more than they save: in a unit with a large
+/// block or text, or with much padding. The memory is that of `spare`.
 fn learn_for(
     code: u64,
     is_learnt: &mut bool,
@@ -127,7 +127,8 @@ fn learn_for(
     }
 }
 
-/// Adds the findings of an entry that is the first of its code in the unit. The marks of the code are kept for those that follow.
+/// Adds the findings of an entry that is the first of its code in the unit. The marks of the code are kept for those
+/// that follow.
 #[inline(never)]
 fn check_first(
     alloc: Global,
@@ -145,7 +146,8 @@ fn check_first(
     requires kept { AreMarks place.now.unit.now.table kept.old.entries }
     requires absent { get nat_eq kept.old code ≡ None }
     ensures are { AreMarks place.now.unit.now.table kept.new.entries }
-    ensures found { OnOk result (found.new.items ≡ found.old.items ++ definition.entry_findings (unit_in place.now) entry.now) }
+    ensures found { OnOk result (found.new.items ≡ found.old.items ++ definition.entry_findings
+        (unit_in place.now) entry.now) }
 {
     mark(alloc, kept, place.unit.tree().table(), code)?;
     match kept_marks(kept, code) {
@@ -154,8 +156,9 @@ fn check_first(
     }
 }
 
-/// Adds the findings of an entry. `marks` says of each of its attributes whether an earlier one has its name; those behind the
-/// last mark have no findings. Nearly every value is a number or has no bytes: these are judged where it is known that they are.
+/// Adds the findings of an entry. `marks` says of each of its attributes whether an earlier one has its name; those
+/// behind the last mark have no findings. Nearly every value is a number or has no bytes: these are judged where it is
+/// known that they are.
 #[inline(always)]
 fn check_entry(
     found: &mut Vec<Finding>,
@@ -168,7 +171,8 @@ fn check_entry(
     requires begins { AreEntryOffsets place.now.unit.now begins.now }
     requires near { place.now.start + entry.now.offset < 2 ^ 64 }
     requires marked { AreMarked [] (attributes_of entry.now) marks.now }
-    ensures { OnOk result (found.new.items ≡ found.old.items ++ definition.entry_findings (unit_in place.now) entry.now) }
+    ensures { OnOk result (found.new.items ≡ found.old.items ++ definition.entry_findings
+        (unit_in place.now) entry.now) }
 {
     let mut position = 0;
     let mut attributes = entry.attrs();

@@ -71,7 +71,9 @@ with_both_flags app = with_rule (with_rule app (flag (codes "big"))) (flag (code
 
 -- a subcommand, with the options that each has
 abbrev pub subcommand : Text → App
-subcommand name = with_both_flags (with_rule (with_text_sections (with_entry_sections (new_app name))) (optional_path (codes "str-offsets")))
+subcommand name =
+    with_both_flags
+    (with_rule (with_text_sections (with_entry_sections (new_app name))) (optional_path (codes "str-offsets")))
 
 -- `find`, with the name that is looked for
 abbrev pub finder : App
@@ -83,7 +85,8 @@ type_finder = with_rule (subcommand (codes "type")) (word (codes "offset"))
 
 -- an entry, an attribute of it and the number that it gets
 abbrev pub with_edit : App → App
-with_edit app = with_rule (with_rule (with_rule app (word (codes "offset"))) (word (codes "attribute"))) (word (codes "value"))
+with_edit app =
+    with_rule (with_rule (with_rule app (word (codes "offset"))) (word (codes "attribute"))) (word (codes "value"))
 
 -- `set`, with the number's sign as a flag
 abbrev pub setter : App
@@ -135,7 +138,8 @@ IsCommand name rows (command.Find wanted) = (name ≡ codes "find") × (first_of
 IsCommand name rows (command.TypeOf offset) = (name ≡ codes "type") × (offset_given rows ≡ Some offset)
 IsCommand name rows command.Check = name ≡ codes "check"
 IsCommand name rows (command.SetNumber offset attribute value) =
-    (name ≡ codes "set") × (offset_given rows ≡ Some offset) × (attribute_given rows ≡ Some attribute) × (value_given rows ≡ Some value)
+    (name ≡ codes "set") × (offset_given rows ≡ Some offset) × (attribute_given rows ≡ Some attribute)
+    × (value_given rows ≡ Some value)
 IsCommand name rows command.Copy = name ≡ codes "copy"
 
 -- this word was given for an argument that reads words so, and it isn't one of those
@@ -145,11 +149,13 @@ IsOutside read id rows word = (first_of id rows ≡ Some word) × (read word ≡
 abbrev pub IsBadWord : {X : Type 0} → Argument → (Text → Option X) → Text → List Row → BadWord → Type 0
 IsBadWord argument read id rows bad = (bad.argument ≡ argument) × IsOutside read id rows bad.word.now
 
--- The subcommand of this name has the argument, and this word of it is the first that is no word of the grammar, in the order OFFSET,
--- ATTR, VALUE.
+-- The subcommand of this name has the argument, and this word of it is the first that is no word of the grammar, in the
+-- order OFFSET, ATTR, VALUE.
 abbrev pub IsBadAt : Argument → Text → List Row → Text → Type 0
-IsBadAt Offset name rows word = ((name ≡ codes "type") ⊎ (name ≡ codes "set")) × IsOutside offset_in (codes "offset") rows word
-IsBadAt Attribute name rows word = (name ≡ codes "set") × (is_some (offset_given rows) ≡ true) × IsOutside attribute_in (codes "attribute") rows word
+IsBadAt Offset name rows word =
+    ((name ≡ codes "type") ⊎ (name ≡ codes "set")) × IsOutside offset_in (codes "offset") rows word
+IsBadAt Attribute name rows word =
+    (name ≡ codes "set") × (is_some (offset_given rows) ≡ true) × IsOutside attribute_in (codes "attribute") rows word
 IsBadAt Value name rows word =
     (name ≡ codes "set") × (is_some (offset_given rows) ≡ true) × (is_some (attribute_given rows) ≡ true)
     × IsOutside (value_read rows) (codes "value") rows word
@@ -212,7 +218,8 @@ pub record HasPaths (rows : List Row) : Type 0 where
 pub record HasWords (name : Text) (rows : List Row) : Type 0 where
   pub find : name ≡ codes "find" → IsGiven rows (codes "name")
   pub type_of : name ≡ codes "type" → IsGiven rows (codes "offset")
-  pub set : name ≡ codes "set" → IsGiven rows (codes "offset") × IsGiven rows (codes "attribute") × IsGiven rows (codes "value")
+  pub set : name ≡ codes "set"
+      → IsGiven rows (codes "offset") × IsGiven rows (codes "attribute") × IsGiven rows (codes "value")
 
 -- one of the subcommands was met, with the options and the words that it wants
 pub record Meets (matches : Option (Text × List Row)) : Type 0 where
@@ -257,7 +264,8 @@ abbrev pub EndsHelp : Result (Unit {0}) IoError → Result ℕ Failure → Type 
 EndsHelp (Ok printed) ended = ended ≡ Ok 0
 EndsHelp (Err e) ended = IsErrAnd ended (FailsAs (error_kind e) failure.Output)
 
--- The exit status, or why the program gives up, by whether the parser's text was printed: after a mistake 2 in any case.
+-- The exit status, or why the program gives up, by whether the parser's text was printed: after a mistake 2 in any
+-- case.
 abbrev pub Ends : LineError → Result (Unit {0}) IoError → Result ℕ Failure → Type 0
 Ends (outcome.Parse e) printed ended = (IsHelp (kind_of e) → EndsHelp printed ended)
     × ((kind_of e ≢ DisplayHelp) → (kind_of e ≢ DisplayVersion) → ended ≡ Ok 2)

@@ -35,14 +35,17 @@ abbrev pub RunEnds : Result Status ToolError → Bor (List ℕ) → Result Statu
 RunEnds (Ok status) info ended = ended ≡ Ok status
 RunEnds (Err e) info ended = IsErrAnd ended (RunFails e info)
 
--- A run by a line, over files of these bytes: what it answers by the bytes that the reader of `.debug_info` has left and the writer holds,
--- before and after, and how the program ends.
-abbrev pub RunsLine : Line → List (Vec ℕ Global) → Option (List ℕ) → Option (List ℕ) → Option (List ℕ) → Option (List ℕ) → Result Status Failure → Type 0
+-- A run by a line, over files of these bytes: what it answers by the bytes that the reader of `.debug_info` has left
+-- and the writer holds, before and after, and how the program ends.
+abbrev pub RunsLine : Line → List (Vec ℕ Global) → Option (List ℕ) → Option (List ℕ) → Option (List ℕ) → Option (List ℕ)
+    → Result Status Failure → Type 0
 RunsLine line files left left' held held' ended =
-    (ran : Result Status ToolError) × Runs line.command (texts_in files) line.versions line.order (file_at files 0) left left' held held' ran
+    (ran : Result Status ToolError)
+    × Runs line.command (texts_in files) line.versions line.order (file_at files 0) left left' held held' ran
     × RunEnds ran line.info ended
 
--- The exit status where words are no line: 2 after a mistake, 4 without memory. That of help is told by whether it could be printed.
+-- The exit status where words are no line: 2 after a mistake, 4 without memory. That of help is told by whether it
+-- could be printed.
 abbrev pub EndsWith : LineError → ℕ → Type 0
 EndsWith (outcome.Parse e) status = (kind_of e ≢ DisplayHelp) → (kind_of e ≢ DisplayVersion) → status ≡ 2
 EndsWith (outcome.BadWord bad) status = status ≡ 2
@@ -50,5 +53,6 @@ EndsWith outcome.Memory status = status ≡ 4
 
 -- Words that the parser doesn't take, and by which no help is asked for, end with 2, or with 4 for want of memory.
 abbrev pub EndsLine : List Text → ℕ → Type 0
-EndsLine words status = (refusals words ≢ []) → (IsAmong DisplayHelp (refusals words) → ⊥) → (IsAmong DisplayVersion (refusals words) → ⊥)
+EndsLine words status =
+    (refusals words ≢ []) → (IsAmong DisplayHelp (refusals words) → ⊥) → (IsAmong DisplayVersion (refusals words) → ⊥)
     → (status ≡ 2) ⊎ (status ≡ 4)

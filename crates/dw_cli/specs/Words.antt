@@ -36,11 +36,13 @@ offset_in word = option_and_then (below (2 ^ 64)) (number_of word)
 
 -- VALUE: a number below 2^127, which a flag makes negative
 abbrev pub value_in : Bool → Text → Option ℤ
-value_in minus word = option_map (λ n. if minus then neg_ℤ (pos n) else pos n) (option_and_then (below (2 ^ 127)) (number_of word))
+value_in minus word =
+    option_map (λ n. if minus then neg_ℤ (pos n) else pos n) (option_and_then (below (2 ^ 127)) (number_of word))
 
 -- ATTR: the name of an attribute as it is printed, or a number below 2^64
 abbrev pub attribute_in : Text → Option ℕ
-attribute_in word = if begins_with (codes "DW_AT_") word then number_named attribute_names (drop 6 word) else offset_in word
+attribute_in word =
+    if begins_with (codes "DW_AT_") word then number_named attribute_names (drop 6 word) else offset_in word
 
 -- ---- what the user is told of a word that is none of these
 
@@ -53,11 +55,13 @@ argument_name Value = codes "VALUE"
 -- which words the argument may be
 abbrev pub wanted : Argument → Text
 wanted Offset = codes "a number below 2^64 is wanted, in decimal or in hexadecimal after 0x"
-wanted Attribute = codes "a name like DW_AT_name is wanted, or a number below 2^64, in decimal or in hexadecimal after 0x"
+wanted Attribute =
+    codes "a name like DW_AT_name is wanted, or a number below 2^64, in decimal or in hexadecimal after 0x"
 wanted Value = codes "a number below 2^127 is wanted, in decimal or in hexadecimal after 0x"
 
 -- the message, with the end of its last line
 abbrev pub bad_word_text : BadWord → Text
 bad_word_text bad =
-    codes "error: invalid value '" ++ (bad.word.now ++ (codes "' for '<" ++ (argument_name bad.argument ++ (codes ">': " ++ (wanted bad.argument
+    codes "error: invalid value '"
+    ++ (bad.word.now ++ (codes "' for '<" ++ (argument_name bad.argument ++ (codes ">': " ++ (wanted bad.argument
     ++ codes "\n\nFor more information, try '--help'.\n")))))

@@ -141,7 +141,8 @@ fn with_plain<'a>(
     about: &'a str,
 ) -> Result<clap::Command<'a>, AllocError>
     requires { (out-Command program).has_globals ≡ false }
-    ensures shape { IfOk result (λ r. app_of r ≡ with_subcommand (app_of program.entry) (subcommand name.entry.now).top) }
+    ensures shape { IfOk result (λ r. app_of r ≡ with_subcommand (app_of program.entry)
+        (subcommand name.entry.now).top) }
     ensures globals { IfOk result (λ r. (out-Command r).has_globals ≡ false) }
 {
     program.subcommand(subcommand_parser(alloc, name, about)?)
@@ -401,7 +402,8 @@ fn edit_told<'a>(options: &ArgMatches<'a>) -> Result<Command<'a>, BadWord<'a>>
     requires attribute { IsGiven (rows_of (found_of options.now)) (codes "attribute") }
     requires value { IsGiven (rows_of (found_of options.now)) (codes "value") }
     ensures told { IfOk result (IsCommand (codes "set") (rows_of (found_of options.now))) }
-    ensures bad { IfErr result (λ bad. IsBadAt bad.argument (codes "set") (rows_of (found_of options.now)) bad.word.now) }
+    ensures bad { IfErr result (λ bad. IsBadAt bad.argument (codes "set")
+        (rows_of (found_of options.now)) bad.word.now) }
 {
     let offset = offset_told(options)?;
     let name = attribute_told(options)?;
@@ -446,7 +448,9 @@ fn attribute_told<'a>(options: &ArgMatches<'a>) -> Result<u64, BadWord<'a>>
 fn value_told<'a>(options: &ArgMatches<'a>) -> Result<i128, BadWord<'a>>
     requires { IsGiven (rows_of (found_of options.now)) (codes "value") }
     ensures told { IfOk result (λ value. value_given (rows_of (found_of options.now)) ≡ Some value) }
-    ensures bad { IfErr result (IsBadWord Value (value_read (rows_of (found_of options.now))) (codes "value") (rows_of (found_of options.now))) }
+    ensures bad { IfErr result
+        (IsBadWord Value (value_read (rows_of (found_of options.now))) (codes "value")
+        (rows_of (found_of options.now))) }
 {
     let word = word_told(options, "value");
     match value_of(word, is_minus(options)) {

@@ -13,9 +13,9 @@ use dw_tool::status::{Status, ToolError};
 use std::alloc::Global;
 use std::io::{Read, Write};
 
-/// Runs what a line says: its command, in its byte order, over units of its versions. `files` are the bytes of the files that
-/// `Line::whole_files` names, in that order; one that isn't named is empty, and so is one that isn't there. `info` reads
-/// the file that the line names for `.debug_info`, and `writer` writes to standard output.
+/// Runs what a line says: its command, in its byte order, over units of its versions. `files` are the bytes of the
+/// files that `Line::whole_files` names, in that order; one that isn't named is empty, and so is one that isn't there.
+/// `info` reads the file that the line names for `.debug_info`, and `writer` writes to standard output.
 ///
 /// Errors: those of `dw_tool::run::run`, as failures of that file and of standard output.
 pub fn run_line<'a, R: Read, W: Write>(
@@ -27,12 +27,8 @@ pub fn run_line<'a, R: Read, W: Write>(
 ) -> Result<Status, Failure<'a>>
     requires reader { fault_of info.old ≡ None }
     requires writer { fault_of writer.old ≡ None }
-    ensures { RunsLine line.now files.now
-        (R.remaining (inner_of info.old))
-        (R.remaining (inner_of info.new))
-        (W.contents (inner_of writer.old))
-        (W.contents (inner_of writer.new))
-        result }
+    ensures { RunsLine line.now files.now (R.remaining (inner_of info.old)) (R.remaining (inner_of info.new))
+        (W.contents (inner_of writer.old)) (W.contents (inner_of writer.new)) result }
 {
     match run_over(alloc, line, files, info, writer) {
         Ok(status) => Ok(status),
@@ -50,11 +46,8 @@ fn run_over<R: Read, W: Write>(
     requires reader { fault_of info.old ≡ None }
     requires writer { fault_of writer.old ≡ None }
     ensures { Runs line.now.command (texts_in files.now) line.now.versions line.now.order (file_at files.now 0)
-        (R.remaining (inner_of info.old))
-        (R.remaining (inner_of info.new))
-        (W.contents (inner_of writer.old))
-        (W.contents (inner_of writer.new))
-        result }
+        (R.remaining (inner_of info.old)) (R.remaining (inner_of info.new)) (W.contents (inner_of writer.old))
+        (W.contents (inner_of writer.new)) result }
 {
     let inputs = Inputs {
         order: line.order,

@@ -15,7 +15,8 @@ answer_by s t name = if nat_le (visits s.items 64 t) 1024 then Ok (say s 64 t na
 
 abbrev pub answer_of : Source → EntryId → List ℕ → Option EntryAt → Result (List ℕ) TypeError
 answer_of s id name None = Err NoEntry
-answer_of s id name (Some e) = if nat_le (entry_text_visits s.items id e) 1024 then Ok (type_text s id e name) else Err TypeTooBig
+answer_of s id name (Some e) =
+    if nat_le (entry_text_visits s.items id e) 1024 then Ok (type_text s id e name) else Err TypeTooBig
 
 -- the text of the type of an entry with a name, whatever memory there is
 abbrev pub answer : Source → EntryId → List ℕ → Result (List ℕ) TypeError

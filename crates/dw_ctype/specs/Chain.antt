@@ -12,7 +12,8 @@ use Rattle.dw_ctype.specs.InOrder.{cut, kind_cut, right, kind_right, word_before
 use Rattle.dw_ctype.specs.Visits.{visits, kind_visits}
 use Rattle.dw_ctype.specs.Append.{Puts}
 
--- down to so many levels: the text is whole, nothing stands behind its declarator or in brackets, and it needs few visits
+-- down to so many levels: the text is whole, nothing stands behind its declarator or in brackets, and it needs few
+-- visits
 pub record IsChain (s : Source) (depth : ℕ) (t : Typed) : Type 0 where
   pub whole : cut s.items depth t ≡ false
   pub ends : right s depth t ≡ []

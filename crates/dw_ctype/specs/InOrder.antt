@@ -1,4 +1,5 @@
--- The text of a type and a declarator in the order of its bytes: what stands before the declarator, the declarator, and what stands behind it.
+-- The text of a type and a declarator in the order of its bytes: what stands before the declarator, the declarator, and
+-- what stands behind it.
 use Rattle.std.specs.Prelude.{ℕ, zero, suc, Bool, true, false, List, [], ◌∷◌, ◌++◌, Option, Some, None, codes, unwrap_or, ◌==◌, ◌||◌, if◌then◌else◌}
 use Rattle.dw_leb.specs.Constants.{DW_TAG_formal_parameter, DW_TAG_unspecified_parameters}
 use Rattle.dw_tree.specs.Lent.{EntryAt}
@@ -57,14 +58,19 @@ when true text = text
 when false text = []
 
 abbrev pub qualified_left : (Typed → Bool → List ℕ) → Bool → Typed → Qualifier → Option Kind → Bool → List ℕ
-qualified_left left is_cut t q (Some (Marked Pointer)) empty = left t false ++ unless_cut is_cut (word_before (qualifier q) empty)
+qualified_left left is_cut t q (Some (Marked Pointer)) empty =
+    left t false ++ unless_cut is_cut (word_before (qualifier q) empty)
 qualified_left left is_cut t q _ empty = qualifier q ++ (codes " " ++ left t empty)
 
 abbrev pub kind_left : (Typed → Bool → List ℕ) → (Typed → Bool) → Source → ℕ → EntryAt → Kind → Bool → List ℕ
 kind_left left cut s i e Named empty = word_before (unwrap_or (name_of s i e) (codes "<noname>")) empty
 kind_left left cut s i e (Tagged k) empty = word_before (keyword k ++ unwrap_or (name_of s i e) (codes "{...}")) empty
-kind_left left cut s i e (Marked m) empty = left (type_of s.items i e) false ++ unless_cut (cut (type_of s.items i e)) (when (is_bracketed (under_type (under s.items 64) s.items (type_of s.items i e))) (codes "(") ++ mark m)
-kind_left left cut s i e (Qualified q) empty = qualified_left left (cut (type_of s.items i e)) (type_of s.items i e) q (under s.items 64 i e) empty
+kind_left left cut s i e (Marked m) empty =
+    left (type_of s.items i e) false
+    ++ unless_cut (cut (type_of s.items i e))
+    (when (is_bracketed (under_type (under s.items 64) s.items (type_of s.items i e))) (codes "(") ++ mark m)
+kind_left left cut s i e (Qualified q) empty =
+    qualified_left left (cut (type_of s.items i e)) (type_of s.items i e) q (under s.items 64 i e) empty
 kind_left left cut s i e Array empty = left (type_of s.items i e) false
 kind_left left cut s i e Function empty = left (type_of s.items i e) false
 kind_left left cut s i e Other empty = word_before (codes "<tag>") empty
@@ -87,7 +93,9 @@ left s (suc depth) t empty = type_left (left s depth) (cut s.items depth) s t em
 abbrev pub kind_right : (Typed → List ℕ) → (Typed → List ℕ → List ℕ) → Source → ℕ → EntryAt → Kind → List ℕ
 kind_right right say s i e Named = []
 kind_right right say s i e (Tagged k) = []
-kind_right right say s i e (Marked m) = when (is_bracketed (under_type (under s.items 64) s.items (type_of s.items i e))) (codes ")") ++ right (type_of s.items i e)
+kind_right right say s i e (Marked m) =
+    when (is_bracketed (under_type (under s.items 64) s.items (type_of s.items i e))) (codes ")")
+    ++ right (type_of s.items i e)
 kind_right right say s i e (Qualified q) = right (type_of s.items i e)
 kind_right right say s i e Array = dimensions e ++ right (type_of s.items i e)
 kind_right right say s i e Function = parameters (λ p. say (type_of s.items i p) []) e ++ right (type_of s.items i e)

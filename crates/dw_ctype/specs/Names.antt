@@ -15,7 +15,9 @@ use Rattle.dw_ctype.specs.declared.kind.Qualifier.TheVariants.{Const, Volatile, 
 use Rattle.dw_ctype.specs.declared.kind.Kind.{Kind}
 use Rattle.dw_ctype.specs.declared.kind.Kind.TheVariants.{Named, Tagged, Marked, Qualified, Array, Function, Other}
 
--- base_type, typedef, unspecified_type; structure_type, union_type, enumeration_type, class_type; pointer_type, reference_type, rvalue_reference_type; const_type, volatile_type, restrict_type, atomic_type; array_type; subroutine_type, subprogram
+-- base_type, typedef, unspecified_type; structure_type, union_type, enumeration_type, class_type; pointer_type,
+-- reference_type, rvalue_reference_type; const_type, volatile_type, restrict_type, atomic_type; array_type;
+-- subroutine_type, subprogram
 abbrev pub kinds : List (ℕ × Kind)
 kinds =
     (DW_TAG_base_type, Named)

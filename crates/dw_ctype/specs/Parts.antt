@@ -14,7 +14,9 @@ use Rattle.dw_ctype.specs.Types.{tag, kind_of, type_of}
 -- those of the formal_parameters
 abbrev pub parameter_types : List Item → ℕ → List EntryAt → List Typed
 parameter_types items i [] = []
-parameter_types items i (e ∷ es) = if tag e == DW_TAG_formal_parameter then type_of items i e ∷ parameter_types items i es else parameter_types items i es
+parameter_types items i (e ∷ es) =
+    if tag e == DW_TAG_formal_parameter then type_of items i e ∷ parameter_types items i es
+    else parameter_types items i es
 
 abbrev pub kind_types : List Item → ℕ → EntryAt → Kind → List Typed
 kind_types items i e Named = []

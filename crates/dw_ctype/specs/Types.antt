@@ -113,7 +113,9 @@ marked m k x = bracketed (is_bracketed k) (mark m ++ x)
 
 -- data1, data2, data4, data8 and udata
 abbrev pub is_unsigned : ℕ → Bool
-is_unsigned form = form == DW_FORM_data1 || (form == DW_FORM_data2 || (form == DW_FORM_data4 || (form == DW_FORM_data8 || form == DW_FORM_udata)))
+is_unsigned form =
+    form == DW_FORM_data1 ||
+    (form == DW_FORM_data2 || (form == DW_FORM_data4 || (form == DW_FORM_data8 || form == DW_FORM_udata)))
 
 abbrev pub unsigned : Option ℕ → Option ℤ
 unsigned None = None
@@ -167,7 +169,9 @@ abbrev pub parameter_texts : (EntryAt → List ℕ) → List EntryAt → List (L
 parameter_texts text [] = []
 parameter_texts text (e ∷ es) =
     if tag e == DW_TAG_formal_parameter then text e ∷ parameter_texts text es
-    else (if tag e == DW_TAG_unspecified_parameters then codes "..." ∷ parameter_texts text es else parameter_texts text es)
+    else
+    (if tag e == DW_TAG_unspecified_parameters then codes "..." ∷ parameter_texts text es
+    else parameter_texts text es)
 
 -- each behind a comma and a space
 abbrev pub behind_commas : List (List ℕ) → List ℕ
@@ -192,7 +196,8 @@ joined prototyped [] = none_text prototyped
 joined prototyped (y ∷ ys) = y ++ behind_commas ys
 
 abbrev pub parameters : (EntryAt → List ℕ) → EntryAt → List ℕ
-parameters text e = codes "(" ++ (joined (is_prototyped (first DW_AT_prototyped e)) (parameter_texts text (children_of e)) ++ codes ")")
+parameters text e =
+    codes "(" ++ (joined (is_prototyped (first DW_AT_prototyped e)) (parameter_texts text (children_of e)) ++ codes ")")
 
 -- ---- types
 
@@ -205,7 +210,8 @@ qualified say q _ x = qualifier q ++ (codes " " ++ say x)
 abbrev pub say_kind : (Typed → List ℕ → List ℕ) → Source → ℕ → EntryAt → Kind → List ℕ → List ℕ
 say_kind say s i e Named x = worded (unwrap_or (name_of s i e) (codes "<noname>")) x
 say_kind say s i e (Tagged k) x = worded (keyword k ++ unwrap_or (name_of s i e) (codes "{...}")) x
-say_kind say s i e (Marked m) x = say (type_of s.items i e) (marked m (under_type (under s.items 64) s.items (type_of s.items i e)) x)
+say_kind say s i e (Marked m) x =
+    say (type_of s.items i e) (marked m (under_type (under s.items 64) s.items (type_of s.items i e)) x)
 say_kind say s i e (Qualified q) x = qualified (say (type_of s.items i e)) q (under s.items 64 i e) x
 say_kind say s i e Array x = say (type_of s.items i e) (x ++ dimensions e)
 say_kind say s i e Function x = say (type_of s.items i e) (x ++ parameters (λ p. say (type_of s.items i p) []) e)

@@ -14,7 +14,8 @@ use Rattle.dw_ctype.specs.Types.{tag, kind_of, type_of, subject}
 -- those of the formal_parameters
 abbrev pub parameter_visits : (EntryAt → ℕ) → List EntryAt → ℕ
 parameter_visits count [] = 0
-parameter_visits count (e ∷ es) = if tag e == DW_TAG_formal_parameter then count e + parameter_visits count es else parameter_visits count es
+parameter_visits count (e ∷ es) =
+    if tag e == DW_TAG_formal_parameter then count e + parameter_visits count es else parameter_visits count es
 
 -- those of what the row of an entry'items kind names, where `visits` counts one level deeper
 abbrev pub kind_visits : (Typed → ℕ) → List Item → ℕ → EntryAt → Kind → ℕ
@@ -23,7 +24,8 @@ kind_visits visits items i e (Tagged k) = 0
 kind_visits visits items i e (Marked m) = visits (type_of items i e)
 kind_visits visits items i e (Qualified q) = visits (type_of items i e)
 kind_visits visits items i e Array = visits (type_of items i e)
-kind_visits visits items i e Function = visits (type_of items i e) + parameter_visits (λ p. visits (type_of items i p)) (children_of e)
+kind_visits visits items i e Function =
+    visits (type_of items i e) + parameter_visits (λ p. visits (type_of items i p)) (children_of e)
 kind_visits visits items i e Other = 0
 
 abbrev pub entry_visits : (Typed → ℕ) → List Item → ℕ → Option EntryAt → ℕ

@@ -1,6 +1,6 @@
 //! Texts of types that are chains: marks and qualifiers one behind the other, and then a word. Nothing stands behind
-//! their declarators. So each entry is looked up once, on the way to the word (a pointer behind a qualifier twice: first for
-//! the place of the qualifier's word), and nothing is kept or counted.
+//! their declarators. So each entry is looked up once, on the way to the word (a pointer behind a qualifier twice:
+//! first for the place of the qualifier's word), and nothing is kept or counted.
 ghost use Rattle.std.specs.Prelude.{◌≡◌, ◌++◌, ◌<◌, IfOk, IsSome, Some, codes, false};
 ghost use Rattle.dw_section.specs.Lookup.{entry, unit_at};
 ghost use Rattle.dw_ctype.specs.declared.typed.Typed.TheVariants.{Entry};
@@ -34,7 +34,8 @@ pub(crate) fn say_chain<'a>(
     out: &mut Vec<u8>,
 ) -> Result<bool, AllocError>
     requires { 0 < depth }
-    ensures { Tried (IsChain (source_of section.now strings.now) depth typed) out.old out.new (said (source_of section.now strings.now) depth typed declarator.now) result }
+    ensures { Tried (IsChain (source_of section.now strings.now) depth typed) out.old out.new
+        (said (source_of section.now strings.now) depth typed declarator.now) result }
 {
     if chain(section, strings, typed, depth, declarator.is_empty(), out)? {
         return Ok(true);
@@ -55,7 +56,8 @@ fn chain<'a>(
     out: &mut Vec<u8>,
 ) -> Result<bool, AllocError>
     requires { 0 < depth }
-    ensures { Tried (IsChain (source_of section.now strings.now) depth typed) out.old out.new (there.left (source_of section.now strings.now) depth typed empty) result }
+    ensures { Tried (IsChain (source_of section.now strings.now) depth typed) out.old out.new
+        (there.left (source_of section.now strings.now) depth typed empty) result }
 {
     match typed {
         Typed::Missing => left_of_word(b"void", empty, out),
@@ -79,7 +81,8 @@ fn chain_from<'a>(
     out: &mut Vec<u8>,
 ) -> Result<bool, AllocError>
     requires { IsSome (unit_at section.now.items item) }
-    ensures { Tried (IsChainFrom (source_of section.now strings.now) depth item entry.now) out.old out.new (there.kind_left
+    ensures { Tried (IsChainFrom (source_of section.now strings.now) depth item entry.now) out.old out.new
+        (there.kind_left
         (there.left (source_of section.now strings.now) depth) (there.cut section.now.items depth)
         (source_of section.now strings.now) item entry.now (kind_there entry.now) empty) result }
 {
@@ -201,7 +204,10 @@ fn word_and_last<'a>(
     out: &mut Vec<u8>,
 ) -> Result<bool, AllocError>
     requires { IsSome (unit_at section.now.items item) }
-    ensures text { Puts out.old out.new (word.now ++ (codes " " ++ end_left (source_of section.now strings.now) item entry.now (kind_there entry.now) empty)) result }
+    ensures text { Puts out.old out.new
+        (word.now
+        ++ (codes " " ++ end_left (source_of section.now strings.now) item entry.now (kind_there entry.now) empty))
+        result }
     ensures whole { IfOk result (λ other. other ≡ false) }
 {
     push(word, out)?;
@@ -219,7 +225,9 @@ pub(crate) fn last_word<'a>(
     out: &mut Vec<u8>,
 ) -> Result<bool, AllocError>
     requires { IsSome (unit_at section.now.items item) }
-    ensures text { Puts out.old out.new (end_left (source_of section.now strings.now) item entry.now (kind_there entry.now) empty) result }
+    ensures text { Puts out.old out.new (end_left (source_of section.now strings.now) item entry.now
+        (kind_there entry.now) empty)
+        result }
     ensures whole { IfOk result (λ other. other ≡ false) }
 {
     match kind_of(entry) {

@@ -96,7 +96,10 @@ fn push_dimension(subrange: &EntryRef<'_>, out: &mut Vec<u8>) -> Result<(), Allo
 
 /// Appends the size of a subrange: its count, or where that is no number what its upper bound makes it.
 fn push_size(subrange: &EntryRef<'_>, out: &mut Vec<u8>) -> Result<(), AllocError>
-    ensures { Puts out.old out.new (definition.size (definition.number (definition.first 0x37 subrange.now)) (definition.number (definition.first 0x2f subrange.now))) result }
+    ensures { Puts out.old out.new
+        (definition.size (definition.number (definition.first 0x37 subrange.now))
+        (definition.number (definition.first 0x2f subrange.now)))
+        result }
 {
     if let Some(count) = number(subrange, DW_AT_COUNT) {
         return push_number(count, out);

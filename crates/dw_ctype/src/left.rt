@@ -40,7 +40,8 @@ pub(crate) fn left<'a>(
 ) -> Result<Before, AllocError>
     ensures text { Puts out.old out.new (there.left (source_of section.now strings.now) depth typed empty) result }
     ensures cut { IfOk result (λ before. before.cut ≡ there.cut section.now.items depth typed) }
-    ensures chain { IfOk result (λ before. before.chain ≡ true → IsChain (source_of section.now strings.now) depth typed) }
+    ensures chain { IfOk result (λ before. before.chain ≡ true
+        → IsChain (source_of section.now strings.now) depth typed) }
 {
     if depth == 0 {
         push(b"...", out)?;
@@ -74,8 +75,10 @@ fn left_of_entry<'a>(
     ensures text { Puts out.old out.new (there.kind_left
         (there.left (source_of section.now strings.now) depth) (there.cut section.now.items depth)
         (source_of section.now strings.now) item entry.now (kind_there entry.now) empty) result }
-    ensures cut { IfOk result (λ before. before.cut ≡ there.kind_cut (there.cut section.now.items depth) section.now.items item entry.now (kind_there entry.now)) }
-    ensures chain { IfOk result (λ before. before.chain ≡ true → IsChainFrom (source_of section.now strings.now) depth item entry.now) }
+    ensures cut { IfOk result (λ before. before.cut ≡ there.kind_cut (there.cut section.now.items depth)
+        section.now.items item entry.now (kind_there entry.now)) }
+    ensures chain { IfOk result
+        (λ before. before.chain ≡ true → IsChainFrom (source_of section.now strings.now) depth item entry.now) }
 {
     match kind_of(entry) {
         Kind::Marked(mark) => {
@@ -126,12 +129,13 @@ fn left_of_marked<'a>(
     mark: Mark,
     out: &mut Vec<u8>,
 ) -> Result<Before, AllocError>
-    ensures text { Puts out.old out.new (
-        there.left (source_of section.now strings.now) depth typed false
-        ++ there.unless_cut (there.cut section.now.items depth typed)
-        (there.when (bracketed_there (under_type (under_there section.now.items 64) section.now.items typed)) (codes "(") ++ names.mark mark)) result }
+    ensures text { Puts out.old out.new (there.left (source_of section.now strings.now) depth typed false ++
+        there.unless_cut (there.cut section.now.items depth typed) (there.when
+        (bracketed_there (under_type (under_there section.now.items 64) section.now.items typed)) (codes "(") ++
+        names.mark mark)) result }
     ensures cut { IfOk result (λ before. before.cut ≡ there.cut section.now.items depth typed) }
-    ensures chain { IfOk result (λ before. before.chain ≡ true → IsChain (source_of section.now strings.now) depth typed) }
+    ensures chain { IfOk result (λ before. before.chain ≡ true
+        → IsChain (source_of section.now strings.now) depth typed) }
 {
     let before = left(section, strings, typed, depth, false, out)?;
     if before.cut {
@@ -144,7 +148,8 @@ fn left_of_marked<'a>(
 
 /// Whether the declarator of a type of which this is known stands in brackets behind a mark. That of a chain doesn't.
 fn has_brackets(section: &Section, typed: Typed, before: Before) -> bool
-    requires { before.chain ≡ true → bracketed_there (under_type (under_there section.now.items 64) section.now.items typed) ≡ false }
+    requires { before.chain ≡ true
+        → bracketed_there (under_type (under_there section.now.items 64) section.now.items typed) ≡ false }
     ensures { result ≡ bracketed_there (under_type (under_there section.now.items 64) section.now.items typed) }
 {
     if before.chain {
@@ -168,7 +173,8 @@ fn left_of_qualified<'a>(
         (there.left (source_of section.now strings.now) depth) (there.cut section.now.items depth typed)
         typed qualifier (under_type (under_there section.now.items 63) section.now.items typed) empty) result }
     ensures cut { IfOk result (λ before. before.cut ≡ there.cut section.now.items depth typed) }
-    ensures chain { IfOk result (λ before. before.chain ≡ true → IsChain (source_of section.now strings.now) depth typed) }
+    ensures chain { IfOk result (λ before. before.chain ≡ true
+        → IsChain (source_of section.now strings.now) depth typed) }
 {
     match under_typed(section, typed, MOST_STEPS - 1) {
         Some(Kind::Marked(Mark::Pointer)) => {
@@ -193,7 +199,8 @@ fn left_and_word<'a>(
         there.left (source_of section.now strings.now) depth typed false
         ++ there.unless_cut (there.cut section.now.items depth typed) (there.word_before word.now empty)) result }
     ensures cut { IfOk result (λ before. before.cut ≡ there.cut section.now.items depth typed) }
-    ensures chain { IfOk result (λ before. before.chain ≡ true → IsChain (source_of section.now strings.now) depth typed) }
+    ensures chain { IfOk result (λ before. before.chain ≡ true
+        → IsChain (source_of section.now strings.now) depth typed) }
 {
     let before = left(section, strings, typed, depth, false, out)?;
     if before.cut {
@@ -217,7 +224,8 @@ fn word_and_left<'a>(
     ensures text { Puts out.old out.new (
         word.now ++ (codes " " ++ there.left (source_of section.now strings.now) depth typed empty)) result }
     ensures cut { IfOk result (λ before. before.cut ≡ there.cut section.now.items depth typed) }
-    ensures chain { IfOk result (λ before. before.chain ≡ true → IsChain (source_of section.now strings.now) depth typed) }
+    ensures chain { IfOk result (λ before. before.chain ≡ true
+        → IsChain (source_of section.now strings.now) depth typed) }
 {
     push(word, out)?;
     push(b" ", out)?;
@@ -238,7 +246,8 @@ fn whole(words: Result<bool, AllocError>) -> Result<Before, AllocError>
     }
 }
 
-/// Appends what the text of a type that is written as this word has before its declarator. Answers false: the depth doesn't end it.
+/// Appends what the text of a type that is written as this word has before its declarator. Answers false: the depth
+/// doesn't end it.
 pub(crate) fn left_of_word(word: &[u8], empty: bool, out: &mut Vec<u8>) -> Result<bool, AllocError>
     ensures text { Puts out.old out.new (there.word_before word.now empty) result }
     ensures cut { IfOk result (λ cut. cut ≡ false) }
@@ -253,7 +262,8 @@ pub(crate) fn left_of_name(
     empty: bool,
     out: &mut Vec<u8>,
 ) -> Result<bool, AllocError>
-    ensures text { Puts out.old out.new (there.word_before (unwrap_or (option_map (λ text. text.now) name.entry) (codes "<noname>")) empty) result }
+    ensures text { Puts out.old out.new
+        (there.word_before (unwrap_or (option_map (λ text. text.now) name.entry) (codes "<noname>")) empty) result }
     ensures cut { IfOk result (λ cut. cut ≡ false) }
 {
     match name {
@@ -269,7 +279,10 @@ pub(crate) fn left_of_tagged(
     empty: bool,
     out: &mut Vec<u8>,
 ) -> Result<bool, AllocError>
-    ensures text { Puts out.old out.new (there.word_before (names.keyword keyword ++ unwrap_or (option_map (λ text. text.now) name.entry) (codes "{...}")) empty) result }
+    ensures text { Puts out.old out.new
+        (there.word_before
+        (names.keyword keyword ++ unwrap_or (option_map (λ text. text.now) name.entry) (codes "{...}")) empty)
+        result }
     ensures cut { IfOk result (λ cut. cut ≡ false) }
 {
     push(keyword.text(), out)?;

@@ -1,5 +1,5 @@
-//! What texts need of the types that they go on to, looked up once for each: of those with many children, and in a text of many
-//! visits of all. Without it each visit of a function or an array would look at all of its children again.
+//! What texts need of the types that they go on to, looked up once for each: of those with many children, and in a text
+//! of many visits of all. Without it each visit of a function or an array would look at all of its children again.
 ghost use Rattle.std.specs.Prelude.{◌≡◌, ◌++◌, ◌<◌, length, nat_le, IfOk, IfSome, IsSome, OnOk, Some};
 ghost use Rattle.dw_tree.specs.Lent.{children_of};
 ghost use Rattle.dw_section.specs.Lookup.{entry as entry_there, unit_at};
@@ -50,7 +50,9 @@ impl<'a> Model for Kept<'a> {
 
     ghost view = { λ k. k.section.now };
 
-    ghost invariant = { λ k. AllByRecursion (λ e. ArePartsOf k.section.now.items e.0.item (entry k.section.now.items e.0) e.1.value) k.parts.entries };
+    ghost invariant = { λ k.
+        AllByRecursion (λ e. ArePartsOf k.section.now.items e.0.item (entry k.section.now.items e.0) e.1.value)
+        k.parts.entries };
 }
 
 impl<'a> Kept<'a> {
@@ -91,8 +93,8 @@ impl<'a> Kept<'a> {
         }
     }
 
-    /// The parts of an entry that has many children, or where there are many visits of any entry, which are kept from then
-    /// on. None of others, and where the memory for the parts is refused: they aren't kept then.
+    /// The parts of an entry that has many children, or where there are many visits of any entry, which are kept from
+    /// then on. None of others, and where the memory for the parts is refused: they aren't kept then.
     pub(crate) fn keep(
         &mut self,
         id: EntryId,
@@ -173,7 +175,8 @@ fn push_parameter_types(
     types: &mut Vec<Typed>,
 ) -> Result<(), AllocError>
     requires { IsSome (unit_at section.now.items item) }
-    ensures { OnOk result (types.new.items ≡ types.old.items ++ parameter_types section.now.items item (children_of function.now)) }
+    ensures { OnOk result
+        (types.new.items ≡ types.old.items ++ parameter_types section.now.items item (children_of function.now)) }
 {
     for child in function.children() {
         if child.tag() == DW_TAG_FORMAL_PARAMETER {

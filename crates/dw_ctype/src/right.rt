@@ -35,7 +35,8 @@ pub(crate) fn say<'a>(
     out: &mut Vec<u8>,
 ) -> Result<(), AllocError>
     requires { kept.now ≡ section.now }
-    ensures { Puts out.old out.new (definition.say (source_of section.now strings.now) depth typed declarator.now) result }
+    ensures { Puts out.old out.new (definition.say (source_of section.now strings.now) depth typed
+        declarator.now) result }
 {
     let before = left(section, strings, typed, depth, declarator.is_empty(), out)?;
     if before.cut {
@@ -87,7 +88,8 @@ fn right_of_entry<'a>(
     requires kept { kept.now ≡ section.now }
     requires there { entry_there section.now.items id ≡ Some entry.now }
     ensures { Puts out.old out.new (there.kind_right
-        (there.right (source_of section.now strings.now) depth) (definition.say (source_of section.now strings.now) depth)
+        (there.right (source_of section.now strings.now) depth)
+        (definition.say (source_of section.now strings.now) depth)
         (source_of section.now strings.now) id.item entry.now (definition.kind_of entry.now)) result }
 {
     let kind = kind_of(entry);
@@ -119,7 +121,8 @@ fn push_parameters<'a>(
     requires there { entry_there section.now.items id ≡ Some function.now }
     requires kind { definition.kind_of function.now ≡ Function }
     ensures { Puts out.old out.new (definition.parameters
-        (λ p. definition.say (source_of section.now strings.now) depth (definition.type_of section.now.items id.item p) [])
+        (λ p. definition.say (source_of section.now strings.now) depth (definition.type_of section.now.items id.item p)
+        [])
         function.now) result }
 {
     push(b"(", out)?;
@@ -142,11 +145,9 @@ fn push_each_parameter<'a>(
     requires kept { kept.now ≡ section.now }
     requires there { entry_there section.now.items id ≡ Some function.now }
     requires kind { definition.kind_of function.now ≡ Function }
-    ensures { Puts out.old out.new (definition.joined
-        (definition.is_prototyped (definition.first 0x27 function.now))
-        (definition.parameter_texts
-        (λ p. definition.say (source_of section.now strings.now) depth (definition.type_of section.now.items id.item p) [])
-        (children_of function.now))) result }
+    ensures { Puts out.old out.new (definition.joined (definition.is_prototyped (definition.first 0x27 function.now))
+        (definition.parameter_texts (λ p. definition.say (source_of section.now strings.now) depth
+        (definition.type_of section.now.items id.item p) []) (children_of function.now))) result }
 {
     let prototyped = is_prototyped(function);
     match kept.parts(id) {

@@ -26,10 +26,10 @@ const MOST_LEVELS: u8 = 64;
 /// The most visits of types that a text may need.
 const MOST_VISITS: u16 = 1024;
 
-/// Appends the text of a type with a name, as a declaration would be written in C: of the type of a variable,
-/// a formal parameter or a member, and else of the entry itself. `strings` are the texts that names are in.
-/// The vector grows by its own allocator. While the text is made, `alloc` keeps what is needed of entries with more than 32
-/// children, and from the 65th visit on of all, so that later visits needn't look for it; where it has no memory the answer is the
+/// Appends the text of a type with a name, as a declaration would be written in C: of the type of a variable, a formal
+/// parameter or a member, and else of the entry itself. `strings` are the texts that names are in. The vector grows by
+/// its own allocator. While the text is made, `alloc` keeps what is needed of entries with more than 32 children, and
+/// from the 65th visit on of all, so that later visits needn't look for it; where it has no memory the answer is the
 /// same.
 ///
 /// Errors: `NoEntry` exactly where no entry begins at the id; `TypeTooBig` exactly where there is one, and its
@@ -45,7 +45,8 @@ pub fn type_text<'a>(
     out: &mut Vec<u8>,
 ) -> Result<(), TypeError>
     ensures appended { OnOk result ((text : List ℕ) ×
-        ((answer (source_of section.now strings.now) id name.now ≡ Ok text) × (out.new.items ≡ out.old.items ++ text))) }
+        ((answer (source_of section.now strings.now) id name.now ≡ Ok text)
+        × (out.new.items ≡ out.old.items ++ text))) }
     ensures refused { IfErr result (IsRefusal
         (answer (source_of section.now strings.now) id name.now)
         (vec_capacity out.old - vec_len out.old)) }
@@ -78,7 +79,8 @@ fn say_counted<'a>(
     out: &mut Vec<u8>,
 ) -> Result<(), TypeError>
     ensures appended { OnOk result ((text : List ℕ) ×
-        ((answer_by (source_of section.now strings.now) typed name.now ≡ Ok text) × (out.new.items ≡ out.old.items ++ text))) }
+        ((answer_by (source_of section.now strings.now) typed name.now ≡ Ok text)
+        × (out.new.items ≡ out.old.items ++ text))) }
     ensures refused { IfErr result (IsRefusal
         (answer_by (source_of section.now strings.now) typed name.now)
         (vec_capacity out.old - vec_len out.old)) }

@@ -58,7 +58,8 @@ pub(crate) fn name_of<'a>(
     entry: &EntryRef<'a>,
 ) -> Option<&'a [u8]>
     requires { IsSome (unit_at section.now.items item) }
-    ensures { option_map (λ text. text.now) result ≡ definition.name_of (source_of section.now strings.now) item entry.now }
+    ensures { option_map (λ text. text.now) result
+        ≡ definition.name_of (source_of section.now strings.now) item entry.now }
 {
     let attr = entry.attr(DW_AT_NAME)?;
     let id = EntryId {
@@ -102,7 +103,9 @@ pub(crate) fn under_typed(section: &Section, typed: Typed, steps: u8) -> Option<
 /// Whether the declarator of a type stands in brackets behind a mark: it is an array or a function, behind its
 /// qualifiers.
 pub(crate) fn is_bracketed(section: &Section, typed: Typed) -> bool
-    ensures { result ≡ definition.is_bracketed (definition.under_type (definition.under section.now.items 64) section.now.items typed) }
+    ensures { result
+        ≡ definition.is_bracketed
+        (definition.under_type (definition.under section.now.items 64) section.now.items typed) }
 {
     let Typed::Entry(id) = typed else {
         return false;

@@ -13,8 +13,8 @@ use dw_leb::constants::tag::DW_TAG_FORMAL_PARAMETER;
 use dw_section::{EntryId, Section};
 use dw_unit::EntryRef;
 
-/// As soon as fewer visits than these are left, all that is visited is kept. The first of a text are made again in less time
-/// than it takes to keep what they need.
+/// As soon as fewer visits than these are left, all that is visited is kept. The first of a text are made again in less
+/// time than it takes to keep what they need.
 const KEPT_FROM: u16 = 960;
 
 /// What is left of `left` visits behind those of the text of a type, down to `depth` levels. None where there
@@ -39,7 +39,8 @@ pub(crate) fn count<'a>(
     count_type(section, kept, typed, depth - 1, rest)
 }
 
-/// The same for what a type names, whose texts are one level deeper. An entry isn't looked up where its parts are found.
+/// The same for what a type names, whose texts are one level deeper. An entry isn't looked up where its parts are
+/// found.
 #[cycle(visits)]
 fn count_type<'a>(
     section: &'a Section,
@@ -78,7 +79,9 @@ fn count_entry<'a>(
 ) -> Option<u16>
     requires kept { kept.old ≡ section.now }
     requires there { entry_there section.now.items id ≡ Some entry.now }
-    ensures count { result ≡ less (kind_visits (visits section.now.items depth) section.now.items id.item entry.now (kind_there entry.now)) left }
+    ensures count { result
+        ≡ less (kind_visits (visits section.now.items depth) section.now.items id.item entry.now (kind_there entry.now))
+        left }
     ensures kept { kept.new ≡ kept.old }
 {
     if let Kind::Named | Kind::Tagged(_) | Kind::Other = kind_of(entry) {
@@ -102,7 +105,9 @@ fn count_kind<'a>(
 ) -> Option<u16>
     requires kept { kept.old ≡ section.now }
     requires known { IsSome (unit_at section.now.items item) }
-    ensures count { result ≡ less (kind_visits (visits section.now.items depth) section.now.items item entry.now (kind_there entry.now)) left }
+    ensures count { result
+        ≡ less (kind_visits (visits section.now.items depth) section.now.items item entry.now (kind_there entry.now))
+        left }
     ensures kept { kept.new ≡ kept.old }
 {
     match kind_of(entry) {
@@ -151,7 +156,8 @@ fn count_parameters<'a>(
 ) -> Option<u16>
     requires kept { kept.old ≡ section.now }
     requires known { IsSome (unit_at section.now.items item) }
-    ensures count { result ≡ less (parameter_visits (λ p. visits section.now.items depth (type_there section.now.items item p)) (children_of function.now)) left }
+    ensures count { result ≡ less (parameter_visits (λ p. visits section.now.items depth
+        (type_there section.now.items item p)) (children_of function.now)) left }
     ensures kept { kept.new ≡ kept.old }
 {
     let mut rest = left;

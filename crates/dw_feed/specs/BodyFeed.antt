@@ -1,5 +1,5 @@
--- A feed that takes the bytes behind a unit's header, in whatever pieces they come: its value, the bytes that it took, and what
--- each of its calls says.
+-- A feed that takes the bytes behind a unit's header, in whatever pieces they come: its value, the bytes that it took,
+-- and what each of its calls says.
 use Rattle.std.specs.Prelude.{◌≡◌, ◌≢◌, ℕ, ◌+◌, ◌≤◌, List, [], ◌∷◌, ◌++◌, length, take, Option, Some, None}
 use Rattle.dw_leb.specs.declared.errors.Reason.TheVariants.{Truncated}
 use Rattle.dw_leb.specs.declared.errors.SectionId.TheVariants.{Info}
@@ -22,11 +22,11 @@ use Rattle.dw_feed.specs.declared.progress.Progress.TheVariants as answers
 
 -- ---- the value of a feed
 
--- A unit of which only some bytes were taken, over a table that was handed in. Its header with the unit_length is whole; its
--- entries are a tree with one open place, where the next field begins; then come the widths of the nulls behind the root. Of the
--- field at the place some bytes may be there: the form that an indirect value names, where the value itself hasn't begun; a
--- partial value of the unfinished entry, with the count of the bytes of its content that are still to come; and the bytes of a
--- number or of a length field that isn't whole.
+-- A unit of which only some bytes were taken, over a table that was handed in. Its header with the unit_length is
+-- whole; its entries are a tree with one open place, where the next field begins; then come the widths of the nulls
+-- behind the root. Of the field at the place some bytes may be there: the form that an indirect value names, where the
+-- value itself hasn't begun; a partial value of the unfinished entry, with the count of the bytes of its content that
+-- are still to come; and the bytes of a number or of a length field that isn't whole.
 pub record PartialUnit : Type 0 where
   pub header : Header
   pub unit_length : ℕ
@@ -45,7 +45,17 @@ pub data BodyFeed : Type 0 where
 
 -- where it begins: behind the header
 abbrev pub started : Header → ℕ → Table → PartialUnit
-started h n t = record { header = h; unit_length = n; table = t; place = record { spot = nowhere; unfinished = None }; padding = []; named = None; to_come = 0; pending = [] }
+started h n t =
+    record {
+      header = h;
+      unit_length = n;
+      table = t;
+      place = record { spot = nowhere; unfinished = None };
+      padding = [];
+      named = None;
+      to_come = 0;
+      pending = [];
+    }
 
 -- ---- the bytes that it took
 
@@ -65,9 +75,13 @@ abbrev pub count_if : Ctx → Option Shape → Option ℕ → ℕ → List ℕ
 count_if k s None count = []
 count_if k s (Some width) count = count_bytes k s width count
 
--- of a partial value of which so many bytes are still to come: the form that it names, its length field, its bytes so far
+-- of a partial value of which so many bytes are still to come: the form that it names, its length field, its bytes so
+-- far
 abbrev pub partial_taken : Ctx → List Pair → ℕ → PartialValue → List ℕ
-partial_taken k ps to_come b = via_bytes b.via ++ (count_if k (shape (form_in (first_form ps) b.via) k.address_size k.format) b.width (length b.bytes + to_come) ++ b.bytes)
+partial_taken k ps to_come b =
+    via_bytes b.via
+    ++ (count_if k (shape (form_in (first_form ps) b.via) k.address_size k.format) b.width (length b.bytes + to_come)
+    ++ b.bytes)
 
 -- the pairs whose values are still to come
 abbrev pub pairs_left : Table → Option UnfinishedEntry → List Pair
@@ -84,7 +98,9 @@ part g = value_part g (partial_in g.place.unfinished) ++ g.pending
 
 -- what was taken before it, and the header's bytes
 abbrev pub before : PartialUnit → List ℕ
-before g = header_bytes g.header g.unit_length ++ place_bytes (context_of g.header) g.table g.place.spot.above g.place.spot.left g.place.unfinished g.padding
+before g =
+    header_bytes g.header g.unit_length
+    ++ place_bytes (context_of g.header) g.table g.place.spot.above g.place.spot.left g.place.unfinished g.padding
 
 -- all of it
 abbrev pub stream : PartialUnit → List ℕ
@@ -94,11 +110,13 @@ stream g = before g ++ part g
 
 -- the bytes break at this fault, over the table that was handed in; the versions are the fewest that accept the header
 abbrev pub BreaksAt : PartialUnit → List ℕ → Fault → Type 0
-BreaksAt g bytes f = (f.section ≡ Info) × UnitBreaksUnder (versions_for g.header.kind) g.header.order g.table bytes f.offset f.reason
+BreaksAt g bytes f =
+    (f.section ≡ Info) × UnitBreaksUnder (versions_for g.header.kind) g.header.order g.table bytes f.offset f.reason
 
 -- the input's end cuts the bytes off
 abbrev pub IsCutOff : PartialUnit → List ℕ → Type 0
-IsCutOff g bytes = (offset : ℕ) × UnitBreaksUnder (versions_for g.header.kind) g.header.order g.table bytes offset Truncated
+IsCutOff g bytes =
+    (offset : ℕ) × UnitBreaksUnder (versions_for g.header.kind) g.header.order g.table bytes offset Truncated
 
 -- it cuts them off without their last byte, so no fewer bytes are a unit, or have another break
 abbrev pub StandsFirst : PartialUnit → List ℕ → Type 0
@@ -131,8 +149,8 @@ pub record SaysFault (g : PartialUnit) (piece : List ℕ) (n : ℕ) (f : Fault) 
   pub for_good : f.reason ≢ Truncated
   pub first : StandsFirst g (stream g ++ take n piece)
 
--- One call with a piece: how many bytes of it were taken, what was answered, and the feed after it. A fault is answered again and
--- again, and so is that nothing is left to do; then no byte is taken, and none where a growth was refused.
+-- One call with a piece: how many bytes of it were taken, what was answered, and the feed after it. A fault is answered
+-- again and again, and so is that nothing is left to do; then no byte is taken, and none where a growth was refused.
 abbrev pub FeedsBody : BodyFeed → List ℕ → ℕ → Progress WholeUnit → BodyFeed → Type 0
 FeedsBody (Reading g) piece n answers.More (Reading g') = SaysMore g piece n g'
 FeedsBody (Reading g) piece n (answers.Done u) Finished = SaysDone g piece n u

@@ -10,9 +10,9 @@ feed_of (Some g) f = Reading g
 feed_of None (Some f) = Refused f
 feed_of None None = Finished
 
--- What is true of it between its calls: all before its place has a spelling, within the unit; and what is there of the field at its
--- place is of that field: of a code bytes of its number; of a value the form that it names, and bytes of a number or of a length
--- field, neither of which is whole; or a text or block of which bytes are still to come.
+-- What is true of it between its calls: all before its place has a spelling, within the unit; and what is there of the
+-- field at its place is of that field: of a code bytes of its number; of a value the form that it names, and bytes of a
+-- number or of a length field, neither of which is whole; or a text or block of which bytes are still to come.
 abbrev pub IsBodyFeed : BodyFeed → Type 0
 IsBodyFeed (Reading g) = Kept (Reading g) × HoldsPart g
 IsBodyFeed (Refused f) = Unit {0}

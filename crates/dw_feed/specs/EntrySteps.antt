@@ -21,11 +21,13 @@ pub record NoneKept (g : PartialUnit) : Type 0 where
 
 -- The value at the front of these bytes is the field at the place, and the draft has it; or nothing was changed.
 abbrev pub NextSays : PartialUnit → List ℕ → Option ℕ → PartialUnit → Type 0
-NextSays g bytes (Some size) new = (v : Attribute) × (field_at g bytes (left g) ≡ Found (behind_value g v) size) × (size ≤ length bytes) × (new ≡ moved_to (given v (drafted g)).place g.padding g)
+NextSays g bytes (Some size) new =
+    (v : Attribute) × (field_at g bytes (left g) ≡ Found (behind_value g v) size) × (size ≤ length bytes)
+    × (new ≡ moved_to (given v (drafted g)).place g.padding g)
 NextSays g bytes None new = new ≡ g
 
--- Fields were taken, one behind the other, each whole: wherever the feed was in a piece, it is now in the same piece, with these
--- bytes left of those; and no more fields may still come.
+-- Fields were taken, one behind the other, each whole: wherever the feed was in a piece, it is now in the same piece,
+-- with these bytes left of those; and no more fields may still come.
 pub record TakesOn (g : PartialUnit) (b : List ℕ) (new : PartialUnit) (rest : List ℕ) : Type 0 where
   pub at : (g0 : PartialUnit) (piece : List ℕ) → At g0 piece g (part g ++ b) → At g0 piece new (part new ++ rest)
   pub has : HasPart new
@@ -34,8 +36,10 @@ pub record TakesOn (g : PartialUnit) (b : List ℕ) (new : PartialUnit) (rest : 
   pub within : length rest ≤ length b
   pub fewer : turns new (length rest) ≤ turns g (length b)
 
--- The null at the front of these bytes, or the code there and the first values of the entry that it begins, are the next fields:
--- so many bytes, and the draft has them. Or nothing was changed.
+-- The null at the front of these bytes, or the code there and the first values of the entry that it begins, are the
+-- next fields: so many bytes, and the draft has them. Or nothing was changed.
 abbrev pub EntrySays : PartialUnit → List ℕ → Option ℕ → PartialUnit → Type 0
-EntrySays g b (Some size) new = (0 < size) × (size ≤ length b) × TakesOn g b new (drop size b) × NoneKept new × (partial_in new.place.unfinished ≡ None)
+EntrySays g b (Some size) new =
+    (0 < size) × (size ≤ length b) × TakesOn g b new (drop size b) × NoneKept new
+    × (partial_in new.place.unfinished ≡ None)
 EntrySays g b None new = new ≡ g

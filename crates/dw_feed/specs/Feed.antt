@@ -36,7 +36,10 @@ InField all n = (n ≤ 4) ⊎ ((n ≤ 12) × (take 4 all ≡ escape))
 
 -- so many bytes are at most the length field, or at most the unit whose length it tells
 abbrev pub InUnit : Order → List ℕ → ℕ → Type 0
-InUnit order all n = InField all n ⊎ ((x : Format × ℕ) × Taken (initial_length order 0) all length_limit x (length_size x.0) × (n ≤ length_size x.0 + x.1))
+InUnit order all n =
+    InField all n
+    ⊎ ((x : Format × ℕ) × Taken (initial_length order 0) all length_limit x (length_size x.0)
+    × (n ≤ length_size x.0 + x.1))
 
 -- of all that a reader had left some bytes were taken
 pub record Takes (old new : Option (List ℕ)) (all : List ℕ) : Type 0 where
@@ -48,22 +51,29 @@ pub record Takes (old new : Option (List ℕ)) (all : List ℕ) : Type 0 where
 
 -- the unit stands at the front of all that the reader had left, and exactly its bytes were taken
 abbrev pub TakesUnitUnder : Versions → List ℕ → Order → Option (List ℕ) → Option (List ℕ) → WholeUnit → Type 0
-TakesUnitUnder versions abbreviations order old new u = (all : List ℕ) × Had old all × UnitAtUnder versions abbreviations order all u (length (bytes_of u)) × Consumes old new (bytes_of u)
+TakesUnitUnder versions abbreviations order old new u =
+    (all : List ℕ) × Had old all × UnitAtUnder versions abbreviations order all u (length (bytes_of u))
+    × Consumes old new (bytes_of u)
 
 -- a fault is the first one of all that the reader had left
 abbrev pub IsFeedErrorUnder : Versions → List ℕ → Order → List ℕ → ReadError → Type 0
-IsFeedErrorUnder versions abbreviations order all (reads.Fault f) = FailsUnder versions order abbreviations all f.section f.offset f.reason
+IsFeedErrorUnder versions abbreviations order all (reads.Fault f) =
+    FailsUnder versions order abbreviations all f.section f.offset f.reason
 IsFeedErrorUnder versions abbreviations order all reads.NoMemory = Unit {0}
 IsFeedErrorUnder versions abbreviations order all (reads.Io kind) = Unit {0}
 
 -- no unit is read: what the error tells, and that no byte was taken past the unit's end
 abbrev pub TakesNoUnitUnder : Versions → List ℕ → Order → Option (List ℕ) → Option (List ℕ) → ReadError → Type 0
-TakesNoUnitUnder versions abbreviations order old new e = (all : List ℕ) × (h : Takes old new all) × IsFeedErrorUnder versions abbreviations order all e × InUnit order all (length h.taken)
+TakesNoUnitUnder versions abbreviations order old new e =
+    (all : List ℕ) × (h : Takes old new all) × IsFeedErrorUnder versions abbreviations order all e
+    × InUnit order all (length h.taken)
 
 -- the same, where bytes were taken before
-abbrev pub TakesNoUnitBehind : Versions → List ℕ → Order → List ℕ → Option (List ℕ) → Option (List ℕ) → ReadError → Type 0
+abbrev pub TakesNoUnitBehind : Versions → List ℕ → Order → List ℕ → Option (List ℕ) → Option (List ℕ) → ReadError
+    → Type 0
 TakesNoUnitBehind versions abbreviations order taken old new e =
-    (all : List ℕ) × (h : Takes (behind taken old) new all) × IsFeedErrorUnder versions abbreviations order all e × InUnit order all (length h.taken) × StartsWith taken all
+    (all : List ℕ) × (h : Takes (behind taken old) new all) × IsFeedErrorUnder versions abbreviations order all e
+    × InUnit order all (length h.taken) × StartsWith taken all
 
 -- ---- where version 5 alone is accepted
 
@@ -85,8 +95,11 @@ FailsUpTo old new most reads.NoMemory = ConsumesUpTo old new most
 FailsUpTo old new most (reads.Io kind) = ConsumesUpTo old new most
 
 -- what a read of up to so many bytes puts behind those that are held: all of them, or all that the reader had left
-abbrev pub ReadsUpTo : {X : Type 0} → List ℕ → List ℕ → Option (List ℕ) → Option (List ℕ) → ℕ → Result X ReadError → Type 0
-ReadsUpTo held now old new most (Ok x) = (got : List ℕ) × (now ≡ held ++ got) × (length got ≤ most) × Consumes old new got × ((length got ≡ most) ⊎ IsAtEnd new)
+abbrev pub ReadsUpTo : {X : Type 0} → List ℕ → List ℕ → Option (List ℕ) → Option (List ℕ) → ℕ → Result X ReadError
+    → Type 0
+ReadsUpTo held now old new most (Ok x) =
+    (got : List ℕ) × (now ≡ held ++ got) × (length got ≤ most) × Consumes old new got
+    × ((length got ≡ most) ⊎ IsAtEnd new)
 ReadsUpTo held now old new most (Err e) = FailsUpTo old new most e
 
 -- what is held after such a read failed: what was held, and behind it what was taken. Where a growth was refused, the
@@ -108,7 +121,8 @@ FailsInField old new (reads.Io kind) = (all : List ℕ) × (h : Takes old new al
 
 -- what a read of a length field gives: the whole field, or all that the reader had left
 abbrev pub ReadsField : {X : Type 0} → (X → List ℕ) → Option (List ℕ) → Option (List ℕ) → Result X ReadError → Type 0
-ReadsField view old new (Ok x) = Consumes old new (view x) × InField (view x) (length (view x)) × (IsField (view x) ⊎ IsAtEnd new)
+ReadsField view old new (Ok x) =
+    Consumes old new (view x) × InField (view x) (length (view x)) × (IsField (view x) ⊎ IsAtEnd new)
 ReadsField view old new (Err e) = FailsInField old new e
 
 -- whether these are the bytes that begin a length of the 64-bit format

@@ -55,7 +55,8 @@ wanted g bytes = next_moment (context g) g.table (frames_of g) (chain_of g) g.pl
 abbrev pub IsUnended : PartialUnit → Type 0
 IsUnended g = GoesOn (context g) g.table (frames_of g) (chain_of g) g.place.unfinished (left g)
 
--- All before the place has a spelling, within the unit; the unit isn't whole there; and with a byte less it was cut off.
+-- All before the place has a spelling, within the unit; the unit isn't whole there; and with a byte less it was cut
+-- off.
 pub record Keeps (g : PartialUnit) : Type 0 where
   pub head : HasHeaderBytes g.header g.unit_length
   pub stands : PlaceFits (context g) g.table (frames_of g) (chain_of g) g.place.unfinished g.padding
@@ -63,10 +64,11 @@ pub record Keeps (g : PartialUnit) : Type 0 where
   pub unended : IsUnended g
   pub first : StandsFirst g (before g)
 
--- What is true of a feed between its calls: while it takes bytes, of the field at its place fewer bytes are there than it wants,
--- or it is new.
+-- What is true of a feed between its calls: while it takes bytes, of the field at its place fewer bytes are there than
+-- it wants, or it is new.
 abbrev pub Kept : BodyFeed → Type 0
-Kept (Reading g) = Keeps g × AreBytes (part g) × ((length (part g) < wanted g (part g)) ⊎ (g ≡ started g.header g.unit_length g.table))
+Kept (Reading g) =
+    Keeps g × AreBytes (part g) × ((length (part g) < wanted g (part g)) ⊎ (g ≡ started g.header g.unit_length g.table))
 Kept (Refused f) = Unit {0}
 Kept Finished = Unit {0}
 
@@ -78,17 +80,20 @@ front_in xs ps front p b e = sym (same_from_push (xs ++ ps) front p b (append_as
 
 module _ (g : PartialUnit) (keeps : Keeps g) where
   -- the field wants more than these bytes: what was taken is cut off, at its first byte
-  pub cut_at_field : (bytes : List ℕ) → AreBytes bytes → length bytes < wanted g bytes → BreaksAt g (before g ++ bytes) (record { section = Info; offset = length (before g); reason = Truncated })
+  pub cut_at_field : (bytes : List ℕ) → AreBytes bytes → length bytes < wanted g bytes
+      → BreaksAt g (before g ++ bytes) (record { section = Info; offset = length (before g); reason = Truncated })
   cut_at_field bytes fit short = (
     refl,
-    unit_cut g.header g.unit_length g.table keeps.head (versions_for g.header.kind) (accepted g.header.kind) (frames_of g) (chain_of g) g.place.unfinished g.padding keeps.stands keeps.within bytes keeps.unended fit short,
+    unit_cut g.header g.unit_length g.table keeps.head (versions_for g.header.kind) (accepted g.header.kind)
+        (frames_of g) (chain_of g) g.place.unfinished g.padding keeps.stands keeps.within bytes keeps.unended fit short,
   )
 
   pub waits : (bytes : List ℕ) → AreBytes bytes → length bytes < wanted g bytes → IsCutOff g (before g ++ bytes)
   waits bytes fit short = (length (before g), (cut_at_field bytes fit short).1)
 
   -- bytes of the field, no more than it wants: with one less it was cut off
-  pub stood_first : (bytes rest : List ℕ) → AreBytes bytes → length bytes ≤ wanted g (bytes ++ rest) → StandsFirst g (before g ++ bytes)
+  pub stood_first : (bytes rest : List ℕ) → AreBytes bytes → length bytes ≤ wanted g (bytes ++ rest)
+      → StandsFirst g (before g ++ bytes)
   stood_first bytes rest fit enough front b e = by bytes refl
     where
       split : (x : ℕ) (xs : List ℕ) → (ps : List ℕ) × (p : ℕ) × (x ∷ xs ≡ ps ++ p ∷ [])
@@ -96,38 +101,51 @@ module _ (g : PartialUnit) (keeps : Keeps g) where
       split x (y ∷ xs) = let s = split y xs in (x ∷ s.0, s.1, ap (λ (zs : List ℕ). x ∷ zs) s.2)
 
       by : (bs : List ℕ) → bytes ≡ bs → IsCutOff g front
-      by [] same = keeps.first front b (sym (append-nil (before g)) ∙ ap (λ (bs : List ℕ). before g ++ bs) (sym same) ∙ e)
+      by [] same =
+          keeps.first front b (sym (append-nil (before g)) ∙ ap (λ (bs : List ℕ). before g ++ bs) (sym same) ∙ e)
       by (x ∷ xs) same =
           let s = split x xs in
           let all : bytes ≡ s.0 ++ s.1 ∷ [] = same ∙ s.2 in
-          let f : front ≡ before g ++ s.0 = front_in (before g) s.0 front s.1 b (ap (λ (bs : List ℕ). before g ++ bs) (sym all) ∙ e) in
-          let is_front : bytes ++ rest ≡ s.0 ++ (s.1 ∷ rest) = ap (λ (bs : List ℕ). bs ++ rest) all ∙ append_assoc s.0 (s.1 ∷ []) rest in
-          let short : length s.0 < wanted g (s.0 ++ (s.1 ∷ rest)) = omega (arith, ap length all, length-append s.0 (s.1 ∷ []), enough, ap (wanted g) is_front) in
+          let f : front ≡ before g ++ s.0 =
+          front_in (before g) s.0 front s.1 b (ap (λ (bs : List ℕ). before g ++ bs) (sym all) ∙ e) in
+          let is_front : bytes ++ rest ≡ s.0 ++ (s.1 ∷ rest) =
+          ap (λ (bs : List ℕ). bs ++ rest) all ∙ append_assoc s.0 (s.1 ∷ []) rest in
+          let short : length s.0 < wanted g (s.0 ++ (s.1 ∷ rest)) =
+          omega (arith, ap length all, length-append s.0 (s.1 ∷ []), enough, ap (wanted g) is_front) in
           subst (IsCutOff g) (sym f) (
             length (before g),
-            unit_was_cut g.header g.unit_length g.table keeps.head (versions_for g.header.kind) (accepted g.header.kind) (frames_of g) (chain_of g) g.place.unfinished g.padding keeps.stands keeps.within
+            unit_was_cut g.header g.unit_length g.table keeps.head (versions_for g.header.kind) (accepted g.header.kind)
+                (frames_of g) (chain_of g) g.place.unfinished g.padding keeps.stands keeps.within
                 s.0 (s.1 ∷ rest) keeps.unended (front_is_bytes s.0 (s.1 ∷ []) (subst AreBytes all fit)) short,
           )
 
   -- the field is refused: what was taken breaks at its first byte
-  pub refused : (bytes : List ℕ) (own : ℕ) (reason : Reason) → AreBytes bytes → next g bytes ≡ Broken own reason → BreaksAt g (before g ++ bytes) (record { section = Info; offset = length (before g); reason = reason })
+  pub refused : (bytes : List ℕ) (own : ℕ) (reason : Reason) → AreBytes bytes → next g bytes ≡ Broken own reason
+      → BreaksAt g (before g ++ bytes) (record { section = Info; offset = length (before g); reason = reason })
   refused bytes own reason fit e = (
     refl,
-    unit_refused g.header g.unit_length g.table keeps.head (versions_for g.header.kind) (accepted g.header.kind) (frames_of g) (chain_of g) g.place.unfinished g.padding keeps.stands keeps.within bytes own reason keeps.unended fit e,
+    unit_refused g.header g.unit_length g.table keeps.head (versions_for g.header.kind) (accepted g.header.kind)
+        (frames_of g) (chain_of g) g.place.unfinished g.padding keeps.stands keeps.within bytes own reason keeps.unended
+        fit e,
   )
 
   -- the field is found in all of these bytes: with one less it was cut off
-  pub found_first : (bytes : List ℕ) → AreBytes bytes → next g bytes ≡ Found tt (length bytes) → StandsFirst g (before g ++ bytes)
+  pub found_first : (bytes : List ℕ) → AreBytes bytes → next g bytes ≡ Found tt (length bytes)
+      → StandsFirst g (before g ++ bytes)
   found_first bytes fit e =
-      let want : wanted g bytes ≡ length bytes = (next_has (context g) g.table (frames_of g) (chain_of g) g.place.unfinished).whole bytes (left g) tt (length bytes) e in
+      let want : wanted g bytes ≡ length bytes =
+      (next_has (context g) g.table (frames_of g) (chain_of g) g.place.unfinished).whole bytes (left g) tt
+      (length bytes) e in
       stood_first bytes [] fit (omega (arith, want, ap (wanted g) (append-nil bytes)))
 
 -- ---- where a feed begins
 
 module _ (h : Header) (n : ℕ) (t : Table) (head : HasHeaderBytes h n) where
   -- a header without its last byte is cut off
-  header_first : (front : List ℕ) (b : ℕ) → header_bytes h n ≡ front ++ b ∷ [] → (offset : ℕ) × UnitBreaksUnder (versions_for h.kind) h.order t front offset Truncated
-  header_first front b e = let w = header_front_waits (versions_for h.kind) h n (accepted h.kind) head front b [] e in (w.0, inl w.1)
+  header_first : (front : List ℕ) (b : ℕ) → header_bytes h n ≡ front ++ b ∷ []
+      → (offset : ℕ) × UnitBreaksUnder (versions_for h.kind) h.order t front offset Truncated
+  header_first front b e =
+      let w = header_front_waits (versions_for h.kind) h n (accepted h.kind) head front b [] e in (w.0, inl w.1)
 
   none_before : place_bytes (context_of h) t [] none None [] ≡ []
   unfolding tree_bytes
@@ -140,21 +158,38 @@ module _ (h : Header) (n : ℕ) (t : Table) (head : HasHeaderBytes h n) where
     stands = at_start (context_of h) t;
     within = omega (arith, ap length none_before);
     unended = tt;
-    first = λ front b e. header_first front b (sym (append-nil (header_bytes h n)) ∙ ap (λ (bs : List ℕ). header_bytes h n ++ bs) (sym none_before) ∙ e);
+    first =
+        λ front b e.
+        header_first front b
+        (sym (append-nil (header_bytes h n)) ∙ ap (λ (bs : List ℕ). header_bytes h n ++ bs) (sym none_before) ∙ e);
   }
 
 -- ---- from field to field
 
 -- the feed at the next place
 abbrev pub moved_to : Place → List ℕ → PartialUnit → PartialUnit
-moved_to p padding g = record { header = g.header; unit_length = g.unit_length; table = g.table; place = p; padding = padding; named = None; to_come = 0; pending = [] }
+moved_to p padding g =
+    record {
+      header = g.header;
+      unit_length = g.unit_length;
+      table = g.table;
+      place = p;
+      padding = padding;
+      named = None;
+      to_come = 0;
+      pending = [];
+    }
 
 -- It is kept at the next place, unless the unit is whole there.
-pub keeps_on : (g : PartialUnit) → Keeps g → (bytes : List ℕ) (p : Place) (padding : List ℕ) → AreBytes bytes → next g bytes ≡ Found tt (length bytes) → length bytes ≤ left g
-    → Leads (context g) g.table g.place g.padding bytes p padding → IsUnended (moved_to p padding g) → Keeps (moved_to p padding g) × (before (moved_to p padding g) ≡ before g ++ bytes)
+pub keeps_on : (g : PartialUnit) → Keeps g → (bytes : List ℕ) (p : Place) (padding : List ℕ) → AreBytes bytes
+    → next g bytes ≡ Found tt (length bytes) → length bytes ≤ left g
+    → Leads (context g) g.table g.place g.padding bytes p padding → IsUnended (moved_to p padding g)
+    → Keeps (moved_to p padding g) × (before (moved_to p padding g) ≡ before g ++ bytes)
 keeps_on g keeps bytes p padding fit e room leads on =
     let old : List ℕ = bytes_at (context g) g.table g.place g.padding in
-    let longer : before (moved_to p padding g) ≡ before g ++ bytes = ap (λ (bs : List ℕ). header_bytes g.header g.unit_length ++ bs) leads.1 ∙ sym (append_assoc (header_bytes g.header g.unit_length) old bytes) in (
+    let longer : before (moved_to p padding g) ≡ before g ++ bytes =
+    ap (λ (bs : List ℕ). header_bytes g.header g.unit_length ++ bs) leads.1
+    ∙ sym (append_assoc (header_bytes g.header g.unit_length) old bytes) in (
       record {
         head = keeps.head;
         stands = leads.0;

@@ -17,7 +17,9 @@ use Rattle.dw_feed.specs.BodyFeed.{PartialUnit, BreaksAt, stream}
 
 -- exactly the bytes of a header were taken, of which these were taken before
 abbrev pub TakesHeader : Versions → Order → List ℕ → Option (List ℕ) → Option (List ℕ) → Header × ℕ → Type 0
-TakesHeader versions order taken old new x = (bytes : List ℕ) × IsHeader versions order bytes x.0 x.1 × Consumes (behind taken old) new bytes × StartsWith taken bytes
+TakesHeader versions order taken old new x =
+    (bytes : List ℕ) × IsHeader versions order bytes x.0 x.1 × Consumes (behind taken old) new bytes
+    × StartsWith taken bytes
 
 -- no header is read: a fault is that of all that the reader had left
 abbrev pub IsHeaderError : Versions → Order → List ℕ → ReadError → Type 0
@@ -27,7 +29,9 @@ IsHeaderError versions order all (reads.Io kind) = Unit {0}
 
 -- and no byte was taken past the unit's end
 abbrev pub TakesNoHeader : Versions → Order → List ℕ → Option (List ℕ) → Option (List ℕ) → ReadError → Type 0
-TakesNoHeader versions order taken old new e = (all : List ℕ) × (h : Takes (behind taken old) new all) × IsHeaderError versions order all e × InUnit order all (length h.taken) × StartsWith taken all
+TakesNoHeader versions order taken old new e =
+    (all : List ℕ) × (h : Takes (behind taken old) new all) × IsHeaderError versions order all e
+    × InUnit order all (length h.taken) × StartsWith taken all
 
 -- ---- what follows it
 
@@ -48,4 +52,6 @@ IsBodyError g taken new (reads.Io kind) = Unit {0}
 
 -- and no byte was taken past the unit's end
 abbrev pub TakesNoBody : PartialUnit → Option (List ℕ) → Option (List ℕ) → ReadError → Type 0
-TakesNoBody g old new e = (taken : List ℕ) × Consumes old new taken × (length taken ≤ left_behind g.header g.unit_length) × IsBodyError g taken new e
+TakesNoBody g old new e =
+    (taken : List ℕ) × Consumes old new taken × (length taken ≤ left_behind g.header g.unit_length)
+    × IsBodyError g taken new e

@@ -1,4 +1,5 @@
--- A place of a unit where the next field begins: that all before it has a spelling, and how the next field breaks there.
+-- A place of a unit where the next field begins: that all before it has a spelling, and how the next field breaks
+-- there.
 use Rattle.std.specs.Prelude.{◌≡◌, ℕ, zero, suc, ◌-◌, ◌<◌, List, [], ◌∷◌, length, true, false, Option, Some, None}
 use Rattle.dw_leb.specs.Part.{Breaks, judged}
 use Rattle.dw_leb.specs.Number.{Unsigned, uleb}
@@ -14,7 +15,8 @@ use Rattle.dw_feed.specs.Room.{has_room}
 module _ (k : Ctx) (t : Table) where
   -- an entry of a chain, with room for so many levels below it
   abbrev pub ChildFits : ℕ → Tree → Type 0
-  ChildFits room x = ItemFits (λ _. judged uleb (bad_child t true)) is_null (body k t (children k t room)) [] (node_of x)
+  ChildFits room x =
+      ItemFits (λ _. judged uleb (bad_child t true)) is_null (body k t (children k t room)) [] (node_of x)
 
   -- the entries of a chain that has room for so many levels
   abbrev pub ChainFits : ℕ → Forest → Type 0
@@ -88,7 +90,8 @@ module _ (k : Ctx) (t : Table) where
   ValueBreaks [] bytes lim offset reason = ⊥
   ValueBreaks (p ∷ ps) bytes lim offset reason = (attribute k p.form.value p.constant).Break bytes lim offset reason
 
-  -- the next field breaks: a value of the unfinished entry, the root's code, a code or null of a chain, a null of the padding
+  -- the next field breaks: a value of the unfinished entry, the root's code, a code or null of a chain, a null of the
+  -- padding
   abbrev pub NextBreaks : List Frame → Forest → Option UnfinishedEntry → Breaks
   NextBreaks fs ts (Some r) = ValueBreaks (next_pairs t r)
   NextBreaks [] none None = (judged uleb (bad_root t)).Break

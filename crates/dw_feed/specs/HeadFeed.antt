@@ -41,14 +41,19 @@ pub record IsHeader (versions : Versions) (order : Order) (bytes : List ℕ) (h 
 abbrev pub IsFirst : Versions → Order → List ℕ → Type 0
 IsFirst versions order bytes = (front : List ℕ) (b : ℕ) → bytes ≡ front ++ b ∷ [] → IsCut versions order front
 
--- What a call answers that is handed a piece, and takes n bytes of it. All bytes that were taken, in all calls, are called the
--- stream. While more is needed the whole piece was taken, and the stream is cut off. A header is the whole stream, and a fault
--- is the stream's, and both are answered with the first byte that shows them. After a fault the fault is answered again, after a
--- header that there is no more, and nothing is taken.
+-- What a call answers that is handed a piece, and takes n bytes of it. All bytes that were taken, in all calls, are
+-- called the stream. While more is needed the whole piece was taken, and the stream is cut off. A header is the whole
+-- stream, and a fault is the stream's, and both are answered with the first byte that shows them. After a fault the
+-- fault is answered again, after a header that there is no more, and nothing is taken.
 abbrev pub Answers : Versions → Order → HeadState → List ℕ → ℕ → Progress (Header × ℕ) → HeadState → Type 0
-Answers versions order (Reading old) piece n More (Reading new) = (n ≡ length piece) × (new ≡ old ++ piece) × IsCut versions order new
-Answers versions order (Reading old) piece n (Done x) Finished = (n ≤ length piece) × IsHeader versions order (old ++ take n piece) x.0 x.1 × IsFirst versions order (old ++ take n piece)
-Answers versions order (Reading old) piece n (Fault f) (Refused g) = (n ≤ length piece) × (g ≡ f) × HeaderFaultUnder versions order (old ++ take n piece) f × (f.reason ≢ Truncated) × IsFirst versions order (old ++ take n piece)
+Answers versions order (Reading old) piece n More (Reading new) =
+    (n ≡ length piece) × (new ≡ old ++ piece) × IsCut versions order new
+Answers versions order (Reading old) piece n (Done x) Finished =
+    (n ≤ length piece) × IsHeader versions order (old ++ take n piece) x.0 x.1
+    × IsFirst versions order (old ++ take n piece)
+Answers versions order (Reading old) piece n (Fault f) (Refused g) =
+    (n ≤ length piece) × (g ≡ f) × HeaderFaultUnder versions order (old ++ take n piece) f × (f.reason ≢ Truncated)
+    × IsFirst versions order (old ++ take n piece)
 Answers versions order (Refused f) piece n (Fault g) (Refused h) = (n ≡ 0) × (g ≡ f) × (h ≡ f)
 Answers versions order Finished piece n Spent Finished = n ≡ 0
 Answers versions order old piece n answer new = ⊥
@@ -62,7 +67,8 @@ IfDone P NoMemory = Unit {0}
 IfDone P Spent = Unit {0}
 
 -- the feed stays one of the same headers
-pub record FeedsHead (old : HeadFeed) (piece : List ℕ) (n : ℕ) (answer : Progress (Header × ℕ)) (new : HeadFeed) : Type 0 where
+pub record FeedsHead (old : HeadFeed) (piece : List ℕ) (n : ℕ) (answer : Progress (Header × ℕ)) (new : HeadFeed)
+    : Type 0 where
   pub order_is : new.order ≡ old.order
   pub versions_is : new.versions ≡ old.versions
   pub answers : Answers old.versions old.order old.state piece n answer new.state
@@ -76,24 +82,32 @@ Ends versions order state answer = ⊥
 
 -- How many bytes are needed at the least: with fewer the stream is cut off. After an answer no more are.
 abbrev pub Wants : Versions → Order → HeadState → ℕ → Type 0
-Wants versions order (Reading taken) n = (0 < n) × ((piece : List ℕ) → length piece < n → IsCut versions order (taken ++ piece))
+Wants versions order (Reading taken) n =
+    (0 < n) × ((piece : List ℕ) → length piece < n → IsCut versions order (taken ++ piece))
 Wants versions order (Refused f) n = n ≡ 0
 Wants versions order Finished n = n ≡ 0
 
 -- ---- how they are counted
 
--- a length field that begins so, and the offsets behind it, have so many bytes: four, or twelve and eight behind ff ff ff ff
+-- a length field that begins so, and the offsets behind it, have so many bytes: four, or twelve and eight behind ff ff
+-- ff ff
 abbrev pub AreSizes : List ℕ → ℕ → ℕ → Type 0
-AreSizes taken size offset = ((size ≡ 4) × (offset ≡ 4) × ((length taken < 4) ⊎ (take 4 taken ≢ escape))) ⊎ ((size ≡ 12) × (offset ≡ 8) × (4 ≤ length taken) × (take 4 taken ≡ escape))
+AreSizes taken size offset =
+    ((size ≡ 4) × (offset ≡ 4) × ((length taken < 4) ⊎ (take 4 taken ≢ escape)))
+    ⊎ ((size ≡ 12) × (offset ≡ 8) × (4 ≤ length taken) × (take 4 taken ≡ escape))
 
--- Of the field of a header that comes next, behind so many bytes of its fields, so many are lacking at the least: of the version; of
--- the offset of the table, and of the one or two numbers that a kind of version 5 adds; or one.
+-- Of the field of a header that comes next, behind so many bytes of its fields, so many are lacking at the least: of
+-- the version; of the offset of the table, and of the one or two numbers that a kind of version 5 adds; or one.
 abbrev pub FieldLacks : Versions → ℕ → ℕ → ℕ → Type 0
 FieldLacks versions offset count n =
     (count + n ≡ 2)
     ⊎ (n ≡ 1)
-    ⊎ ((versions ≡ Five) × (4 ≤ count) × ((count + n ≡ 4 + offset) ⊎ ((4 + offset ≤ count) × (count + n ≡ 12 + offset)) ⊎ ((12 + offset ≤ count) × (count + n ≡ 12 + offset + offset))))
+    ⊎ ((versions ≡ Five) × (4 ≤ count)
+    × ((count + n ≡ 4 + offset) ⊎ ((4 + offset ≤ count) × (count + n ≡ 12 + offset))
+    ⊎ ((12 + offset ≤ count) × (count + n ≡ 12 + offset + offset))))
 
 -- of the length field, or of a field behind it
 abbrev pub Lacks : Versions → List ℕ → ℕ → Type 0
-Lacks versions taken n = (size : ℕ) × (offset : ℕ) × AreSizes taken size offset × ((length taken + n ≡ size) ⊎ ((size ≤ length taken) × FieldLacks versions offset (length taken - size) n))
+Lacks versions taken n =
+    (size : ℕ) × (offset : ℕ) × AreSizes taken size offset
+    × ((length taken + n ≡ size) ⊎ ((size ≤ length taken) × FieldLacks versions offset (length taken - size) n))

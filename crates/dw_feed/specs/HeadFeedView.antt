@@ -50,8 +50,13 @@ ShowsHead versions order bytes NoMemory = ⊥
 ShowsHead versions order bytes Spent = ⊥
 
 -- nothing was answered yet
-pub reading_cut : (versions : Versions) (order : Order) (taken : List ℕ) (answer : Option Answered) → answer ≡ None → IsFeed versions order (state_of taken answer) → IsCut versions order taken
-reading_cut versions order taken answer none is = subst (λ (o : Option Answered). IsFeed versions order (state_of taken o)) none is
+pub reading_cut : (versions : Versions) (order : Order) (taken : List ℕ) (answer : Option Answered) → answer ≡ None
+    → IsFeed versions order (state_of taken answer) → IsCut versions order taken
+reading_cut versions order taken answer none is =
+    subst (λ (o : Option Answered). IsFeed versions order (state_of taken o)) none is
 
-pub reading_ends : (versions : Versions) (order : Order) (taken : List ℕ) (answer : Option Answered) (f : TheFault) → answer ≡ None → HeaderFaultUnder versions order taken f → f.reason ≡ Truncated → Ends versions order (state_of taken answer) (Some f)
-reading_ends versions order taken answer f none fault cut = subst (λ (o : Option Answered). Ends versions order (state_of taken o) (Some f)) (sym none) (fault, cut)
+pub reading_ends : (versions : Versions) (order : Order) (taken : List ℕ) (answer : Option Answered) (f : TheFault)
+    → answer ≡ None → HeaderFaultUnder versions order taken f → f.reason ≡ Truncated
+    → Ends versions order (state_of taken answer) (Some f)
+reading_ends versions order taken answer f none fault cut =
+    subst (λ (o : Option Answered). Ends versions order (state_of taken o) (Some f)) (sym none) (fault, cut)

@@ -5,8 +5,8 @@ use Rattle.dw_tree.specs.Counts.{unfinished_entries, entries_counted, values_cou
 use Rattle.dw_tree.specs.PoolBytes.{held_in}
 use Rattle.dw_feed.specs.BodyFeed.{PartialUnit, BodyFeed, Reading, Refused, Finished}
 
--- the bytes that are kept of a number or length field; the entries whose subtree hasn't ended; the entries; their values, but for
--- a partial one; the bytes of texts and blocks
+-- the bytes that are kept of a number or length field; the entries whose subtree hasn't ended; the entries; their
+-- values, but for a partial one; the bytes of texts and blocks
 pub record HeldCounts : Type 0 where
   pub pending : ℕ
   pub nested : ℕ

@@ -23,8 +23,8 @@ padding_of (Reading g) = g.padding
 padding_of (Refused f) = []
 padding_of Finished = []
 
--- the bytes that a feed took of its pieces: those before its place and those of the field there, and none of the header; none once
--- an answer was not More
+-- the bytes that a feed took of its pieces: those before its place and those of the field there, and none of the
+-- header; none once an answer was not More
 abbrev pub taken_by : BodyFeed → ℕ
 taken_by (Reading g) = length (body_so_far g ++ part g)
 taken_by (Refused f) = 0

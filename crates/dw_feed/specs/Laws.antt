@@ -18,20 +18,30 @@ use Rattle.dw_feed.specs.HeldCounts.{held_by}
 
 -- the bytes begin with a length field, and hold all that it tells
 abbrev pub HoldsUnit : Order → List ℕ → Type 0
-HoldsUnit order bytes = (x : Format × ℕ) × Taken (initial_length order 0) bytes length_limit x (length_size x.0) × (length_size x.0 + x.1 ≤ length bytes)
+HoldsUnit order bytes =
+    (x : Format × ℕ) × Taken (initial_length order 0) bytes length_limit x (length_size x.0)
+    × (length_size x.0 + x.1 ≤ length bytes)
 
 -- they have no fault of an input that ends too early
 abbrev pub NoneIsCutUnder : Versions → Type 0
-NoneIsCutUnder versions = (order : Order) (abbreviations bytes : List ℕ) (offset : ℕ) → HoldsUnit order bytes → FailsUnder versions order abbreviations bytes Info offset Truncated → ⊥
+NoneIsCutUnder versions =
+    (order : Order) (abbreviations bytes : List ℕ) (offset : ℕ) → HoldsUnit order bytes
+    → FailsUnder versions order abbreviations bytes Info offset Truncated → ⊥
 
 -- their fault is that of the bytes with whatever follows
 abbrev pub FaultsStayInsideUnder : Versions → Type 0
-FaultsStayInsideUnder versions = (order : Order) (abbreviations bytes tail : List ℕ) (s : SectionId) (offset : ℕ) (reason : Reason) → HoldsUnit order bytes → FailsUnder versions order abbreviations bytes s offset reason → FailsUnder versions order abbreviations (bytes ++ tail) s offset reason
+FaultsStayInsideUnder versions =
+    (order : Order) (abbreviations bytes tail : List ℕ) (s : SectionId) (offset : ℕ) (reason : Reason)
+    → HoldsUnit order bytes → FailsUnder versions order abbreviations bytes s offset reason
+    → FailsUnder versions order abbreviations (bytes ++ tail) s offset reason
 
 -- and where something follows, the fault is one of the bytes without it
 abbrev pub FaultsComeFromInsideUnder : Versions → Type 0
-FaultsComeFromInsideUnder versions = (order : Order) (abbreviations bytes tail : List ℕ) (s : SectionId) (offset : ℕ) (reason : Reason) → AllByRecursion (λ b. b < 256) abbreviations → AllByRecursion (λ b. b < 256) bytes
-    → HoldsUnit order bytes → FailsUnder versions order abbreviations (bytes ++ tail) s offset reason → FailsUnder versions order abbreviations bytes s offset reason
+FaultsComeFromInsideUnder versions =
+    (order : Order) (abbreviations bytes tail : List ℕ) (s : SectionId) (offset : ℕ) (reason : Reason)
+    → AllByRecursion (λ b. b < 256) abbreviations → AllByRecursion (λ b. b < 256) bytes
+    → HoldsUnit order bytes → FailsUnder versions order abbreviations (bytes ++ tail) s offset reason
+    → FailsUnder versions order abbreviations bytes s offset reason
 
 -- ---- where version 5 alone is accepted
 
@@ -53,4 +63,6 @@ pub record HoldsSame (g h : PartialUnit) : Type 0 where
 
 -- feeds of one unit that took the same bytes hold the same, however these were cut into pieces
 abbrev pub StreamTellsHeld : Type 0
-StreamTellsHeld = (g h : PartialUnit) → SameUnit g h → IsBodyFeed (Reading g) → IsBodyFeed (Reading h) → stream g ≡ stream h → HoldsSame g h
+StreamTellsHeld =
+    (g h : PartialUnit) → SameUnit g h → IsBodyFeed (Reading g) → IsBodyFeed (Reading h) → stream g ≡ stream h
+    → HoldsSame g h

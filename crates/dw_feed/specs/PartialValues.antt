@@ -36,11 +36,14 @@ ending None = 0 ∷ []
 ending (Some width) = []
 
 shaped_bytes : (k : Ctx) (c : Option Signed) (s : Shape) (width : Option ℕ) (bytes : List ℕ) → ComesInPieces s width
-    → (shaped k c s).spell (text_or_block width bytes) ≡ count_if k (Some s) width (length bytes) ++ (bytes ++ ending width)
+    → (shaped k c s).spell (text_or_block width bytes)
+    ≡ count_if k (Some s) width (length bytes) ++ (bytes ++ ending width)
 unfolding shaped
 shaped_bytes k c shapes.Text None bytes is = refl
-shaped_bytes k c (shapes.Counted n) (Some width) bytes is = rw (is, eq-eqb n n refl) (ap (λ (bs : List ℕ). fixed_bytes k.order n (length bytes) ++ bs) (sym (append-nil bytes)))
-shaped_bytes k c shapes.CountedUleb (Some width) bytes is = ap (λ (bs : List ℕ). uleb.spell (record { value = length bytes; width = width }) ++ bs) (sym (append-nil bytes))
+shaped_bytes k c (shapes.Counted n) (Some width) bytes is =
+    rw (is, eq-eqb n n refl) (ap (λ (bs : List ℕ). fixed_bytes k.order n (length bytes) ++ bs) (sym (append-nil bytes)))
+shaped_bytes k c shapes.CountedUleb (Some width) bytes is =
+    ap (λ (bs : List ℕ). uleb.spell (record { value = length bytes; width = width }) ++ bs) (sym (append-nil bytes))
 shaped_bytes k c shapes.Text (Some width) bytes is = absurd is
 shaped_bytes k c (shapes.Counted n) None bytes is = absurd is
 shaped_bytes k c shapes.CountedUleb None bytes is = absurd is
@@ -59,38 +62,65 @@ pub record IsPartialAs (k : Ctx) (p : Pair) (b : PartialValue) : Type 0 where
   pub direct : b.via ≡ None → p.form.value ≢ 0x16
   pub indirect : (u : Unsigned) → b.via ≡ Some u → p.form.value ≡ 0x16
 
-pub ended_bytes : (k : Ctx) (p : Pair) (ps : List Pair) (b : PartialValue) → IsPartialAs k p b → first_bytes k (p ∷ ps) (partial_attribute b) ≡ partial_taken k (p ∷ ps) 0 b ++ ending b.width
+pub ended_bytes : (k : Ctx) (p : Pair) (ps : List Pair) (b : PartialValue) → IsPartialAs k p b
+    → first_bytes k (p ∷ ps) (partial_attribute b) ≡ partial_taken k (p ∷ ps) 0 b ++ ending b.width
 unfolding attribute
 ended_bytes k p ps b is = by b.via refl
   where
-    plain : (v : Option Unsigned) → b.via ≡ v → (s : Option Shape) → s ≡ Some is.shape_is → (c : Option Signed) → (shaped_if k c s).spell (text_or_block b.width b.bytes) ≡ (count_if k s b.width (length b.bytes + 0) ++ b.bytes) ++ ending b.width
+    plain : (v : Option Unsigned) → b.via ≡ v → (s : Option Shape) → s ≡ Some is.shape_is → (c : Option Signed)
+        → (shaped_if k c s).spell (text_or_block b.width b.bytes)
+        ≡ (count_if k s b.width (length b.bytes + 0) ++ b.bytes) ++ ending b.width
     plain v e s h c =
         ap (λ (o : Option Shape). (shaped_if k c o).spell (text_or_block b.width b.bytes)) h
         ∙ shaped_bytes k c is.shape_is b.width b.bytes is.begins
-        ∙ (let n : length b.bytes ≡ length b.bytes + 0 = omega arith in ap (λ (m : ℕ). count_if k (Some is.shape_is) b.width m ++ (b.bytes ++ ending b.width)) n)
+        ∙ (let n : length b.bytes ≡ length b.bytes + 0 = omega arith in
+        ap (λ (m : ℕ). count_if k (Some is.shape_is) b.width m ++ (b.bytes ++ ending b.width)) n)
         ∙ ap (λ (o : Option Shape). count_if k o b.width (length b.bytes + 0) ++ (b.bytes ++ ending b.width)) (sym h)
         ∙ sym (append_assoc (count_if k s b.width (length b.bytes + 0)) b.bytes (ending b.width))
 
-    by : (v : Option Unsigned) → b.via ≡ v → (by_indirection k p.constant p.form.value (p.form.value == 0x16)).spell (record { via = b.via; value = text_or_block b.width b.bytes }) ≡ partial_taken k (p ∷ ps) 0 b ++ ending b.width
-    by None e = rw (e, ne_eqb p.form.value 0x16 (is.direct e)) (plain None e (shape p.form.value k.address_size k.format) (rw e at is.has) p.constant)
+    by : (v : Option Unsigned) → b.via ≡ v
+        → (by_indirection k p.constant p.form.value (p.form.value == 0x16)).spell
+        (record { via = b.via; value = text_or_block b.width b.bytes })
+        ≡ partial_taken k (p ∷ ps) 0 b ++ ending b.width
+    by None e =
+        rw (e, ne_eqb p.form.value 0x16 (is.direct e))
+        (plain None e (shape p.form.value k.address_size k.format) (rw e at is.has) p.constant)
     by (Some u) e =
-        rw (e, is.indirect u e) (ap (λ (bs : List ℕ). uleb.spell u ++ bs) (plain (Some u) e (shape u.value k.address_size k.format) (rw e at is.has) None)
-        ∙ sym (append_assoc (uleb.spell u) (count_if k (shape u.value k.address_size k.format) b.width (length b.bytes + 0) ++ b.bytes) (ending b.width)))
+        rw (e, is.indirect u e)
+        (ap (λ (bs : List ℕ). uleb.spell u ++ bs)
+        (plain (Some u) e (shape u.value k.address_size k.format) (rw e at is.has) None)
+        ∙ sym
+        (append_assoc (uleb.spell u)
+        (count_if k (shape u.value k.address_size k.format) b.width (length b.bytes + 0) ++ b.bytes)
+        (ending b.width)))
 
 -- ---- one that isn't whole wants more
 
--- a text has no zero yet, and no count of bytes that are to come; a block has a length that its field holds, within lim, and content still to come
+-- a text has no zero yet, and no count of bytes that are to come; a block has a length that its field holds, within
+-- lim, and content still to come
 abbrev pub IsIncomplete : Shape → Option ℕ → List ℕ → ℕ → ℕ → Type 0
-IsIncomplete shapes.Text None bytes to_come lim = AllByRecursion (λ b. is_zero b ≡ false) bytes × (length bytes < lim) × (to_come ≡ 0)
-IsIncomplete (shapes.Counted n) (Some width) bytes to_come lim = (width ≡ n) × (length bytes + to_come < 256 ^ n) × (n + (length bytes + to_come) ≤ lim) × (0 < to_come)
-IsIncomplete shapes.CountedUleb (Some width) bytes to_come lim = uleb.Fits (record { value = length bytes + to_come; width = width }) × (width + (length bytes + to_come) ≤ lim) × (0 < to_come)
+IsIncomplete shapes.Text None bytes to_come lim =
+    AllByRecursion (λ b. is_zero b ≡ false) bytes × (length bytes < lim) × (to_come ≡ 0)
+IsIncomplete (shapes.Counted n) (Some width) bytes to_come lim =
+    (width ≡ n) × (length bytes + to_come < 256 ^ n) × (n + (length bytes + to_come) ≤ lim) × (0 < to_come)
+IsIncomplete shapes.CountedUleb (Some width) bytes to_come lim =
+    uleb.Fits (record { value = length bytes + to_come; width = width }) × (width + (length bytes + to_come) ≤ lim)
+    × (0 < to_come)
 IsIncomplete s o bytes to_come lim = ⊥
 
-shaped_short : (k : Ctx) (s : Shape) (width : Option ℕ) (bytes : List ℕ) (to_come lim : ℕ) → IsIncomplete s width bytes to_come lim
-    → length (count_if k (Some s) width (length bytes + to_come) ++ bytes) < shaped_moment k s (count_if k (Some s) width (length bytes + to_come) ++ bytes) lim
+shaped_short : (k : Ctx) (s : Shape) (width : Option ℕ) (bytes : List ℕ) (to_come lim : ℕ)
+    → IsIncomplete s width bytes to_come lim
+    → length (count_if k (Some s) width (length bytes + to_come) ++ bytes)
+    < shaped_moment k s (count_if k (Some s) width (length bytes + to_come) ++ bytes) lim
 shaped_short k shapes.Text None bytes to_come lim h = omega (arith, text_wants bytes lim h.0 h.1)
 shaped_short k (shapes.Counted n) (Some width) bytes to_come lim h =
-    omega (arith, block_wants k n (length bytes + to_come) bytes lim h.1 h.2, length-append (fixed_bytes k.order n (length bytes + to_come)) bytes, length-fixed k.order n (length bytes + to_come), h.3)
+    omega (
+      arith,
+      block_wants k n (length bytes + to_come) bytes lim h.1 h.2,
+      length-append (fixed_bytes k.order n (length bytes + to_come)) bytes,
+      length-fixed k.order n (length bytes + to_come),
+      h.3,
+    )
 shaped_short k shapes.CountedUleb (Some width) bytes to_come lim h =
     let u : Unsigned = record { value = length bytes + to_come; width = width } in
     omega (arith, uleb_block_wants k u bytes lim h.0 h.1, length-append (uleb.spell u) bytes, length-uleb u, h.2)
@@ -106,8 +136,8 @@ shaped_short k shapes.Indirect o bytes to_come lim h = absurd h
 
 -- ---- what is kept of a value before its content
 
--- no more than its length field: of a text nothing, and of a number as an unsigned LEB128 nothing behind its last byte; no more
--- than the number of a form that isn't named yet
+-- no more than its length field: of a text nothing, and of a number as an unsigned LEB128 nothing behind its last byte;
+-- no more than the number of a form that isn't named yet
 abbrev pub FewKept : Shape → List ℕ → ℕ → Type 0
 FewKept shapes.Text bytes lim = bytes ≡ []
 FewKept (shapes.Counted n) bytes lim = length bytes ≤ n
@@ -136,19 +166,25 @@ pub shape_of_indirect : (address_size : ℕ) (format : Format) → shape 0x16 ad
 unfolding shape
 shape_of_indirect address_size format = refl
 
-kept_of_form : (address_size : ℕ) (format : Format) (form : ℕ) → form ≡ 0x16 → shape form address_size format ≡ Some shapes.Indirect
-kept_of_form address_size format form e = ap (λ (n : ℕ). shape n address_size format) e ∙ shape_of_indirect address_size format
+kept_of_form : (address_size : ℕ) (format : Format) (form : ℕ) → form ≡ 0x16
+    → shape form address_size format ≡ Some shapes.Indirect
+kept_of_form address_size format form e =
+    ap (λ (n : ℕ). shape n address_size format) e ∙ shape_of_indirect address_size format
 
-pub unnamed_kept : (address_size : ℕ) (format : Format) (form : ℕ) (bytes : List ℕ) (lim : ℕ) → form ≡ 0x16 → length bytes ≤ leb_moment bytes lim → FewKeptIf (shape form address_size format) bytes lim
-unnamed_kept address_size format form bytes lim e few = subst (λ (o : Option Shape). FewKeptIf o bytes lim) (sym (kept_of_form address_size format form e)) few
+pub unnamed_kept : (address_size : ℕ) (format : Format) (form : ℕ) (bytes : List ℕ) (lim : ℕ) → form ≡ 0x16
+    → length bytes ≤ leb_moment bytes lim → FewKeptIf (shape form address_size format) bytes lim
+unnamed_kept address_size format form bytes lim e few =
+    subst (λ (o : Option Shape). FewKeptIf o bytes lim) (sym (kept_of_form address_size format form e)) few
 
-pub unnamed_few : (address_size : ℕ) (format : Format) (form : ℕ) (bytes : List ℕ) (lim : ℕ) → form ≡ 0x16 → FewKeptIf (shape form address_size format) bytes lim → length bytes ≤ leb_moment bytes lim
-unnamed_few address_size format form bytes lim e few = subst (λ (o : Option Shape). FewKeptIf o bytes lim) (kept_of_form address_size format form e) few
+pub unnamed_few : (address_size : ℕ) (format : Format) (form : ℕ) (bytes : List ℕ) (lim : ℕ) → form ≡ 0x16
+    → FewKeptIf (shape form address_size format) bytes lim → length bytes ≤ leb_moment bytes lim
+unnamed_few address_size format form bytes lim e few =
+    subst (λ (o : Option Shape). FewKeptIf o bytes lim) (kept_of_form address_size format form e) few
 
 -- ---- what waits
 
--- The number of a form that isn't named yet, or a length field, isn't whole, and a text has begun: with the bytes that are kept of a value
--- nothing else begins.
+-- The number of a form that isn't named yet, or a length field, isn't whole, and a text has begun: with the bytes that
+-- are kept of a value nothing else begins.
 abbrev pub FewerKept : Shape → List ℕ → ℕ → Type 0
 FewerKept shapes.Text bytes lim = ⊥
 FewerKept (shapes.Counted n) bytes lim = length bytes < n
@@ -160,11 +196,15 @@ abbrev pub FewerKeptIf : Option Shape → List ℕ → ℕ → Type 0
 FewerKeptIf None bytes lim = Unit {0}
 FewerKeptIf (Some s) bytes lim = FewerKept s bytes lim
 
-pub unnamed_fewer : (address_size : ℕ) (format : Format) (form : ℕ) (bytes : List ℕ) (lim : ℕ) → form ≡ 0x16 → length bytes < leb_moment bytes lim → FewerKeptIf (shape form address_size format) bytes lim
-unnamed_fewer address_size format form bytes lim e fewer = subst (λ (o : Option Shape). FewerKeptIf o bytes lim) (sym (kept_of_form address_size format form e)) fewer
+pub unnamed_fewer : (address_size : ℕ) (format : Format) (form : ℕ) (bytes : List ℕ) (lim : ℕ) → form ≡ 0x16
+    → length bytes < leb_moment bytes lim → FewerKeptIf (shape form address_size format) bytes lim
+unnamed_fewer address_size format form bytes lim e fewer =
+    subst (λ (o : Option Shape). FewerKeptIf o bytes lim) (sym (kept_of_form address_size format form e)) fewer
 
-pub fewer_unnamed : (address_size : ℕ) (format : Format) (form : ℕ) (bytes : List ℕ) (lim : ℕ) → form ≡ 0x16 → FewerKeptIf (shape form address_size format) bytes lim → length bytes < leb_moment bytes lim
-fewer_unnamed address_size format form bytes lim e fewer = subst (λ (o : Option Shape). FewerKeptIf o bytes lim) (kept_of_form address_size format form e) fewer
+pub fewer_unnamed : (address_size : ℕ) (format : Format) (form : ℕ) (bytes : List ℕ) (lim : ℕ) → form ≡ 0x16
+    → FewerKeptIf (shape form address_size format) bytes lim → length bytes < leb_moment bytes lim
+fewer_unnamed address_size format form bytes lim e fewer =
+    subst (λ (o : Option Shape). FewerKeptIf o bytes lim) (kept_of_form address_size format form e) fewer
 
 -- the form that is named may stand in an indirect value, within lim
 abbrev pub NamedFits : Option Unsigned → ℕ → Type 0
@@ -176,34 +216,63 @@ lim_behind None lim = lim
 lim_behind (Some u) lim = lim - u.width
 
 -- so a partial value wants more than what was taken of it
-pub partial_wants : (k : Ctx) (p : Pair) (ps : List Pair) (b : PartialValue) (to_come lim : ℕ) → (is : IsPartialAs k p b) → NamedFits b.via lim → IsIncomplete is.shape_is b.width b.bytes to_come (lim_behind b.via lim)
-    → length (partial_taken k (p ∷ ps) to_come b) < attribute_moment k p.form.value (partial_taken k (p ∷ ps) to_come b) lim
+pub partial_wants : (k : Ctx) (p : Pair) (ps : List Pair) (b : PartialValue) (to_come lim : ℕ)
+    → (is : IsPartialAs k p b) → NamedFits b.via lim
+    → IsIncomplete is.shape_is b.width b.bytes to_come (lim_behind b.via lim)
+    → length (partial_taken k (p ∷ ps) to_come b)
+    < attribute_moment k p.form.value (partial_taken k (p ∷ ps) to_come b) lim
 partial_wants k p ps b to_come lim is named it = by b.via refl named it
   where
-    formed_short : (form left : ℕ) → shape form k.address_size k.format ≡ Some is.shape_is → IsIncomplete is.shape_is b.width b.bytes to_come left
-        → length (count_if k (shape form k.address_size k.format) b.width (length b.bytes + to_come) ++ b.bytes) < formed_moment k form (count_if k (shape form k.address_size k.format) b.width (length b.bytes + to_come) ++ b.bytes) left
+    formed_short : (form left : ℕ) → shape form k.address_size k.format ≡ Some is.shape_is
+        → IsIncomplete is.shape_is b.width b.bytes to_come left
+        → length (count_if k (shape form k.address_size k.format) b.width (length b.bytes + to_come) ++ b.bytes)
+        < formed_moment k form
+        (count_if k (shape form k.address_size k.format) b.width (length b.bytes + to_come) ++ b.bytes) left
     formed_short form left h i =
-        subst (λ (s : Option Shape). length (count_if k s b.width (length b.bytes + to_come) ++ b.bytes) < shaped_moment_if k s (count_if k s b.width (length b.bytes + to_come) ++ b.bytes) left) (sym h)
+        subst
+        (λ (s : Option Shape).
+        length (count_if k s b.width (length b.bytes + to_come) ++ b.bytes)
+        < shaped_moment_if k s (count_if k s b.width (length b.bytes + to_come) ++ b.bytes) left)
+        (sym h)
         (shaped_short k is.shape_is b.width b.bytes to_come left i)
 
-    by : (v : Option Unsigned) → b.via ≡ v → NamedFits v lim → IsIncomplete is.shape_is b.width b.bytes to_come (lim_behind v lim)
-        → length (via_bytes v ++ (count_if k (shape (form_in p.form.value v) k.address_size k.format) b.width (length b.bytes + to_come) ++ b.bytes))
-        < attribute_moment k p.form.value (via_bytes v ++ (count_if k (shape (form_in p.form.value v) k.address_size k.format) b.width (length b.bytes + to_come) ++ b.bytes)) lim
+    by : (v : Option Unsigned) → b.via ≡ v → NamedFits v lim
+        → IsIncomplete is.shape_is b.width b.bytes to_come (lim_behind v lim)
+        → length
+        (via_bytes v
+        ++ (count_if k (shape (form_in p.form.value v) k.address_size k.format) b.width
+        (length b.bytes + to_come)
+        ++ b.bytes))
+        < attribute_moment k p.form.value
+        (via_bytes v
+        ++ (count_if k (shape (form_in p.form.value v) k.address_size k.format) b.width (length b.bytes + to_come)
+        ++ b.bytes))
+        lim
     by None e f i =
-        let bytes : List ℕ = count_if k (shape p.form.value k.address_size k.format) b.width (length b.bytes + to_come) ++ b.bytes in
-        omega (arith, plain_wants k p.form.value bytes lim (is.direct e), formed_short p.form.value lim (ap (λ (v : Option Unsigned). shape (form_in p.form.value v) k.address_size k.format) (sym e) ∙ is.has) i)
+        let bytes : List ℕ =
+        count_if k (shape p.form.value k.address_size k.format) b.width (length b.bytes + to_come) ++ b.bytes in
+        omega (
+          arith,
+          plain_wants k p.form.value bytes lim (is.direct e),
+          formed_short p.form.value lim
+              (ap (λ (v : Option Unsigned). shape (form_in p.form.value v) k.address_size k.format) (sym e) ∙ is.has) i,
+        )
     by (Some u) e f i =
-        let bytes : List ℕ = count_if k (shape u.value k.address_size k.format) b.width (length b.bytes + to_come) ++ b.bytes in
+        let bytes : List ℕ =
+        count_if k (shape u.value k.address_size k.format) b.width (length b.bytes + to_come) ++ b.bytes in
         omega (
           arith,
           named_wants k p.form.value u bytes lim (is.indirect u e) f.0 f.1,
-          formed_short u.value (lim - u.width) (ap (λ (v : Option Unsigned). shape (form_in p.form.value v) k.address_size k.format) (sym e) ∙ is.has) i,
+          formed_short u.value (lim - u.width)
+              (ap (λ (v : Option Unsigned). shape (form_in p.form.value v) k.address_size k.format) (sym e) ∙ is.has) i,
           length-append (uleb.spell u) bytes,
           length-uleb u,
         )
 
 -- more of its bytes are taken
-pub longer_bytes : (k : Ctx) (ps : List Pair) (b : PartialValue) (to_come : ℕ) (more : List ℕ) → (b.width ≡ None) ⊎ (length more ≤ to_come) → partial_taken k ps (to_come - length more) (longer more b) ≡ partial_taken k ps to_come b ++ more
+pub longer_bytes : (k : Ctx) (ps : List Pair) (b : PartialValue) (to_come : ℕ) (more : List ℕ)
+    → (b.width ≡ None) ⊎ (length more ≤ to_come)
+    → partial_taken k ps (to_come - length more) (longer more b) ≡ partial_taken k ps to_come b ++ more
 longer_bytes k ps b to_come more h =
     let v : List ℕ = via_bytes b.via in
     let s : Option Shape = shape (form_in (first_form ps) b.via) k.address_size k.format in
@@ -211,7 +280,12 @@ longer_bytes k ps b to_come more h =
     ap (λ (bs : List ℕ). v ++ (bs ++ (b.bytes ++ more))) (same_count s b.width h)
     ∙ (ap (λ (bs : List ℕ). v ++ bs) (sym (append_assoc c b.bytes more)) ∙ sym (append_assoc v (c ++ b.bytes) more))
   where
-    same_count : (s : Option Shape) (w : Option ℕ) → (w ≡ None) ⊎ (length more ≤ to_come) → count_if k s w (length (b.bytes ++ more) + (to_come - length more)) ≡ count_if k s w (length b.bytes + to_come)
+    same_count : (s : Option Shape) (w : Option ℕ) → (w ≡ None) ⊎ (length more ≤ to_come)
+        → count_if k s w (length (b.bytes ++ more) + (to_come - length more))
+        ≡ count_if k s w (length b.bytes + to_come)
     same_count s None h = refl
     same_count s (Some width) (inl none) = absurd cc
-    same_count s (Some width) (inr le) = let n : length (b.bytes ++ more) + (to_come - length more) ≡ length b.bytes + to_come = omega (arith, length-append b.bytes more, le) in ap (λ (m : ℕ). count_bytes k s width m) n
+    same_count s (Some width) (inr le) =
+        let n : length (b.bytes ++ more) + (to_come - length more) ≡ length b.bytes + to_come =
+        omega (arith, length-append b.bytes more, le) in
+        ap (λ (m : ℕ). count_bytes k s width m) n

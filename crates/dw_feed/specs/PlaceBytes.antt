@@ -13,7 +13,7 @@ module _ (k : Ctx) (t : Table) where
   open_bytes [] = []
   open_bytes (f ∷ fs) = open_bytes fs ++ (forest_bytes k t f.left ++ entry_bytes k t f.code f.values)
 
-  -- of all that stands before a place: the open entries, the closed ones of the place's chain, what the unfinished entry has so
-  -- far but for a partial value, and the padding
+  -- of all that stands before a place: the open entries, the closed ones of the place's chain, what the unfinished
+  -- entry has so far but for a partial value, and the padding
   abbrev pub place_bytes : List Frame → Forest → Option UnfinishedEntry → List ℕ → List ℕ
   place_bytes fs ts o padding = open_bytes fs ++ (forest_bytes k t ts ++ (unfinished_bytes k t o ++ nulls padding))

@@ -14,7 +14,8 @@ use Rattle.dw_tree.specs.RowBytes.{bytes_append, rows_are_forest}
 use Rattle.dw_feed.specs.PlaceBytes.{open_bytes, place_bytes}
 
 module _ (k : Ctx) (t : Table) where
-  pub place_rows : (fs : List Frame) (ts : Forest) → rows_bytes k t (rows_before fs ts) ≡ open_bytes k t fs ++ forest_bytes k t ts
+  pub place_rows : (fs : List Frame) (ts : Forest)
+      → rows_bytes k t (rows_before fs ts) ≡ open_bytes k t fs ++ forest_bytes k t ts
   place_rows [] ts = rows_are_forest k t ts
   place_rows (f ∷ fs) ts =
       let o : List ℕ = open_bytes k t fs in
@@ -26,7 +27,11 @@ module _ (k : Ctx) (t : Table) where
       ∙ (sym (append_assoc (o ++ l) e c) ∙ ap (λ (bs : List ℕ). bs ++ c) (append_assoc o l e)))
 
 -- a draft's size is that of its header and of the bytes before its place
-pub draft_size : (d : Drafted) → drafted_size d ≡ header_size d.header + length (place_bytes (context_of d.header) d.table d.place.spot.above d.place.spot.left d.place.unfinished d.padding)
+pub draft_size : (d : Drafted)
+    → drafted_size d
+    ≡ header_size d.header
+    + length
+    (place_bytes (context_of d.header) d.table d.place.spot.above d.place.spot.left d.place.unfinished d.padding)
 draft_size d =
     let k : Ctx = context_of d.header in
     let o : List ℕ = open_bytes k d.table d.place.spot.above in

@@ -1,4 +1,5 @@
--- A plain feed: it reads field after field from what is there, and keeps the bytes of a field that isn't whole as they are.
+-- A plain feed: it reads field after field from what is there, and keeps the bytes of a field that isn't whole as they
+-- are.
 use Rattle.std.proofs.Common.{◌≡◌, ℕ, zero, suc, ◌-◌, Bool, true, false, List, [], ◌∷◌, ◌++◌, length, drop, Option, Some, None, refl, sym, ap, ◌∙◌, arith}
 use Rattle.std.specs.Prelude.{nat_lt, option_map}
 use Rattle.dw_leb.specs.declared.errors.Reason.{Reason}
@@ -71,14 +72,15 @@ arrived go g bytes = when_whole g (root_if_whole g) bytes (go g bytes)
 
 abbrev pub by_field : (PartialUnit → List ℕ → Ran) → PartialUnit → List ℕ → Outcome PlaceBehind → Ran
 by_field go g bytes (Found q size) = arrived go (moved_to q.0 q.1 g) (drop size bytes)
-by_field go g bytes (Broken own reason) = ran (answers.Fault (fault_at g reason)) (Refused (fault_at g reason)) (length bytes - wanted g bytes)
+by_field go g bytes (Broken own reason) =
+    ran (answers.Fault (fault_at g reason)) (Refused (fault_at g reason)) (length bytes - wanted g bytes)
 
 abbrev pub if_short : (PartialUnit → List ℕ → Ran) → PartialUnit → List ℕ → Bool → Ran
 if_short go g bytes true = ran answers.More (Reading (holding g bytes)) 0
 if_short go g bytes false = by_field go g bytes (field_at g bytes (left g))
 
--- The field at the place has the bytes so far and those of the piece behind it. More, where it wants more; else it is read.
--- Without fuel it gives up, and nothing is taken of the piece, which has so many bytes.
+-- The field at the place has the bytes so far and those of the piece behind it. More, where it wants more; else it is
+-- read. Without fuel it gives up, and nothing is taken of the piece, which has so many bytes.
 abbrev pub run : ℕ → ℕ → PartialUnit → List ℕ → Ran
 run all zero g bytes = ran answers.NoMemory Finished all
 run all (suc fuel) g bytes = if_short (run all fuel) g bytes (nat_lt (length bytes) (wanted g bytes))
@@ -94,35 +96,54 @@ no_partial None = refl
 no_partial (Some r) = refl
 
 module _ (k : Ctx) (t : Table) where
-  same_bytes : (fs : List Frame) (ts : Forest) (o : Option UnfinishedEntry) (ws : List ℕ) → place_bytes k t fs ts (option_map (given_partial None) o) ws ≡ place_bytes k t fs ts o ws
+  same_bytes : (fs : List Frame) (ts : Forest) (o : Option UnfinishedEntry) (ws : List ℕ)
+      → place_bytes k t fs ts (option_map (given_partial None) o) ws ≡ place_bytes k t fs ts o ws
   same_bytes fs ts None ws = refl
   same_bytes fs ts (Some r) ws = refl
 
-  same_padding : (fs : List Frame) (ts : Forest) (r s : UnfinishedEntry) (ws : List ℕ) → PaddingFits k t fs ts (Some r) ws → PaddingFits k t fs ts (Some s) ws
+  same_padding : (fs : List Frame) (ts : Forest) (r s : UnfinishedEntry) (ws : List ℕ)
+      → PaddingFits k t fs ts (Some r) ws → PaddingFits k t fs ts (Some s) ws
   same_padding fs ts r s [] p = tt
   same_padding [] none r s (w ∷ ws) p = absurd p
   same_padding [] (more x ts) r s (w ∷ ws) p = absurd p
   same_padding (f ∷ fs) ts r s (w ∷ ws) p = absurd p
 
-  same_stands : (fs : List Frame) (ts : Forest) (o : Option UnfinishedEntry) (ws : List ℕ) → PlaceFits k t fs ts o ws → PlaceFits k t fs ts (option_map (given_partial None) o) ws
+  same_stands : (fs : List Frame) (ts : Forest) (o : Option UnfinishedEntry) (ws : List ℕ) → PlaceFits k t fs ts o ws
+      → PlaceFits k t fs ts (option_map (given_partial None) o) ws
   same_stands fs ts None ws h = h
   same_stands fs ts (Some r) ws h = record {
     room = h.room;
     frames_fit = h.frames_fit;
-    spot_fits = record { begins = h.spot_fits.begins; deep = h.spot_fits.deep; before = h.spot_fits.before; values_fit = h.spot_fits.values_fit; short = h.spot_fits.short };
+    spot_fits =
+        record {
+          begins = h.spot_fits.begins;
+          deep = h.spot_fits.deep;
+          before = h.spot_fits.before;
+          values_fit = h.spot_fits.values_fit;
+          short = h.spot_fits.short;
+        };
     padding_fits = same_padding fs ts r (given_partial None r) ws h.padding_fits;
   }
 
-  stands_same : (fs : List Frame) (ts : Forest) (o : Option UnfinishedEntry) (ws : List ℕ) → PlaceFits k t fs ts (option_map (given_partial None) o) ws → PlaceFits k t fs ts o ws
+  stands_same : (fs : List Frame) (ts : Forest) (o : Option UnfinishedEntry) (ws : List ℕ)
+      → PlaceFits k t fs ts (option_map (given_partial None) o) ws → PlaceFits k t fs ts o ws
   stands_same fs ts None ws h = h
   stands_same fs ts (Some r) ws h = record {
     room = h.room;
     frames_fit = h.frames_fit;
-    spot_fits = record { begins = h.spot_fits.begins; deep = h.spot_fits.deep; before = h.spot_fits.before; values_fit = h.spot_fits.values_fit; short = h.spot_fits.short };
+    spot_fits =
+        record {
+          begins = h.spot_fits.begins;
+          deep = h.spot_fits.deep;
+          before = h.spot_fits.before;
+          values_fit = h.spot_fits.values_fit;
+          short = h.spot_fits.short;
+        };
     padding_fits = same_padding fs ts (given_partial None r) r ws h.padding_fits;
   }
 
-  same_goes : (fs : List Frame) (ts : Forest) (o : Option UnfinishedEntry) (m n : ℕ) → m ≡ n → GoesOn k t fs ts o m → GoesOn k t fs ts (option_map (given_partial None) o) n
+  same_goes : (fs : List Frame) (ts : Forest) (o : Option UnfinishedEntry) (m n : ℕ) → m ≡ n → GoesOn k t fs ts o m
+      → GoesOn k t fs ts (option_map (given_partial None) o) n
   same_goes [] none (Some r) m n e h = tt
   same_goes [] (more x ts) (Some r) m n e h = tt
   same_goes (f ∷ fs) ts (Some r) m n e h = tt
@@ -130,7 +151,8 @@ module _ (k : Ctx) (t : Table) where
   same_goes [] (more x ts) None m n e h = omega (arith, e, h)
   same_goes (f ∷ fs) ts None m n e h = tt
 
-  goes_same : (fs : List Frame) (ts : Forest) (o : Option UnfinishedEntry) (m n : ℕ) → m ≡ n → GoesOn k t fs ts (option_map (given_partial None) o) m → GoesOn k t fs ts o n
+  goes_same : (fs : List Frame) (ts : Forest) (o : Option UnfinishedEntry) (m n : ℕ) → m ≡ n
+      → GoesOn k t fs ts (option_map (given_partial None) o) m → GoesOn k t fs ts o n
   goes_same [] none (Some r) m n e h = tt
   goes_same [] (more x ts) (Some r) m n e h = tt
   goes_same (f ∷ fs) ts (Some r) m n e h = tt
@@ -138,7 +160,8 @@ module _ (k : Ctx) (t : Table) where
   goes_same [] (more x ts) None m n e h = omega (arith, e, h)
   goes_same (f ∷ fs) ts None m n e h = tt
 
-  same_wanted : (fs : List Frame) (ts : Forest) (o : Option UnfinishedEntry) (bytes : List ℕ) (m n : ℕ) → m ≡ n → next_moment k t fs ts (option_map (given_partial None) o) bytes m ≡ next_moment k t fs ts o bytes n
+  same_wanted : (fs : List Frame) (ts : Forest) (o : Option UnfinishedEntry) (bytes : List ℕ) (m n : ℕ) → m ≡ n
+      → next_moment k t fs ts (option_map (given_partial None) o) bytes m ≡ next_moment k t fs ts o bytes n
   same_wanted [] none (Some r) bytes m n e = ap (λ (l : ℕ). next_moment k t [] none (Some r) bytes l) e
   same_wanted [] (more x ts) (Some r) bytes m n e = ap (λ (l : ℕ). next_moment k t [] (more x ts) (Some r) bytes l) e
   same_wanted (f ∷ fs) ts (Some r) bytes m n e = ap (λ (l : ℕ). next_moment k t (f ∷ fs) ts (Some r) bytes l) e
@@ -148,23 +171,36 @@ module _ (k : Ctx) (t : Table) where
 
 module _ (g : PartialUnit) (bytes : List ℕ) where
   pub held_before : before (holding g bytes) ≡ before g
-  held_before = ap (λ (bs : List ℕ). header_bytes g.header g.unit_length ++ bs) (same_bytes (context g) g.table (frames_of g) (chain_of g) g.place.unfinished g.padding)
+  held_before =
+      ap (λ (bs : List ℕ). header_bytes g.header g.unit_length ++ bs)
+      (same_bytes (context g) g.table (frames_of g) (chain_of g) g.place.unfinished g.padding)
 
   pub held_left : left (holding g bytes) ≡ left g
-  held_left = ap (λ (bs : List ℕ). left_behind g.header g.unit_length - length bs) (same_bytes (context g) g.table (frames_of g) (chain_of g) g.place.unfinished g.padding)
+  held_left =
+      ap (λ (bs : List ℕ). left_behind g.header g.unit_length - length bs)
+      (same_bytes (context g) g.table (frames_of g) (chain_of g) g.place.unfinished g.padding)
 
   pub held_part : part (holding g bytes) ≡ bytes
   held_part = ap (λ (b : Option PartialValue). value_part (holding g bytes) b ++ bytes) (no_partial g.place.unfinished)
 
   pub held_wanted : (field : List ℕ) → wanted (holding g bytes) field ≡ wanted g field
-  held_wanted field = same_wanted (context g) g.table (frames_of g) (chain_of g) g.place.unfinished field (left (holding g bytes)) (left g) held_left
+  held_wanted field =
+      same_wanted (context g) g.table (frames_of g) (chain_of g) g.place.unfinished field (left (holding g bytes))
+      (left g) held_left
 
   pub held_keeps : Keeps g → Keeps (holding g bytes)
   held_keeps keeps = record {
     head = keeps.head;
     stands = same_stands (context g) g.table (frames_of g) (chain_of g) g.place.unfinished g.padding keeps.stands;
-    within = omega (arith, keeps.within, ap length (same_bytes (context g) g.table (frames_of g) (chain_of g) g.place.unfinished g.padding));
-    unended = same_goes (context g) g.table (frames_of g) (chain_of g) g.place.unfinished (left g) (left (holding g bytes)) (sym held_left) keeps.unended;
+    within =
+        omega (
+          arith,
+          keeps.within,
+          ap length (same_bytes (context g) g.table (frames_of g) (chain_of g) g.place.unfinished g.padding),
+        );
+    unended =
+        same_goes (context g) g.table (frames_of g) (chain_of g) g.place.unfinished (left g) (left (holding g bytes))
+        (sym held_left) keeps.unended;
     first = λ front b e. keeps.first front b (sym held_before ∙ e);
   }
 
@@ -172,7 +208,14 @@ module _ (g : PartialUnit) (bytes : List ℕ) where
   keeps_held keeps = record {
     head = keeps.head;
     stands = stands_same (context g) g.table (frames_of g) (chain_of g) g.place.unfinished g.padding keeps.stands;
-    within = omega (arith, keeps.within, ap length (same_bytes (context g) g.table (frames_of g) (chain_of g) g.place.unfinished g.padding));
-    unended = goes_same (context g) g.table (frames_of g) (chain_of g) g.place.unfinished (left (holding g bytes)) (left g) held_left keeps.unended;
+    within =
+        omega (
+          arith,
+          keeps.within,
+          ap length (same_bytes (context g) g.table (frames_of g) (chain_of g) g.place.unfinished g.padding),
+        );
+    unended =
+        goes_same (context g) g.table (frames_of g) (chain_of g) g.place.unfinished (left (holding g bytes)) (left g)
+        held_left keeps.unended;
     first = λ front b e. keeps.first front b (held_before ∙ e);
   }

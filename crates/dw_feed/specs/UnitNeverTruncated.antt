@@ -21,7 +21,9 @@ use Rattle.dw_feed.specs.NeverTruncated.{NeverTruncated, After_never_truncated, 
 
 numbers_never_truncated : (order : Order) (ns : List ℕ) → NeverTruncated (numbers order ns).Break
 numbers_never_truncated order [] = nothing_never_truncated
-numbers_never_truncated order (n ∷ ns) = then_never_truncated (fixed order n) (λ _. numbers order ns) (Short_never_truncated n) (λ _. numbers_never_truncated order ns)
+numbers_never_truncated order (n ∷ ns) =
+    then_never_truncated (fixed order n) (λ _. numbers order ns) (Short_never_truncated n)
+    (λ _. numbers_never_truncated order ns)
 
 abbrev fields4 : Order → Format → ℕ → Part (ℕ × List ℕ)
 fields4 order format kind = fixed order (offset_size format) then λ _. numbers order (added_sizes format kind)
@@ -31,30 +33,42 @@ fields3 order format kind = judged (fixed order 1) bad_address_size then λ _. f
 
 five_never_truncated : (order : Order) (format : Format) → NeverTruncated (five_part order format).Break
 five_never_truncated order format =
-    then_never_truncated (judged (fixed order 1) bad_type) (fields3 order format) (judged_never_truncated (fixed order 1) bad_type (Short_never_truncated 1) type_judges) λ kind.
-    then_never_truncated (judged (fixed order 1) bad_address_size) (λ _. fields4 order format kind) (judged_never_truncated (fixed order 1) bad_address_size (Short_never_truncated 1) address_size_judges) λ _.
-    then_never_truncated (fixed order (offset_size format)) (λ _. numbers order (added_sizes format kind)) (Short_never_truncated (offset_size format)) λ _.
+    then_never_truncated (judged (fixed order 1) bad_type) (fields3 order format)
+    (judged_never_truncated (fixed order 1) bad_type (Short_never_truncated 1) type_judges) λ kind.
+    then_never_truncated (judged (fixed order 1) bad_address_size) (λ _. fields4 order format kind)
+    (judged_never_truncated (fixed order 1) bad_address_size (Short_never_truncated 1) address_size_judges) λ _.
+    then_never_truncated (fixed order (offset_size format)) (λ _. numbers order (added_sizes format kind))
+    (Short_never_truncated (offset_size format)) λ _.
     numbers_never_truncated order (added_sizes format kind)
 
 four_never_truncated : (order : Order) (format : Format) → NeverTruncated (four_part order format).Break
 four_never_truncated order format =
-    then_never_truncated (fixed order (offset_size format)) (λ _. judged (fixed order 1) bad_address_size) (Short_never_truncated (offset_size format)) λ _.
+    then_never_truncated (fixed order (offset_size format)) (λ _. judged (fixed order 1) bad_address_size)
+    (Short_never_truncated (offset_size format)) λ _.
     judged_never_truncated (fixed order 1) bad_address_size (Short_never_truncated 1) address_size_judges
 
-behind_never_truncated : (order : Order) (format : Format) (four : Bool) → NeverTruncated (fields_behind order format four).Break
+behind_never_truncated : (order : Order) (format : Format) (four : Bool)
+    → NeverTruncated (fields_behind order format four).Break
 behind_never_truncated order format true = four_never_truncated order format
 behind_never_truncated order format false = five_never_truncated order format
 
-pub fields_never_truncated : (versions : Versions) (order : Order) (format : Format) → NeverTruncated (fields_under versions order format).Break
+pub fields_never_truncated : (versions : Versions) (order : Order) (format : Format)
+    → NeverTruncated (fields_under versions order format).Break
 fields_never_truncated versions order format =
-    then_never_truncated (judged (fixed order 2) (bad_version_under versions)) (λ version. fields_behind order format (version == 4)) (judged_never_truncated (fixed order 2) (bad_version_under versions) (Short_never_truncated 2) (version_judges versions)) λ version.
+    then_never_truncated (judged (fixed order 2) (bad_version_under versions))
+    (λ version. fields_behind order format (version == 4))
+    (judged_never_truncated (fixed order 2) (bad_version_under versions) (Short_never_truncated 2)
+    (version_judges versions))
+    λ version.
     behind_never_truncated order format (version == 4)
 
 -- ---- entries
 
 values_never_truncated : (k : Ctx) (ps : List Pair) → NeverTruncated (values k ps).Break
 values_never_truncated k [] = nothing_never_truncated
-values_never_truncated k (p ∷ ps) = then_never_truncated (attribute k p.form.value p.constant) (λ _. values k ps) (attribute_never_truncated k p.form.value p.constant) (λ _. values_never_truncated k ps)
+values_never_truncated k (p ∷ ps) =
+    then_never_truncated (attribute k p.form.value p.constant) (λ _. values k ps)
+    (attribute_never_truncated k p.form.value p.constant) (λ _. values_never_truncated k ps)
 
 undeclared : (d : Option _) → unless_declared d ≡ Some Truncated → ⊥
 undeclared None h = cc
@@ -70,30 +84,52 @@ root_judges t code = by (is_null code)
 pub child_judges : (t : Table) (room : Bool) → Judges (bad_child t room)
 child_judges t room code = by (is_null code) room
   where
-    by : (v w : Bool) → (if v then None else (if w then unless_declared (declared t code.value) else Some TooDeep)) ≡ Some Truncated → ⊥
+    by : (v w : Bool)
+        → (if v then None else (if w then unless_declared (declared t code.value) else Some TooDeep)) ≡ Some Truncated
+        → ⊥
     by true w h = cc
     by false true h = undeclared (declared t code.value) h
     by false false h = cc
 
-body_never_truncated : (k : Ctx) (t : Table) (kids : Part (Forest × Unsigned)) → NeverTruncated kids.Break → (code : Unsigned) → NeverTruncated (body k t kids code).Break
-body_never_truncated k t kids it code = then_never_truncated (values k (declared_pairs (declared t code.value))) (λ _. optional (declares_children (declared t code.value)) kids) (values_never_truncated k (declared_pairs (declared t code.value))) (λ _. optional_never_truncated (declares_children (declared t code.value)) kids it)
+body_never_truncated : (k : Ctx) (t : Table) (kids : Part (Forest × Unsigned)) → NeverTruncated kids.Break
+    → (code : Unsigned) → NeverTruncated (body k t kids code).Break
+body_never_truncated k t kids it code =
+    then_never_truncated (values k (declared_pairs (declared t code.value)))
+    (λ _. optional (declares_children (declared t code.value)) kids)
+    (values_never_truncated k (declared_pairs (declared t code.value)))
+    (λ _. optional_never_truncated (declares_children (declared t code.value)) kids it)
 
 children_never_truncated : (k : Ctx) (t : Table) (room : ℕ) → NeverTruncated (children k t room).Break
 unfolding children
-children_never_truncated k t zero = repeated_never_truncated (λ _. judged uleb (bad_child t false)) is_null (λ _. refused TooDeep) (λ _. judged_never_truncated uleb (bad_child t false) uleb_never_truncated (child_judges t false)) (λ _. refused_never_truncated Body TooDeep (λ e. cc))
-children_never_truncated k t (suc room) = repeated_never_truncated (λ _. judged uleb (bad_child t true)) is_null (body k t (children k t room)) (λ _. judged_never_truncated uleb (bad_child t true) uleb_never_truncated (child_judges t true)) (body_never_truncated k t (children k t room) (children_never_truncated k t room))
+children_never_truncated k t zero =
+    repeated_never_truncated (λ _. judged uleb (bad_child t false)) is_null (λ _. refused TooDeep)
+    (λ _. judged_never_truncated uleb (bad_child t false) uleb_never_truncated (child_judges t false))
+    (λ _. refused_never_truncated Body TooDeep (λ e. cc))
+children_never_truncated k t (suc room) =
+    repeated_never_truncated (λ _. judged uleb (bad_child t true)) is_null (body k t (children k t room))
+    (λ _. judged_never_truncated uleb (bad_child t true) uleb_never_truncated (child_judges t true))
+    (body_never_truncated k t (children k t room) (children_never_truncated k t room))
 
 pub tree_never_truncated : (k : Ctx) (t : Table) (room : ℕ) → NeverTruncated (tree k t room).Break
-tree_never_truncated k t room = then_never_truncated (judged uleb (bad_root t)) (body k t (children k t room)) (judged_never_truncated uleb (bad_root t) uleb_never_truncated (root_judges t)) (body_never_truncated k t (children k t room) (children_never_truncated k t room))
+tree_never_truncated k t room =
+    then_never_truncated (judged uleb (bad_root t)) (body k t (children k t room))
+    (judged_never_truncated uleb (bad_root t) uleb_never_truncated (root_judges t))
+    (body_never_truncated k t (children k t room) (children_never_truncated k t room))
 
 -- ---- padding
 
 more_never_truncated : NeverTruncated MoreBreaks
-more_never_truncated bytes lim offset reason le h = judged_never_truncated uleb not_null uleb_never_truncated (λ u. refuses_unless (is_null u) SecondRoot (λ e. cc)) bytes lim offset reason le h.1
+more_never_truncated bytes lim offset reason le h =
+    judged_never_truncated uleb not_null uleb_never_truncated (λ u. refuses_unless (is_null u) SecondRoot (λ e. cc))
+    bytes lim offset reason le h.1
 
 padding_never_truncated : NeverTruncated PaddingBreaks
-padding_never_truncated bytes lim offset reason le h = After_never_truncated (nulls h.0) MoreBreaks more_never_truncated bytes lim offset reason le h.2
+padding_never_truncated bytes lim offset reason le h =
+    After_never_truncated (nulls h.0) MoreBreaks more_never_truncated bytes lim offset reason le h.2
 
 pub entries_never_truncated : (k : Ctx) (t : Table) → NeverTruncated (EntriesBreak k t)
-entries_never_truncated k t bytes lim offset reason le (inl one) = tree_never_truncated k t (nesting - 1) bytes lim offset reason le one
-entries_never_truncated k t bytes lim offset reason le (inr two) = After_never_truncated ((unit_tree k t).spell two.0) PaddingBreaks padding_never_truncated bytes lim offset reason le two.2
+entries_never_truncated k t bytes lim offset reason le (inl one) =
+    tree_never_truncated k t (nesting - 1) bytes lim offset reason le one
+entries_never_truncated k t bytes lim offset reason le (inr two) =
+    After_never_truncated ((unit_tree k t).spell two.0) PaddingBreaks padding_never_truncated bytes lim offset reason le
+    two.2

@@ -22,28 +22,47 @@ abbrev pub IsCutHere : Pair → PartialUnit → Type 0
 IsCutHere p g = read_attribute (context g) p.form.value p.constant (part g) (left g) ≡ Broken 0 Truncated
 
 -- whatever breaks in a value is told at its first byte
-at_first : (out : Outcome Attribute) (offset : ℕ) (reason : Reason) → at_front out ≡ Broken offset reason → reason ≡ Truncated → at_front out ≡ Broken 0 Truncated
+at_first : (out : Outcome Attribute) (offset : ℕ) (reason : Reason) → at_front out ≡ Broken offset reason
+    → reason ≡ Truncated → at_front out ≡ Broken 0 Truncated
 at_first (Found v size) offset reason e cut = absurd cc
-at_first (Broken own why) offset reason e cut = let same : why ≡ Truncated = cc in ap (λ (r : Reason). broken Attribute 0 r) same
+at_first (Broken own why) offset reason e cut =
+    let same : why ≡ Truncated = cc in ap (λ (r : Reason). broken Attribute 0 r) same
 
-cut_first : (k : Ctx) (form : ℕ) (c : Option Signed) (bytes : List ℕ) (lim offset : ℕ) (reason : Reason) → read_attribute k form c bytes lim ≡ Broken offset reason → reason ≡ Truncated → read_attribute k form c bytes lim ≡ Broken 0 Truncated
+cut_first : (k : Ctx) (form : ℕ) (c : Option Signed) (bytes : List ℕ) (lim offset : ℕ) (reason : Reason)
+    → read_attribute k form c bytes lim ≡ Broken offset reason → reason ≡ Truncated
+    → read_attribute k form c bytes lim ≡ Broken 0 Truncated
 unfolding read_attribute
-cut_first k form c bytes lim offset reason e cut = at_first (read_by_indirection k c form (form == 0x16) bytes lim) offset reason e cut
+cut_first k form c bytes lim offset reason e cut =
+    at_first (read_by_indirection k c form (form == 0x16) bytes lim) offset reason e cut
 
 -- it is so where fewer bytes are there than the value wants
-pub cut_here : (g : PartialUnit) (p : Pair) → Standing g → next_pair g.table g.place.unfinished ≡ Some p → length (part g) < wanted g (part g) → IsCutHere p g
+pub cut_here : (g : PartialUnit) (p : Pair) → Standing g → next_pair g.table g.place.unfinished ≡ Some p
+    → length (part g) < wanted g (part g) → IsCutHere p g
 cut_here g p stands next short = by (read_attribute (context g) p.form.value p.constant (part g) (left g)) refl
   where
     cut : IsCut (field_at g (part g) (left g))
     cut = (has_moment g).waits (part g) (left g) short
 
-    by : (out : Outcome Attribute) → read_attribute (context g) p.form.value p.constant (part g) (left g) ≡ out → IsCutHere p g
+    by : (out : Outcome Attribute) → read_attribute (context g) p.form.value p.constant (part g) (left g) ≡ out
+        → IsCutHere p g
     by (Found v size) e = absurd (subst IsCut (value_read g p stands next (part g) (Found v size) e) cut)
-    by (Broken offset reason) e = cut_first (context g) p.form.value p.constant (part g) (left g) offset reason e (subst IsCut (value_read g p stands next (part g) (Broken offset reason) e) cut)
+    by (Broken offset reason) e =
+        cut_first (context g) p.form.value p.constant (part g) (left g) offset reason e
+        (subst IsCut (value_read g p stands next (part g) (Broken offset reason) e) cut)
 
 -- where a value is cut off, it is so before its first byte
-pub cut_before : (g : PartialUnit) (p : Pair) → Standing g → next_pair g.table g.place.unfinished ≡ Some p → part g ≡ [] → (bytes : List ℕ) → read_attribute (context g) p.form.value p.constant bytes (left g) ≡ Broken 0 Truncated → IsCutHere p g
+pub cut_before : (g : PartialUnit) (p : Pair) → Standing g → next_pair g.table g.place.unfinished ≡ Some p → part g ≡ []
+    → (bytes : List ℕ) → read_attribute (context g) p.form.value p.constant bytes (left g) ≡ Broken 0 Truncated
+    → IsCutHere p g
 cut_before g p stands next none_there bytes e = elim (fewer_or_enough (length (part g)) (wanted g (part g))) [
   | inl short ↦ cut_here g p stands next short
-  | inr enough ↦ absurd (omega (arith, value_short g p stands next bytes e, enough, ap length none_there, (has_moment g).steady (part g) bytes (left g) enough, ap (λ (bs : List ℕ). wanted g (bs ++ bytes)) none_there))
+  | inr enough ↦ absurd
+      (omega (
+        arith,
+        value_short g p stands next bytes e,
+        enough,
+        ap length none_there,
+        (has_moment g).steady (part g) bytes (left g) enough,
+        ap (λ (bs : List ℕ). wanted g (bs ++ bytes)) none_there,
+      ))
 ]

@@ -65,8 +65,8 @@ impl BodyFeed {
     /// - `Done`: the unit. The last byte that was taken is the unit's last.
     /// - `Fault`: the unit's fault, in `.debug_info`, never `Truncated`; its offset counts from the first
     ///   byte of the unit. The last byte that was taken shows it first. Every later call answers it again.
-    /// - `NoMemory`: a growth was refused, and no byte was taken. It isn't answered to an empty piece, nor where a code or
-    ///   null comes next and is refused with this piece, as a code at a level too deep.
+    /// - `NoMemory`: a growth was refused, and no byte was taken. It isn't answered to an empty piece, nor where a code
+    ///   or null comes next and is refused with this piece, as a code at a level too deep.
     /// - `Spent`, after `Done` or `NoMemory`.
     pub fn feed(&mut self, piece: &[u8]) -> (usize, Progress<Unit>)
         ensures feeds { FeedsBody self.old piece.now result.0 result.1 self.new }

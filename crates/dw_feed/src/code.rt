@@ -22,9 +22,12 @@ pub(crate) fn number(b: &[u8], lim: u64) -> Result<Uleb, Reason>
 /// the unit's end.
 #[inline(always)]
 pub(crate) fn code_at(draft: &Draft, b: &[u8], lim: u64) -> Result<Uleb, Reason>
-    ensures exact { checked read_uleb (code_meaning draft.now.table draft.now.place.spot.above draft.now.place.spot.left) b.now lim ≡ outcome_of uleb_of (λ x. x.width) result }
+    ensures exact { checked read_uleb (code_meaning draft.now.table draft.now.place.spot.above
+        draft.now.place.spot.left) b.now lim
+        ≡ outcome_of uleb_of (λ x. x.width) result }
     ensures room { IfOk result (λ x. (x.width ≤ length b.now) × (x.width ≤ lim)) }
-    ensures meant { IfOk result (λ x. code_meaning draft.now.table draft.now.place.spot.above draft.now.place.spot.left (uleb_of x) ≡ None) }
+    ensures meant { IfOk result
+        (λ x. code_meaning draft.now.table draft.now.place.spot.above draft.now.place.spot.left (uleb_of x) ≡ None) }
 {
     let code = number(b, lim)?;
     match refusal(draft, code) {
@@ -37,7 +40,8 @@ pub(crate) fn code_at(draft: &Draft, b: &[u8], lim: u64) -> Result<Uleb, Reason>
 #[tactic(auto, unfolding(dw_tree::specs::Tree::nesting))]
 #[inline(always)]
 fn refusal(draft: &Draft, code: Uleb) -> Option<Reason>
-    ensures { result ≡ code_meaning draft.now.table draft.now.place.spot.above draft.now.place.spot.left (uleb_of code) }
+    ensures { result ≡ code_meaning draft.now.table draft.now.place.spot.above
+        draft.now.place.spot.left (uleb_of code) }
 {
     if draft.depth() == 0 {
         if draft.is_empty() {

@@ -167,7 +167,8 @@ impl Coming {
     fn put(&mut self, code: Uleb, over: usize) -> Step
         requires free { self.old.place.unfinished ≡ None }
         requires stands { Standing self.old }
-        requires meant { code_meaning self.old.table self.old.place.spot.above self.old.place.spot.left (uleb_of code) ≡ None }
+        requires meant { code_meaning self.old.table self.old.place.spot.above
+            self.old.place.spot.left (uleb_of code) ≡ None }
         requires within { code.width ≤ left_of self.old }
         requires named { self.old.named ≡ None }
         requires none_to_come { self.old.to_come ≡ 0 }
@@ -460,8 +461,8 @@ impl Coming {
         }
     }
 
-    /// The value at the front of these bytes, of which `lim` are left to the unit's end, goes to the draft. `told` are as
-    /// many bytes as its form alone tells: with fewer it isn't looked at.
+    /// The value at the front of these bytes, of which `lim` are left to the unit's end, goes to the draft. `told` are
+    /// as many bytes as its form alone tells: with fewer it isn't looked at.
     fn give(&mut self, pair: &Pair, told: Option<usize>, bytes: &[u8], lim: u64) -> Attempt
         requires next { next_pair self.old.table self.old.place.unfinished ≡ Some (pair_of pair.now) }
         requires stands { Standing self.old }
@@ -488,8 +489,10 @@ impl Coming {
         requires between { partial_in self.old.place.unfinished ≡ None }
         requires fits { NextFits (context self.old) self.old.table self.old.place.unfinished (attribute_of value.now) }
         requires spelled { spelling.now ≡ value_bytes (drafted self.old) (attribute_of value.now) }
-        requires short { passes_limit (drafted self.old) (length (value_bytes (drafted self.old) (attribute_of value.now))) ≡ false }
-        ensures { OnOk result (self.new ≡ moved_to (given (attribute_of value.now) (drafted self.old)).place self.old.padding self.old) }
+        requires short { passes_limit (drafted self.old)
+            (length (value_bytes (drafted self.old) (attribute_of value.now))) ≡ false }
+        ensures { OnOk result
+            (self.new ≡ moved_to (given (attribute_of value.now) (drafted self.old)).place self.old.padding self.old) }
     {
         self.draft.spelled_value(value, spelling)?;
         self.named = None;

@@ -32,7 +32,9 @@ impl Coming {
         requires has { HasPart self.now }
         requires between { partial_in self.now.place.unfinished ≡ None }
         requires named { pair.now.form.value ≡ 0x16 → IsSome self.now.named }
-        requires cut { read_attribute (context self.now) pair.now.form.value (pair_of pair.now).constant (part self.now) (left_of self.now) ≡ Broken 0 Truncated }
+        requires cut { read_attribute (context self.now) pair.now.form.value (pair_of pair.now).constant (part self.now)
+            (left_of self.now)
+            ≡ Broken 0 Truncated }
         ensures some { IfSome result (λ x. OpensHere self.now x.0 x.1) }
         ensures none { result ≡ None → length self.now.pending < 16 }
         ensures more { result ≡ None → (b : ℕ) → HasPart (with_byte self.now b) }

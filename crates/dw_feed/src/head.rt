@@ -172,8 +172,8 @@ fn lacking_field(versions: Versions, offset_size: usize, count: usize) -> usize
 }
 
 /// Takes bytes of the piece while more are needed, and answers how many.
-// The header is read once for a piece. Only where it is refused the bytes are taken one by one, which finds the first that
-// shows it.
+// The header is read once for a piece. Only where it is refused the bytes are taken one by one, which finds the first
+// that shows it.
 fn take_head(
     order: Order,
     versions: Versions,
@@ -181,7 +181,8 @@ fn take_head(
     piece: &[u8],
 ) -> (usize, Progress<(Header, u64)>)
     requires { IsCut versions order taken.old.items }
-    ensures { Answers versions order (Reading taken.old.items) piece.now result.0 result.1 (state_of taken.new.items (ended result.1)) }
+    ensures { Answers versions order (Reading taken.old.items) piece.now result.0 result.1
+        (state_of taken.new.items (ended result.1)) }
 {
     let before = taken.len();
     let front = &piece[..piece.len().min(MOST - before)];
@@ -210,7 +211,8 @@ fn take_bytes(
     piece: &[u8],
 ) -> (usize, Progress<(Header, u64)>)
     requires { IsCut versions order taken.old.items }
-    ensures { Answers versions order (Reading taken.old.items) piece.now result.0 result.1 (state_of taken.new.items (ended result.1)) }
+    ensures { Answers versions order (Reading taken.old.items) piece.now result.0 result.1
+        (state_of taken.new.items (ended result.1)) }
 {
     let mut left = piece;
     while let Some((byte, rest)) = left.split_first() {

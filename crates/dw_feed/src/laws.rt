@@ -1,4 +1,5 @@
-//! The laws of the unit's end, and of what a feed holds. They call nothing. A clause that names no versions speaks of version 5 alone.
+//! The laws of the unit's end, and of what a feed holds. They call nothing. A clause that names no versions speaks of
+//! version 5 alone.
 ghost use Rattle.dw_header.specs.declared.versions.Versions.{Versions};
 ghost use Rattle.dw_feed.specs.Laws.{StreamTellsHeld, NoneIsCut, NoneIsCutUnder, FaultsStayInside, FaultsStayInsideUnder, FaultsComeFromInside, FaultsComeFromInsideUnder};
 

@@ -1,8 +1,8 @@
 //! Units of DWARF 5, and of DWARF 4 where a caller asks for them, read from bytes at hand and from any reader, in
 //! whatever pieces their bytes come (section 7.5).
 //!
-//! `field_bytes`, `read_up_to` and `read_unit_behind` are no calls for users, and `rothelduf` doesn't name them: they are
-//! the parts of which `dw_section` makes its reader of whole sections.
+//! `field_bytes`, `read_up_to` and `read_unit_behind` are no calls for users, and `rothelduf` doesn't name them: they
+//! are the parts of which `dw_section` makes its reader of whole sections.
 #![tactic(auto)]
 
 mod body;

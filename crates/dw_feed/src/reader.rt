@@ -114,7 +114,9 @@ pub fn read_unit_behind<R: Read>(
     ensures broken { IfErr result (TakesNoUnitBehind feed.versions tables.old feed.order (taken_of feed.state)
         (R.remaining (inner_of reader.old))
         (R.remaining (inner_of reader.new))) }
-    ensures memory { KeptSome (behind (taken_of feed.state) (R.remaining (inner_of reader.old))) (R.remaining (inner_of reader.new)) result }
+    ensures memory { KeptSome (behind (taken_of feed.state) (R.remaining (inner_of reader.old)))
+        (R.remaining (inner_of reader.new))
+        result }
     ensures near { IfErr result (FaultWithin (2 ^ 63)) }
     ensures tables { tables.new ≡ tables.old }
     ensures fault { fault_of reader.new ≡ reader_fault result }

@@ -33,7 +33,8 @@ pub fn read_unit(
     b: &[u8],
 ) -> Result<(Unit, usize), ReadError>
     ensures found { IfOk result (λ x. UnitAt tables.old order b.now x.0 x.1) }
-    ensures only { (u : WholeUnit) (size : ℕ) → UnitAt tables.old order b.now u size → IfOk result (λ x. (x.0 ≡ u) × (x.1 ≡ size)) × IfErr result (λ e. e ≡ refused_memory) }
+    ensures only { (u : WholeUnit) (size : ℕ) → UnitAt tables.old order b.now u size
+        → IfOk result (λ x. (x.0 ≡ u) × (x.1 ≡ size)) × IfErr result (λ e. e ≡ refused_memory) }
     ensures broken { IfErr result (IsUnitError tables.old order b.now) }
     ensures near { IfErr result (FaultWithin (length b.now)) }
     ensures memory { IfErr result (λ e. e ≡ refused_memory → NamesTable tables.old order b.now) }
@@ -60,7 +61,8 @@ pub fn read_unit_as(
     b: &[u8],
 ) -> Result<(Unit, usize), ReadError>
     ensures found { IfOk result (λ x. UnitAtUnder versions tables.old order b.now x.0 x.1) }
-    ensures only { (u : WholeUnit) (size : ℕ) → UnitAtUnder versions tables.old order b.now u size → IfOk result (λ x. (x.0 ≡ u) × (x.1 ≡ size)) × IfErr result (λ e. e ≡ refused_memory) }
+    ensures only { (u : WholeUnit) (size : ℕ) → UnitAtUnder versions tables.old order b.now u size
+        → IfOk result (λ x. (x.0 ≡ u) × (x.1 ≡ size)) × IfErr result (λ e. e ≡ refused_memory) }
     ensures broken { IfErr result (IsUnitErrorUnder versions tables.old order b.now) }
     ensures near { IfErr result (FaultWithin (length b.now)) }
     ensures memory { IfErr result (λ e. e ≡ refused_memory → NamesTableUnder versions tables.old order b.now) }

@@ -28,8 +28,12 @@ pub(crate) fn value_at<'a>(
     lim: u64,
 ) -> Result<(AttrValue<'a>, usize), Reason>
     requires { IsContext context }
-    ensures exact { read_attribute context (pair_of pair.now).form.value (pair_of pair.now).constant b.now lim ≡ lent_outcome attribute_of result }
-    ensures found { IfOk result (λ x. Taken (attribute context (pair_of pair.now).form.value (pair_of pair.now).constant) b.now lim (attribute_of x.0) x.1) }
+    ensures exact { read_attribute context (pair_of pair.now).form.value (pair_of pair.now).constant b.now lim
+        ≡ lent_outcome attribute_of result }
+    ensures found { IfOk result
+        (λ x.
+        Taken (attribute context (pair_of pair.now).form.value (pair_of pair.now).constant) b.now lim
+        (attribute_of x.0) x.1) }
     ensures room { IfOk result (λ x. (x.1 ≤ length b.now) × (x.1 ≤ lim)) }
 {
     lend_value(context, pair.form.value, pair.constant, b, lim)

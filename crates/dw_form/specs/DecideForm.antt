@@ -106,7 +106,9 @@ counted_view : (order : Order) (n : ℕ) → IsView (fixed order n then content)
 counted_view order n = record { back = λ x a e fits. back x a e; there = λ a fits. rw (eq-eqb n n refl, fits.1) refl }
   where
     back : (x : Value) (a : ℕ × List ℕ) → as_counted n x ≡ Some a → Block n a.1 ≡ x
-    back (Block w b) a e = let c = chosen (w == n) (length b, b) a e in rw (eqb-true w n c.0) (ap (λ (y : ℕ × List ℕ). Block n y.1) (sym c.1))
+    back (Block w b) a e =
+        let c = chosen (w == n) (length b, b) a e in
+        rw (eqb-true w n c.0) (ap (λ (y : ℕ × List ℕ). Block n y.1) (sym c.1))
     back Present a e = absurd cc
     back (Text b) a e = absurd cc
     back (Sleb u) a e = absurd cc
@@ -119,7 +121,9 @@ counted_unsigned_view : IsView (uleb then λ u. content u.value) as_counted_unsi
 counted_unsigned_view = record { back = λ x a e fits. back x a e; there = λ a fits. rw fits.1 refl }
   where
     back : (x : Value) (a : Unsigned × List ℕ) → as_counted_unsigned x ≡ Some a → Block a.0.width a.1 ≡ x
-    back (Block w b) a e = let c : (record { value = length b; width = w }, b) ≡ a = cc in ap (λ (y : Unsigned × List ℕ). Block y.0.width y.1) (sym c)
+    back (Block w b) a e =
+        let c : (record { value = length b; width = w }, b) ≡ a = cc in
+        ap (λ (y : Unsigned × List ℕ). Block y.0.width y.1) (sym c)
     back Present a e = absurd cc
     back (Text b) a e = absurd cc
     back (Sleb u) a e = absurd cc
@@ -134,11 +138,16 @@ constant_decides (Some c) = exactly_decides (Implicit c)
 
 pub shaped_decides : (k : Ctx) (c : Option Signed) (s : Shape) → Decides (shaped k c s) (read_shaped k c s)
 unfolding shaped
-shaped_decides k c (shapes.Fixed n) = seen_decides _ _ (as_fixed n) (fixed_from n) (fixed_view k.order n) (fixed_decides k.order n)
+shaped_decides k c (shapes.Fixed n) =
+    seen_decides _ _ (as_fixed n) (fixed_from n) (fixed_view k.order n) (fixed_decides k.order n)
 shaped_decides k c shapes.Uleb = seen_decides uleb read_uleb as_unsigned _ unsigned_view uleb_decides
 shaped_decides k c shapes.Sleb = seen_decides sleb read_sleb as_signed _ signed_view sleb_decides
-shaped_decides k c (shapes.Counted n) = seen_decides (fixed k.order n then content) _ (as_counted n) _ (counted_view k.order n) (then_decides _ _ _ _ (fixed_decides k.order n) content_decides)
-shaped_decides k c shapes.CountedUleb = seen_decides (uleb then λ u. content u.value) _ as_counted_unsigned _ counted_unsigned_view (then_decides _ _ _ _ uleb_decides (λ u. content_decides u.value))
+shaped_decides k c (shapes.Counted n) =
+    seen_decides (fixed k.order n then content) _ (as_counted n) _ (counted_view k.order n)
+    (then_decides _ _ _ _ (fixed_decides k.order n) content_decides)
+shaped_decides k c shapes.CountedUleb =
+    seen_decides (uleb then λ u. content u.value) _ as_counted_unsigned _ counted_unsigned_view
+    (then_decides _ _ _ _ uleb_decides (λ u. content_decides u.value))
 shaped_decides k c shapes.Text = seen_decides text read_text as_text _ text_view text_decides
 shaped_decides k c shapes.Present = seen_decides nothing (returned tt) as_flag _ flag_view nothing_decides
 shaped_decides k c shapes.Implicit = constant_decides c
@@ -151,20 +160,28 @@ shaped_if_decides k c (Some s) = shaped_decides k c s
 formed_decides : (k : Ctx) (c : Option Signed) (form : ℕ) → Decides (formed k c form) (read_formed k c form)
 formed_decides k c form = shaped_if_decides k c (shape form k.address_size k.format)
 
-indirection_decides : (k : Ctx) (c : Option Signed) (form : ℕ) (b : Bool) → Decides (by_indirection k c form b) (read_by_indirection k c form b)
-indirection_decides k c form true = seen_decides (indirect k) _ as_indirect indirect_from (record { back = λ x a e fits. back x.via x.value a e; there = λ a fits. refl })
+indirection_decides : (k : Ctx) (c : Option Signed) (form : ℕ) (b : Bool)
+    → Decides (by_indirection k c form b) (read_by_indirection k c form b)
+indirection_decides k c form true =
+    seen_decides (indirect k) _ as_indirect indirect_from
+    (record { back = λ x a e fits. back x.via x.value a e; there = λ a fits. refl })
     (then_decides _ _ _ _ (judged_decides uleb read_uleb bad_inner uleb_decides) (λ u. formed_decides k None u.value))
   where
-    back : (via : Option Unsigned) (v : Value) (a : Unsigned × Value) → as_indirect (record { via = via; value = v }) ≡ Some a → indirect_from a ≡ record { via = via; value = v }
+    back : (via : Option Unsigned) (v : Value) (a : Unsigned × Value)
+        → as_indirect (record { via = via; value = v }) ≡ Some a → indirect_from a ≡ record { via = via; value = v }
     back None v a e = absurd cc
     back (Some u) v a e = let c : (u, v) ≡ a = cc in ap indirect_from (sym c)
-indirection_decides k c form false = seen_decides (formed k c form) _ as_direct direct_from (record { back = λ x a e fits. back x.via x.value a e; there = λ a fits. refl }) (formed_decides k c form)
+indirection_decides k c form false =
+    seen_decides (formed k c form) _ as_direct direct_from
+    (record { back = λ x a e fits. back x.via x.value a e; there = λ a fits. refl }) (formed_decides k c form)
   where
-    back : (via : Option Unsigned) (v : Value) (a : Value) → as_direct (record { via = via; value = v }) ≡ Some a → direct_from a ≡ record { via = via; value = v }
+    back : (via : Option Unsigned) (v : Value) (a : Value) → as_direct (record { via = via; value = v }) ≡ Some a
+        → direct_from a ≡ record { via = via; value = v }
     back None v a e = let c : v ≡ a = cc in ap direct_from (sym c)
     back (Some u) v a e = absurd cc
 
-pub attribute_decides : (k : Ctx) (form : ℕ) (c : Option Signed) → Decides (attribute k form c) (read_attribute k form c)
+pub attribute_decides : (k : Ctx) (form : ℕ) (c : Option Signed)
+    → Decides (attribute k form c) (read_attribute k form c)
 unfolding attribute read_attribute
 attribute_decides k form c = whole_decides _ _ (indirection_decides k c form (form == 0x16))
 
@@ -191,9 +208,12 @@ shaped_if_stays k c None = refused_stays Value _
 shaped_if_stays k c (Some s) = shaped_stays k c s
 
 indirection_stays : (k : Ctx) (c : Option Signed) (form : ℕ) (b : Bool) → Stays (by_indirection k c form b).Break
-indirection_stays k c form true = then_stays (judged uleb bad_inner) (λ u. formed k None u.value) (judged_stays uleb bad_inner uleb_stays) (λ u. shaped_if_stays k None (shape u.value k.address_size k.format))
+indirection_stays k c form true =
+    then_stays (judged uleb bad_inner) (λ u. formed k None u.value) (judged_stays uleb bad_inner uleb_stays)
+    (λ u. shaped_if_stays k None (shape u.value k.address_size k.format))
 indirection_stays k c form false = shaped_if_stays k c (shape form k.address_size k.format)
 
 pub attribute_stays : (k : Ctx) (form : ℕ) (c : Option Signed) → Stays (attribute k form c).Break
 unfolding attribute
-attribute_stays k form c = whole_stays (by_indirection k c form (form == 0x16)) (indirection_stays k c form (form == 0x16))
+attribute_stays k form c =
+    whole_stays (by_indirection k c form (form == 0x16)) (indirection_stays k c form (form == 0x16))

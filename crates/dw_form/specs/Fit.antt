@@ -86,7 +86,8 @@ one_back : {X : Type 0} (b : Bool) (P : Part X) (x : X) → FitsAs P (if b then 
 one_back true P x h = (refl, h)
 one_back false P x h = absurd h
 
-other_back : {X : Type 0} (b : Bool) (P : Part X) (x : X) → FitsAs P (if b then None else Some x) → (not b ≡ true) × P.Fits x
+other_back : {X : Type 0} (b : Bool) (P : Part X) (x : X) → FitsAs P (if b then None else Some x)
+    → (not b ≡ true) × P.Fits x
 other_back true P x h = absurd h
 other_back false P x h = (refl, h)
 
@@ -95,7 +96,8 @@ text_fits [] e = tt
 text_fits (x ∷ xs) e = by (x == 0) refl (before_zero xs) (text_fits xs) e
   where
     by : (v : Bool) → (x == 0) ≡ v → (o : Option (List ℕ)) → (not (is_some o) ≡ true → AllByRecursion (λ b. 0 < b) xs)
-        → not (is_some (if v then Some [] else elim o [ None ↦ None | Some front ↦ Some (x ∷ front) ])) ≡ true → (0 < x) × AllByRecursion (λ b. 0 < b) xs
+        → not (is_some (if v then Some [] else elim o [ None ↦ None | Some front ↦ Some (x ∷ front) ])) ≡ true
+        → (0 < x) × AllByRecursion (λ b. 0 < b) xs
     by true f o g h = absurd cc
     by false f None g h = (omega (arith, eqb-false x 0 f), g refl)
     by false f (Some front) g h = absurd cc
@@ -109,33 +111,51 @@ length_held width n e =
     let h = and_parts (nat_le 1 width && nat_le width 16) (nat_lt n (128 ^ width) && nat_lt n (2 ^ 64)) e in
     let w = and_parts (nat_le 1 width) (nat_le width 16) h.0 in
     let v = and_parts (nat_lt n (128 ^ width)) (nat_lt n (2 ^ 64)) h.1 in
-    record { some = leb-true 1 width w.0; most = leb-true width 16 w.1; held = ltb-true n (128 ^ width) v.0; range = ltb-true n (2 ^ 64) v.1 }
+    record {
+      some = leb-true 1 width w.0;
+      most = leb-true width 16 w.1;
+      held = ltb-true n (128 ^ width) v.0;
+      range = ltb-true n (2 ^ 64) v.1;
+    }
 
 pub length_is : (width n : ℕ) → UlebFits (record { value = n; width = width }) → is_length width n ≡ true
-length_is width n h = rw (le-leb 1 width h.some, le-leb width 16 h.most, lt-ltb n (128 ^ width) h.held, lt-ltb n (2 ^ 64) h.range) refl
+length_is width n h =
+    rw (le-leb 1 width h.some, le-leb width 16 h.most, lt-ltb n (128 ^ width) h.held, lt-ltb n (2 ^ 64) h.range) refl
 
 same_signed : (c s : Signed) → int_eq c.value s.value ≡ true → (c.width == s.width) ≡ true → s ≡ c
-same_signed c s v w = ap₂ (λ (x : _) (n : ℕ). record { value = x; width = n }) (sym ((Decides-int_eq c.value s.value).0 v)) (sym (eqb-true c.width s.width w))
+same_signed c s v w =
+    ap₂ (λ (x : _) (n : ℕ). record { value = x; width = n }) (sym ((Decides-int_eq c.value s.value).0 v))
+    (sym (eqb-true c.width s.width w))
 
-to : (k : Ctx) (c : Option Signed) (s : Shape) (v : Value) → NumbersFit v → shape_fits c s v ≡ true → (shaped k c s).Fits v
+to : (k : Ctx) (c : Option Signed) (s : Shape) (v : Value) → NumbersFit v → shape_fits c s v ≡ true
+    → (shaped k c s).Fits v
 unfolding shaped
-to k c (shapes.Fixed n) (Num x) h e = let p = and_parts (not (n == 16)) (nat_lt x (256 ^ n)) e in other (n == 16) (fixed k.order n) x p.0 (ltb-true x (256 ^ n) p.1)
-to k c (shapes.Fixed n) (Wide x) h e = let p = and_parts (n == 16) (nat_lt x (256 ^ n)) e in one (n == 16) (fixed k.order n) x p.0 (ltb-true x (256 ^ n) p.1)
+to k c (shapes.Fixed n) (Num x) h e =
+    let p = and_parts (not (n == 16)) (nat_lt x (256 ^ n)) e in
+    other (n == 16) (fixed k.order n) x p.0 (ltb-true x (256 ^ n) p.1)
+to k c (shapes.Fixed n) (Wide x) h e =
+    let p = and_parts (n == 16) (nat_lt x (256 ^ n)) e in
+    one (n == 16) (fixed k.order n) x p.0 (ltb-true x (256 ^ n) p.1)
 to k c (shapes.Fixed n) _ h e = absurd cc
 to k c shapes.Uleb (Uleb u) h e = uleb_fits u h
 to k c shapes.Uleb _ h e = absurd cc
 to k c shapes.Sleb (Sleb x) h e = sleb_fits x h
 to k c shapes.Sleb _ h e = absurd cc
-to k c (shapes.Counted n) (Block width bytes) h e = let p = and_parts (width == n) (nat_lt (length bytes) (256 ^ n)) e in one (width == n) (fixed k.order n then content) (length bytes, bytes) p.0 (ltb-true (length bytes) (256 ^ n) p.1, refl)
+to k c (shapes.Counted n) (Block width bytes) h e =
+    let p = and_parts (width == n) (nat_lt (length bytes) (256 ^ n)) e in
+    one (width == n) (fixed k.order n then content) (length bytes, bytes) p.0
+    (ltb-true (length bytes) (256 ^ n) p.1, refl)
 to k c (shapes.Counted n) _ h e = absurd cc
-to k c shapes.CountedUleb (Block width bytes) h e = (uleb_fits (record { value = length bytes; width = width }) (length_held width (length bytes) e), refl)
+to k c shapes.CountedUleb (Block width bytes) h e =
+    (uleb_fits (record { value = length bytes; width = width }) (length_held width (length bytes) e), refl)
 to k c shapes.CountedUleb _ h e = absurd cc
 to k c shapes.Text (Text bytes) h e = text_fits bytes e
 to k c shapes.Text _ h e = absurd cc
 to k c shapes.Present Present h e = tt
 to k c shapes.Present _ h e = absurd cc
 to k None shapes.Implicit (Implicit y) h e = absurd cc
-to k (Some x) shapes.Implicit (Implicit y) h e = let p = and_parts (int_eq x.value y.value) (x.width == y.width) e in ap Implicit (same_signed x y p.0 p.1)
+to k (Some x) shapes.Implicit (Implicit y) h e =
+    let p = and_parts (int_eq x.value y.value) (x.width == y.width) e in ap Implicit (same_signed x y p.0 p.1)
 to k c shapes.Implicit _ h e = absurd cc
 to k c shapes.Indirect v h e = absurd cc
 
@@ -144,31 +164,39 @@ constant_same c = rw ((Decides-int_eq c.value c.value).1 refl, eq-eqb c.width c.
 
 back : (k : Ctx) (c : Option Signed) (s : Shape) (v : Value) → (shaped k c s).Fits v → shape_fits c s v ≡ true
 unfolding shaped
-back k c (shapes.Fixed n) (Num x) h = let p = other_back (n == 16) (fixed k.order n) x h in rw (p.0, lt-ltb x (256 ^ n) p.1) refl
-back k c (shapes.Fixed n) (Wide x) h = let p = one_back (n == 16) (fixed k.order n) x h in rw (p.0, lt-ltb x (256 ^ n) p.1) refl
+back k c (shapes.Fixed n) (Num x) h =
+    let p = other_back (n == 16) (fixed k.order n) x h in rw (p.0, lt-ltb x (256 ^ n) p.1) refl
+back k c (shapes.Fixed n) (Wide x) h =
+    let p = one_back (n == 16) (fixed k.order n) x h in rw (p.0, lt-ltb x (256 ^ n) p.1) refl
 back k c (shapes.Fixed n) _ h = absurd h
 back k c shapes.Uleb (Uleb u) h = refl
 back k c shapes.Uleb _ h = absurd h
 back k c shapes.Sleb (Sleb x) h = refl
 back k c shapes.Sleb _ h = absurd h
-back k c (shapes.Counted n) (Block width bytes) h = let p = one_back (width == n) (fixed k.order n then content) (length bytes, bytes) h in rw (p.0, lt-ltb (length bytes) (256 ^ n) p.1.0) refl
+back k c (shapes.Counted n) (Block width bytes) h =
+    let p = one_back (width == n) (fixed k.order n then content) (length bytes, bytes) h in
+    rw (p.0, lt-ltb (length bytes) (256 ^ n) p.1.0) refl
 back k c (shapes.Counted n) _ h = absurd h
-back k c shapes.CountedUleb (Block width bytes) h = length_is width (length bytes) (fits_uleb (record { value = length bytes; width = width }) h.0)
+back k c shapes.CountedUleb (Block width bytes) h =
+    length_is width (length bytes) (fits_uleb (record { value = length bytes; width = width }) h.0)
 back k c shapes.CountedUleb _ h = absurd h
 back k c shapes.Text (Text bytes) h = rw (text_back bytes h) refl
 back k c shapes.Text _ h = absurd h
 back k c shapes.Present Present h = refl
 back k c shapes.Present _ h = absurd h
 back k None shapes.Implicit v h = absurd h
-back k (Some x) shapes.Implicit (Implicit y) h = let same : y ≡ x = cc in ap (λ (z : Signed). is_constant (Some x) z) same ∙ constant_same x
+back k (Some x) shapes.Implicit (Implicit y) h =
+    let same : y ≡ x = cc in ap (λ (z : Signed). is_constant (Some x) z) same ∙ constant_same x
 back k (Some x) shapes.Implicit _ h = absurd cc
 back k c shapes.Indirect v h = absurd h
 
-formed_to : (k : Ctx) (c : Option Signed) (o : Option Shape) (v : Value) → NumbersFit v → fits_if c o v ≡ true → (shaped_if k c o).Fits v
+formed_to : (k : Ctx) (c : Option Signed) (o : Option Shape) (v : Value) → NumbersFit v → fits_if c o v ≡ true
+    → (shaped_if k c o).Fits v
 formed_to k c None v h e = absurd cc
 formed_to k c (Some s) v h e = to k c s v h e
 
-formed_back : (k : Ctx) (c : Option Signed) (o : Option Shape) (v : Value) → (shaped_if k c o).Fits v → fits_if c o v ≡ true
+formed_back : (k : Ctx) (c : Option Signed) (o : Option Shape) (v : Value) → (shaped_if k c o).Fits v
+    → fits_if c o v ≡ true
 formed_back k c None v h = absurd h
 formed_back k c (Some s) v h = back k c s v h
 
@@ -187,18 +215,24 @@ inner_back u e = by (u.value == DW_FORM_indirect || u.value == DW_FORM_implicit_
     by false h = refl
 
 -- the value has a spelling where the test says so, and nowhere else
-pub fits_is : (k : Ctx) (form : ℕ) (c : Option Signed) (a : Attribute) → IfSome a.via UlebFits → NumbersFit a.value → IsTrue (value_fits k form c a) ↔ (attribute k form c).Fits a
+pub fits_is : (k : Ctx) (form : ℕ) (c : Option Signed) (a : Attribute) → IfSome a.via UlebFits → NumbersFit a.value
+    → IsTrue (value_fits k form c a) ↔ (attribute k form c).Fits a
 unfolding attribute
 fits_is k form c a u h = by (form == DW_FORM_indirect) a.via u
   where
-    by : (b : Bool) (via : Option Unsigned) → IfSome via UlebFits → IsTrue (fits_by k c form b via a.value) ↔ (by_indirection k c form b).Fits (record { via = via; value = a.value })
+    by : (b : Bool) (via : Option Unsigned) → IfSome via UlebFits
+        → IsTrue (fits_by k c form b via a.value) ↔ (by_indirection k c form b).Fits
+        (record { via = via; value = a.value })
     by true None w = (λ e. absurd cc, λ f. absurd f)
     by true (Some x) w = (
       λ e. let p = and_parts (is_inner x) (form_fits k None x.value a.value) e in
           ((uleb_fits x w, inner_good x p.0), formed_to k None (shape x.value k.address_size k.format) a.value h p.1),
       λ f. rw (inner_back x f.0.1, formed_back k None (shape x.value k.address_size k.format) a.value f.1) refl,
     )
-    by false None w = (λ e. formed_to k c (shape form k.address_size k.format) a.value h e, λ f. formed_back k c (shape form k.address_size k.format) a.value f)
+    by false None w = (
+      λ e. formed_to k c (shape form k.address_size k.format) a.value h e,
+      λ f. formed_back k c (shape form k.address_size k.format) a.value f,
+    )
     by false (Some x) w = (λ e. absurd cc, λ f. absurd f)
 
 -- the numbers of the program fit

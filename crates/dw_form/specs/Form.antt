@@ -179,7 +179,8 @@ as_indirect a = indirect_if a.via a.value
 
 -- an indirect value names neither indirect nor implicit_const
 abbrev pub bad_inner : Unsigned → Option Reason
-bad_inner form = if form.value == DW_FORM_indirect || form.value == DW_FORM_implicit_const then Some BadIndirect else None
+bad_inner form =
+    if form.value == DW_FORM_indirect || form.value == DW_FORM_implicit_const then Some BadIndirect else None
 
 abbrev pub indirect : Ctx → Part (Unsigned × Value)
 indirect k = judged uleb bad_inner then λ form. formed k None form.value

@@ -75,17 +75,89 @@ HasSize (Some (shapes.Fixed m)) n = m ≡ n
 HasSize (Some shapes.Present) n = 0 ≡ n
 HasSize (Some _) n = ⊥
 
-at_row : (P : ℕ → FormSize → Type 0) (n : ℕ) (rows : List (ℕ × FormSize)) (x : FormSize) → AllByRecursion (λ (row : ℕ × FormSize). P row.0 row.1) rows → at_number n rows ≡ Some x → P n x
+at_row : (P : ℕ → FormSize → Type 0) (n : ℕ) (rows : List (ℕ × FormSize)) (x : FormSize)
+    → AllByRecursion (λ (row : ℕ × FormSize). P row.0 row.1) rows → at_number n rows ≡ Some x → P n x
 at_row P n [] x all e = absurd cc
 at_row P n (row ∷ rows) x all e = by (row.0 == n) refl e (at_row P n rows x all.1)
   where
-    by : (b : Bool) → (row.0 == n) ≡ b → (if b then Some row.1 else at_number n rows) ≡ Some x → (at_number n rows ≡ Some x → P n x) → P n x
-    by true is h others = let same : row.1 ≡ x = cc in subst (λ (y : FormSize). P n y) same (subst (λ (m : ℕ). P m row.1) (eqb-true row.0 n is) all.0)
+    by : (b : Bool) → (row.0 == n) ≡ b → (if b then Some row.1 else at_number n rows) ≡ Some x
+        → (at_number n rows ≡ Some x → P n x) → P n x
+    by true is h others =
+        let same : row.1 ≡ x = cc in
+        subst (λ (y : FormSize). P n y) same (subst (λ (m : ℕ). P m row.1) (eqb-true row.0 n is) all.0)
     by false is h others = others h
 
-all_told : (k : Ctx) → AllByRecursion (λ (row : ℕ × FormSize). HasSize (shape row.0 k.address_size k.format) (size_in k row.1)) told_forms
+all_told : (k : Ctx)
+    → AllByRecursion (λ (row : ℕ × FormSize). HasSize (shape row.0 k.address_size k.format) (size_in k row.1))
+    told_forms
 unfolding shape
-all_told k = (refl, (refl, (refl, (refl, (refl, (refl, (refl, (refl, (refl, (refl, (refl, (refl, (refl, (refl, (refl, (refl, (refl, (refl, (refl, (refl, (refl, (refl, (refl, (refl, (refl, (refl, (refl, (refl, (refl, (refl, tt))))))))))))))))))))))))))))))
+all_told k = (
+  refl,
+  (
+    refl,
+    (
+      refl,
+      (
+        refl,
+        (
+          refl,
+          (
+            refl,
+            (
+              refl,
+              (
+                refl,
+                (
+                  refl,
+                  (
+                    refl,
+                    (
+                      refl,
+                      (
+                        refl,
+                        (
+                          refl,
+                          (
+                            refl,
+                            (
+                              refl,
+                              (
+                                refl,
+                                (
+                                  refl,
+                                  (
+                                    refl,
+                                    (
+                                      refl,
+                                      (
+                                        refl,
+                                        (
+                                          refl,
+                                          (refl, (refl, (refl, (refl, (refl, (refl, (refl, (refl, (refl, tt))))))))),
+                                        ),
+                                      ),
+                                    ),
+                                  ),
+                                ),
+                              ),
+                            ),
+                          ),
+                        ),
+                      ),
+                    ),
+                  ),
+                ),
+              ),
+            ),
+          ),
+        ),
+      ),
+    ),
+  ),
+)
 
-pub told_shape : (k : Ctx) (form : ℕ) (s : FormSize) → told_form form ≡ Some s → HasSize (shape form k.address_size k.format) (size_in k s)
-told_shape k form s e = at_row (λ (n : ℕ) (x : FormSize). HasSize (shape n k.address_size k.format) (size_in k x)) form told_forms s (all_told k) e
+pub told_shape : (k : Ctx) (form : ℕ) (s : FormSize) → told_form form ≡ Some s
+    → HasSize (shape form k.address_size k.format) (size_in k s)
+told_shape k form s e =
+    at_row (λ (n : ℕ) (x : FormSize). HasSize (shape n k.address_size k.format) (size_in k x)) form told_forms s
+    (all_told k) e

@@ -71,7 +71,9 @@ count_at k shapes.Text b = option_map (in_width 8) (fixed_at Little 8 b)
 count_at k _ b = None
 
 abbrev pub part_at : List ℕ → ℕ → ℕ → Option (List ℕ)
-part_at pool start n = if nat_lt (length pool) start then None else (if nat_lt (length pool - start) n then None else Some (take n (drop start pool)))
+part_at pool start n =
+    if nat_lt (length pool) start then None
+    else (if nat_lt (length pool - start) n then None else Some (take n (drop start pool)))
 
 abbrev pub value_with : Shape → ℕ → List ℕ → Value
 value_with shapes.Text width bytes = Text bytes
@@ -82,7 +84,8 @@ with_part s width None = None
 with_part s width (Some bytes) = Some (value_with s width bytes, width + 8)
 
 abbrev pub with_count : Shape → List ℕ → List ℕ → Unsigned → Option (Value × ℕ)
-with_count s b pool u = and_so (fixed_at Little 8 (drop u.width b)) (λ start. with_part s u.width (part_at pool start u.value))
+with_count s b pool u =
+    and_so (fixed_at Little 8 (drop u.width b)) (λ start. with_part s u.width (part_at pool start u.value))
 
 -- a text or block
 abbrev pub placed_at : Ctx → Shape → List ℕ → List ℕ → Option (Value × ℕ)
@@ -124,7 +127,9 @@ by_shape k c b pool None = None
 by_shape k c b pool (Some s) = by_content k c b pool s (has_content s)
 
 abbrev pub by_via : Ctx → ℕ → Option Signed → List ℕ → List ℕ → Option Unsigned → Option (Attribute × ℕ)
-by_via k form c b pool via = behind_via via (by_shape k (own_constant via c) (drop (via_width via) b) pool (shape (form_in form via) k.address_size k.format))
+by_via k form c b pool via =
+    behind_via via
+    (by_shape k (own_constant via c) (drop (via_width via) b) pool (shape (form_in form via) k.address_size k.format))
 
 -- the value whose head stands at the front of heads, and the size of its head
 unfoldable pub head_at : Ctx → ℕ → Option Signed → List ℕ → List ℕ → Option (Attribute × ℕ)

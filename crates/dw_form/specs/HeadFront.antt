@@ -24,9 +24,12 @@ abbrev pub front_size : Attribute → ℕ → ℕ
 front_size a all = own_size a.value (via_width a.via) all
 
 -- the bytes before the content, by the value's kind
-length_field : (k : Ctx) (c : Option Signed) (s : Shape) (w : ℕ) (bytes : List ℕ) → (shaped k c s).Fits (Block w bytes) → length (head_of k s (Block w bytes)) ≡ w
+length_field : (k : Ctx) (c : Option Signed) (s : Shape) (w : ℕ) (bytes : List ℕ) → (shaped k c s).Fits (Block w bytes)
+    → length (head_of k s (Block w bytes)) ≡ w
 unfolding shaped
-length_field k c (shapes.Counted n) w bytes fits = length-fixed k.order n (length bytes) ∙ sym (same_width (fixed k.order n then content) n w (length bytes, bytes) fits).0
+length_field k c (shapes.Counted n) w bytes fits =
+    length-fixed k.order n (length bytes)
+    ∙ sym (same_width (fixed k.order n then content) n w (length bytes, bytes) fits).0
 length_field k c shapes.CountedUleb w bytes fits = length-uleb (record { value = length bytes; width = w })
 length_field k c (shapes.Fixed n) w bytes fits = absurd fits
 length_field k c shapes.Uleb w bytes fits = absurd fits
@@ -37,7 +40,8 @@ length_field k None shapes.Implicit w bytes fits = absurd fits
 length_field k (Some x) shapes.Implicit w bytes fits = absurd cc
 length_field k c shapes.Indirect w bytes fits = absurd fits
 
-no_field : (k : Ctx) (c : Option Signed) (s : Shape) (bytes : List ℕ) → (shaped k c s).Fits (Text bytes) → head_of k s (Text bytes) ≡ []
+no_field : (k : Ctx) (c : Option Signed) (s : Shape) (bytes : List ℕ) → (shaped k c s).Fits (Text bytes)
+    → head_of k s (Text bytes) ≡ []
 unfolding shaped
 no_field k c shapes.Text bytes fits = refl
 no_field k c (shapes.Fixed n) bytes fits = absurd fits
@@ -52,27 +56,47 @@ no_field k c shapes.Indirect bytes fits = absurd fits
 
 -- a beginning of joined lists
 begins_both : (a b rest : List ℕ) (n : ℕ) → n ≡ length a + length b → take n (a ++ (b ++ rest)) ≡ a ++ b
-begins_both a b rest n e = ap (take n) (sym (append_assoc a b rest)) ∙ take_at (a ++ b) rest n (length-append a b ∙ sym e)
+begins_both a b rest n e =
+    ap (take n) (sym (append_assoc a b rest)) ∙ take_at (a ++ b) rest n (length-append a b ∙ sym e)
 
 -- without a content that is all
-all_of : (a b : List ℕ) → (take (length (a ++ (b ++ []))) (a ++ (b ++ [])) ≡ a ++ b) × (length (a ++ (b ++ [])) ≤ length (a ++ (b ++ [])))
-all_of a b = (take_all (length (a ++ (b ++ []))) (a ++ (b ++ [])) (omega arith) ∙ ap (λ (c : List ℕ). a ++ c) (append-nil b), omega arith)
+all_of : (a b : List ℕ)
+    → (take (length (a ++ (b ++ []))) (a ++ (b ++ [])) ≡ a ++ b) × (length (a ++ (b ++ [])) ≤ length (a ++ (b ++ [])))
+all_of a b = (
+  take_all (length (a ++ (b ++ []))) (a ++ (b ++ [])) (omega arith) ∙ ap (λ (c : List ℕ). a ++ c) (append-nil b),
+  omega arith,
+)
 
 module _ (k : Ctx) (c : Option Signed) (s : Shape) (via : Option Unsigned) where
   by_value : (v : Value) → (shaped k c s).Fits v
-      → (take (own_size v (via_width via) (length (via_bytes via ++ pieces_of k s v))) (via_bytes via ++ pieces_of k s v) ≡ via_bytes via ++ head_of k s v)
-      × (own_size v (via_width via) (length (via_bytes via ++ pieces_of k s v)) ≤ length (via_bytes via ++ pieces_of k s v))
+      → (take (own_size v (via_width via) (length (via_bytes via ++ pieces_of k s v)))
+      (via_bytes via ++ pieces_of k s v)
+      ≡ via_bytes via ++ head_of k s v)
+      × (own_size v (via_width via) (length (via_bytes via ++ pieces_of k s v))
+      ≤ length (via_bytes via ++ pieces_of k s v))
   by_value (Block w bytes) fits =
       let field = length_field k c s w bytes fits in
-      let size : via_width via + w ≡ length (via_bytes via) + length (head_of k s (Block w bytes)) = omega (arith, via_size via, field) in (
+      let size : via_width via + w ≡ length (via_bytes via) + length (head_of k s (Block w bytes)) =
+      omega (arith, via_size via, field) in (
         begins_both (via_bytes via) (head_of k s (Block w bytes)) (bytes ++ []) (via_width via + w) size,
-        omega (arith, size, length-append (via_bytes via) (head_of k s (Block w bytes) ++ (bytes ++ [])), length-append (head_of k s (Block w bytes)) (bytes ++ [])),
+        omega (
+          arith,
+          size,
+          length-append (via_bytes via) (head_of k s (Block w bytes) ++ (bytes ++ [])),
+          length-append (head_of k s (Block w bytes)) (bytes ++ []),
+        ),
       )
   by_value (Text bytes) fits =
       let none = no_field k c s bytes fits in
-      let size : via_width via ≡ length (via_bytes via) + length (head_of k s (Text bytes)) = omega (arith, via_size via, ap length none) in (
+      let size : via_width via ≡ length (via_bytes via) + length (head_of k s (Text bytes)) =
+      omega (arith, via_size via, ap length none) in (
         begins_both (via_bytes via) (head_of k s (Text bytes)) (bytes ++ 0 ∷ []) (via_width via) size,
-        omega (arith, size, length-append (via_bytes via) (head_of k s (Text bytes) ++ (bytes ++ 0 ∷ [])), length-append (head_of k s (Text bytes)) (bytes ++ 0 ∷ [])),
+        omega (
+          arith,
+          size,
+          length-append (via_bytes via) (head_of k s (Text bytes) ++ (bytes ++ 0 ∷ [])),
+          length-append (head_of k s (Text bytes)) (bytes ++ 0 ∷ []),
+        ),
       )
   by_value (Num x) fits = all_of (via_bytes via) (head_of k s (Num x))
   by_value (Wide x) fits = all_of (via_bytes via) (head_of k s (Wide x))
@@ -86,8 +110,10 @@ abbrev pub front_bytes : Attribute → List ℕ → List ℕ
 front_bytes a spelled = take (front_size a (length spelled)) spelled
 
 -- they are the form that an indirect value names, and the number or the length field
-pub front_is : (k : Ctx) (form : ℕ) (c : Option Signed) (a : Attribute) (s : Shape) → (attribute k form c).Fits a → shape (form_in form a.via) k.address_size k.format ≡ Some s
-    → (front_bytes a ((attribute k form c).spell a) ≡ via_bytes a.via ++ head_of k s a.value) × (front_size a (length ((attribute k form c).spell a)) ≤ length ((attribute k form c).spell a))
+pub front_is : (k : Ctx) (form : ℕ) (c : Option Signed) (a : Attribute) (s : Shape) → (attribute k form c).Fits a
+    → shape (form_in form a.via) k.address_size k.format ≡ Some s
+    → (front_bytes a ((attribute k form c).spell a) ≡ via_bytes a.via ++ head_of k s a.value)
+    × (front_size a (length ((attribute k form c).spell a)) ≤ length ((attribute k form c).spell a))
 unfolding attribute
 front_is k form c a s fits e =
     let own = in_effect k c form (form == 0x16) a.via a.value s e fits in
@@ -100,16 +126,19 @@ pub head_front : (k : Ctx) (form : ℕ) (c : Option Signed) (a : Attribute) (sta
     → front_bytes a ((attribute k form c).spell a) ++ finder start a.value ≡ head k form start a
 head_front k form c a start fits = by (shape (form_in form a.via) k.address_size k.format) refl
   where
-    by : (o : Option Shape) → shape (form_in form a.via) k.address_size k.format ≡ o → front_bytes a ((attribute k form c).spell a) ++ finder start a.value ≡ head_if k o start a
+    by : (o : Option Shape) → shape (form_in form a.via) k.address_size k.format ≡ o
+        → front_bytes a ((attribute k form c).spell a) ++ finder start a.value ≡ head_if k o start a
     by None e = absurd (form_known k form c a fits e)
     by (Some s) e =
         ap (λ (b : List ℕ). b ++ finder start a.value) (front_is k form c a s fits e).0
         ∙ append_assoc (via_bytes a.via) (head_of k s a.value) (finder start a.value)
 
 -- they are a beginning of those
-pub front_within : (k : Ctx) (form : ℕ) (c : Option Signed) (a : Attribute) → (attribute k form c).Fits a → front_size a (length ((attribute k form c).spell a)) ≤ length ((attribute k form c).spell a)
+pub front_within : (k : Ctx) (form : ℕ) (c : Option Signed) (a : Attribute) → (attribute k form c).Fits a
+    → front_size a (length ((attribute k form c).spell a)) ≤ length ((attribute k form c).spell a)
 front_within k form c a fits = by (shape (form_in form a.via) k.address_size k.format) refl
   where
-    by : (o : Option Shape) → shape (form_in form a.via) k.address_size k.format ≡ o → front_size a (length ((attribute k form c).spell a)) ≤ length ((attribute k form c).spell a)
+    by : (o : Option Shape) → shape (form_in form a.via) k.address_size k.format ≡ o
+        → front_size a (length ((attribute k form c).spell a)) ≤ length ((attribute k form c).spell a)
     by None e = absurd (form_known k form c a fits e)
     by (Some s) e = (front_is k form c a s fits e).1

@@ -31,26 +31,33 @@ both : (v w : Bool) → cond v w false ≡ true → (v ≡ true) × (w ≡ true)
 both true w e = (refl, e)
 both false w e = absurd cc
 
-field_in : (n : ℕ) (rows : List (ℕ × Shape)) (s : Shape) → all_some rows ≡ true → at_number n rows ≡ Some s → some_field s ≡ true
+field_in : (n : ℕ) (rows : List (ℕ × Shape)) (s : Shape) → all_some rows ≡ true → at_number n rows ≡ Some s
+    → some_field s ≡ true
 field_in n [] s test e = absurd cc
 field_in n (row ∷ rows) s test e = by (row.0 == n) e (field_in n rows s parts.1)
   where
     parts : (some_field row.1 ≡ true) × (all_some rows ≡ true)
     parts = both (some_field row.1) (all_some rows) test
 
-    by : (v : Bool) → (if v then Some row.1 else at_number n rows) ≡ Some s → (at_number n rows ≡ Some s → some_field s ≡ true) → some_field s ≡ true
+    by : (v : Bool) → (if v then Some row.1 else at_number n rows) ≡ Some s
+        → (at_number n rows ≡ Some s → some_field s ≡ true) → some_field s ≡ true
     by true f later = let same : row.1 ≡ s = cc in subst (λ (z : Shape). some_field z ≡ true) same parts.0
     by false f later = later f
 
-field_some : (form address_size : ℕ) (format : Format) (s : Shape) → shape form address_size format ≡ Some s → some_field s ≡ true
+field_some : (form address_size : ℕ) (format : Format) (s : Shape) → shape form address_size format ≡ Some s
+    → some_field s ≡ true
 unfolding shape
 field_some form address_size format s e = field_in form (forms address_size format) s refl e
 
--- ---- heads take at most sixteen times the bytes of their values' spelling: a text's takes sixteen bytes for at least its zero byte, a block's eight for at least a byte of its length
+-- ---- heads take at most sixteen times the bytes of their values' spelling: a text's takes sixteen bytes for at
+-- least its zero byte, a block's eight for at least a byte of its length
 
-shape_size : (k : Ctx) (c : Option Signed) (s : Shape) (v : Value) (start : ℕ) → (b : Bool) → has_content s ≡ b → some_field s ≡ true → (shaped k c s).Fits v → length (head_of k s v ++ finder start v) ≤ 16 * length (pieces_of k s v)
+shape_size : (k : Ctx) (c : Option Signed) (s : Shape) (v : Value) (start : ℕ) → (b : Bool) → has_content s ≡ b
+    → some_field s ≡ true → (shaped k c s).Fits v
+    → length (head_of k s v ++ finder start v) ≤ 16 * length (pieces_of k s v)
 unfolding shaped
-shape_size k c s v start false e some fits = let same = ap length (plain_pieces k c s v start e fits) in omega (arith, same)
+shape_size k c s v start false e some fits =
+    let same = ap length (plain_pieces k c s v start e fits) in omega (arith, same)
 shape_size k c (shapes.Counted n) (Block w bytes) start true e some fits =
     let one = length-append (fixed_bytes k.order n (length bytes)) (word start) in
     let two = length-fixed k.order n (length bytes) in
@@ -81,14 +88,17 @@ shape_size k c shapes.Present v start true e some fits = absurd cc
 shape_size k c shapes.Implicit v start true e some fits = absurd cc
 shape_size k c shapes.Indirect v start true e some fits = absurd cc
 
-either_way : (k : Ctx) (form : ℕ) (c : Option Signed) (a : Attribute) → (attribute k form c).Fits a → (by_indirection k c form (form == 0x16)).Fits a
+either_way : (k : Ctx) (form : ℕ) (c : Option Signed) (a : Attribute) → (attribute k form c).Fits a
+    → (by_indirection k c form (form == 0x16)).Fits a
 unfolding attribute
 either_way k form c a fits = fits
 
-pub head_size : (k : Ctx) (form : ℕ) (c : Option Signed) (a : Attribute) (start : ℕ) → (attribute k form c).Fits a → length (head k form start a) ≤ 16 * length ((attribute k form c).spell a)
+pub head_size : (k : Ctx) (form : ℕ) (c : Option Signed) (a : Attribute) (start : ℕ) → (attribute k form c).Fits a
+    → length (head k form start a) ≤ 16 * length ((attribute k form c).spell a)
 head_size k form c a start fits = by (shape (form_in form a.via) k.address_size k.format) refl
   where
-    by : (o : Option Shape) → shape (form_in form a.via) k.address_size k.format ≡ o → length (head_if k o start a) ≤ 16 * length ((attribute k form c).spell a)
+    by : (o : Option Shape) → shape (form_in form a.via) k.address_size k.format ≡ o
+        → length (head_if k o start a) ≤ 16 * length ((attribute k form c).spell a)
     by None e = absurd (form_known k form c a fits e)
     by (Some s) e =
         let own = in_effect k c form (form == 0x16) a.via a.value s e (either_way k form c a fits) in
@@ -106,7 +116,8 @@ is_plain (Block width bytes) = false
 is_plain (Text bytes) = false
 is_plain v = true
 
-plain_shape : (k : Ctx) (c : Option Signed) (s : Shape) (v : Value) → is_plain v ≡ true → (shaped k c s).Fits v → has_content s ≡ false
+plain_shape : (k : Ctx) (c : Option Signed) (s : Shape) (v : Value) → is_plain v ≡ true → (shaped k c s).Fits v
+    → has_content s ≡ false
 unfolding shaped
 plain_shape k c (shapes.Counted n) (Block w bytes) e fits = absurd cc
 plain_shape k c (shapes.Counted n) _ e fits = absurd fits
@@ -121,10 +132,12 @@ plain_shape k c shapes.Present v e fits = refl
 plain_shape k c shapes.Implicit v e fits = refl
 plain_shape k c shapes.Indirect v e fits = refl
 
-pub plain_head : (k : Ctx) (form : ℕ) (c : Option Signed) (a : Attribute) (start : ℕ) → is_plain a.value ≡ true → (attribute k form c).Fits a → head k form start a ≡ (attribute k form c).spell a
+pub plain_head : (k : Ctx) (form : ℕ) (c : Option Signed) (a : Attribute) (start : ℕ) → is_plain a.value ≡ true
+    → (attribute k form c).Fits a → head k form start a ≡ (attribute k form c).spell a
 plain_head k form c a start plain fits = by (shape (form_in form a.via) k.address_size k.format) refl
   where
-    by : (o : Option Shape) → shape (form_in form a.via) k.address_size k.format ≡ o → head_if k o start a ≡ (attribute k form c).spell a
+    by : (o : Option Shape) → shape (form_in form a.via) k.address_size k.format ≡ o
+        → head_if k o start a ≡ (attribute k form c).spell a
     by None e = absurd (form_known k form c a fits e)
     by (Some s) e =
         let own = in_effect k c form (form == 0x16) a.via a.value s e (either_way k form c a fits) in
@@ -142,10 +155,12 @@ same_content (Text bytes) = refl
 same_content Present = refl
 same_content (Implicit x) = refl
 
-pub content_size : (k : Ctx) (form : ℕ) (c : Option Signed) (a : Attribute) → (attribute k form c).Fits a → length (bytes_in a) ≤ length ((attribute k form c).spell a)
+pub content_size : (k : Ctx) (form : ℕ) (c : Option Signed) (a : Attribute) → (attribute k form c).Fits a
+    → length (bytes_in a) ≤ length ((attribute k form c).spell a)
 content_size k form c a fits = by (shape (form_in form a.via) k.address_size k.format) refl
   where
-    by : (o : Option Shape) → shape (form_in form a.via) k.address_size k.format ≡ o → length (bytes_in a) ≤ length ((attribute k form c).spell a)
+    by : (o : Option Shape) → shape (form_in form a.via) k.address_size k.format ≡ o
+        → length (bytes_in a) ≤ length ((attribute k form c).spell a)
     by None e = absurd (form_known k form c a fits e)
     by (Some s) e =
         let v = a.value in
@@ -170,7 +185,13 @@ content_count v = 0
 
 finder_long : (start : ℕ) (v : Value) → length (finder start v) ≡ finder_size v
 finder_long start (Block width bytes) = length-fixed Little 8 start
-finder_long start (Text bytes) = omega (arith, length-append (word (length bytes)) (word start), length-fixed Little 8 (length bytes), length-fixed Little 8 start)
+finder_long start (Text bytes) =
+    omega (
+      arith,
+      length-append (word (length bytes)) (word start),
+      length-fixed Little 8 (length bytes),
+      length-fixed Little 8 start,
+    )
 finder_long start (Num x) = refl
 finder_long start (Wide x) = refl
 finder_long start (Uleb u) = refl
@@ -189,10 +210,13 @@ content_long Present = refl
 content_long (Implicit x) = refl
 
 -- the content stands in a spelling in the place of what finds it in the head
-pub size_by_head : (k : Ctx) (form : ℕ) (c : Option Signed) (a : Attribute) (start : ℕ) → (attribute k form c).Fits a → length ((attribute k form c).spell a) + finder_size a.value ≡ length (head k form start a) + content_count a.value
+pub size_by_head : (k : Ctx) (form : ℕ) (c : Option Signed) (a : Attribute) (start : ℕ) → (attribute k form c).Fits a
+    → length ((attribute k form c).spell a) + finder_size a.value ≡ length (head k form start a) + content_count a.value
 size_by_head k form c a start fits = by (shape (form_in form a.via) k.address_size k.format) refl
   where
-    by : (o : Option Shape) → shape (form_in form a.via) k.address_size k.format ≡ o → length ((attribute k form c).spell a) + finder_size a.value ≡ length (head_if k o start a) + content_count a.value
+    by : (o : Option Shape) → shape (form_in form a.via) k.address_size k.format ≡ o
+        → length ((attribute k form c).spell a) + finder_size a.value
+        ≡ length (head_if k o start a) + content_count a.value
     by None e = absurd (form_known k form c a fits e)
     by (Some s) e =
         let v = a.value in

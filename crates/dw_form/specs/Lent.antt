@@ -66,12 +66,14 @@ lent_outcome view (Ok x) = Found (view x.0) x.1
 lent_outcome view (Err reason) = Broken 0 reason
 
 -- a refusal is passed on by what is made of the value
-pub lends_err : {X Y Z W : Type 0} (view : X → Y) (seen : W → Z) (f : Y → Z) (e : Reason) (o : Outcome Y) → Lends view (Err e) o → Lends seen (Err e) (mapped f o)
+pub lends_err : {X Y Z W : Type 0} (view : X → Y) (seen : W → Z) (f : Y → Z) (e : Reason) (o : Outcome Y)
+    → Lends view (Err e) o → Lends seen (Err e) (mapped f o)
 lends_err view seen f e (Found y size) h = h
 lends_err view seen f e (Broken offset reason) h = h
 
 -- one field's outcome is told by what is lent
-pub lends_front : {X Y : Type 0} (view : X → Y) (r : Result (X × ℕ) Reason) (o : Outcome Y) → Lends view r o → at_front o ≡ lent_outcome view r
+pub lends_front : {X Y : Type 0} (view : X → Y) (r : Result (X × ℕ) Reason) (o : Outcome Y) → Lends view r o
+    → at_front o ≡ lent_outcome view r
 lends_front view (Ok x) (Found y size) h = cc
 lends_front view (Ok x) (Broken offset reason) h = absurd h
 lends_front view (Err e) (Found y size) h = absurd h
@@ -79,21 +81,26 @@ lends_front view (Err e) (Broken offset reason) h = cc
 
 -- ---- what is lent, by what the plain reader says
 
-pub lent_found : {X Y : Type 0} (view : X → Y) (P : Part Y) (bytes : List ℕ) (lim : ℕ) (r : Result (X × ℕ) Reason) → Says P bytes lim (lent_outcome view r) → IfOk r (λ x. Taken P bytes lim (view x.0) x.1)
+pub lent_found : {X Y : Type 0} (view : X → Y) (P : Part Y) (bytes : List ℕ) (lim : ℕ) (r : Result (X × ℕ) Reason)
+    → Says P bytes lim (lent_outcome view r) → IfOk r (λ x. Taken P bytes lim (view x.0) x.1)
 lent_found view P bytes lim (Ok x) h = h
 lent_found view P bytes lim (Err reason) h = tt
 
-pub lent_broken : {X Y : Type 0} (view : X → Y) (P : Part Y) (bytes : List ℕ) (lim : ℕ) (r : Result (X × ℕ) Reason) → Says P bytes lim (lent_outcome view r) → IfErr r (λ reason. P.Break bytes lim 0 reason)
+pub lent_broken : {X Y : Type 0} (view : X → Y) (P : Part Y) (bytes : List ℕ) (lim : ℕ) (r : Result (X × ℕ) Reason)
+    → Says P bytes lim (lent_outcome view r) → IfErr r (λ reason. P.Break bytes lim 0 reason)
 lent_broken view P bytes lim (Ok x) h = tt
 lent_broken view P bytes lim (Err reason) h = h
 
-pub lent_only : {X Y : Type 0} (view : X → Y) (P : Part Y) (R : Reader Y) → Decides P R → (bytes : List ℕ) (lim : ℕ) (r : Result (X × ℕ) Reason) → R bytes lim ≡ lent_outcome view r
+pub lent_only : {X Y : Type 0} (view : X → Y) (P : Part Y) (R : Reader Y) → Decides P R → (bytes : List ℕ) (lim : ℕ)
+    (r : Result (X × ℕ) Reason) → R bytes lim ≡ lent_outcome view r
     → (y : Y) (size : ℕ) → Taken P bytes lim y size → IsOkAnd r (λ x. (view x.0 ≡ y) × (x.1 ≡ size))
-lent_only {X} {Y} view P R it bytes lim r e y size h = by r (sym e ∙ ap (λ (b : List ℕ). R b lim) h.split ∙ it.takes y h.rest lim h.fits within)
+lent_only {X} {Y} view P R it bytes lim r e y size h =
+    by r (sym e ∙ ap (λ (b : List ℕ). R b lim) h.split ∙ it.takes y h.rest lim h.fits within)
   where
     within : length (P.spell y) ≤ lim
     within = omega (arith, h.is_size, h.within)
 
-    by : (r : Result (X × ℕ) Reason) → lent_outcome view r ≡ Found y (length (P.spell y)) → IsOkAnd r (λ x. (view x.0 ≡ y) × (x.1 ≡ size))
+    by : (r : Result (X × ℕ) Reason) → lent_outcome view r ≡ Found y (length (P.spell y))
+        → IsOkAnd r (λ x. (view x.0 ≡ y) × (x.1 ≡ size))
     by (Ok x) same = let w = found_value (view x.0) y x.1 (length (P.spell y)) same in (w.0, w.1 ∙ h.is_size)
     by (Err reason) same = absurd (found_broken Y y (length (P.spell y)) 0 reason (sym same))

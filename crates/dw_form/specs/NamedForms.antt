@@ -17,7 +17,8 @@ both : (v w : Bool) → cond v w false ≡ true → (v ≡ true) × (w ≡ true)
 both true w e = (refl, e)
 both false w e = absurd cc
 
-found_short : {X : Type 0} (n : ℕ) (rows : List (ℕ × X)) → all_short rows ≡ true → (at_number n rows ≡ None → ⊥) → n < 0x10000
+found_short : {X : Type 0} (n : ℕ) (rows : List (ℕ × X)) → all_short rows ≡ true → (at_number n rows ≡ None → ⊥)
+    → n < 0x10000
 found_short n [] short there = absurd (there refl)
 found_short n (row ∷ rows) short there = by (row.0 == n) refl (found_short n rows parts.1)
   where
@@ -35,6 +36,7 @@ form_short form address_size format there = found_short form (forms address_size
 pub spelled_names : (k : Ctx) (form : ℕ) (a : Attribute) → HasSpelling k form a → NamesForm a
 spelled_names k form a fits = by a.via (form_known k form (constant_in a.value) a fits)
   where
-    by : (via : Option Unsigned) → (shape (form_in form via) k.address_size k.format ≡ None → ⊥) → IfSome via (λ u. u.value < 2 ^ 16)
+    by : (via : Option Unsigned) → (shape (form_in form via) k.address_size k.format ≡ None → ⊥)
+        → IfSome via (λ u. u.value < 2 ^ 16)
     by None there = tt
     by (Some u) there = form_short u.value k.address_size k.format there

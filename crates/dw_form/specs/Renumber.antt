@@ -14,12 +14,16 @@ fixed_number s x = None
 
 -- so many bytes of an unsigned LEB128 number hold 0 to 128 ^ width - 1, and at most 2 ^ 64 - 1
 abbrev pub unsigned_number : ℕ → ℤ → Option Unsigned
-unsigned_number width (pos x) = if (nat_le 1 width && nat_le width 16) && (nat_lt x (128 ^ width) && nat_lt x (2 ^ 64)) then Some (record { value = x; width = width }) else None
+unsigned_number width (pos x) =
+    if (nat_le 1 width && nat_le width 16) && (nat_lt x (128 ^ width) && nat_lt x (2 ^ 64))
+    then Some (record { value = x; width = width }) else None
 unsigned_number width (negsuc x) = None
 
 -- so many bytes of a signed one hold half of that on either side of zero, and at most 63 bits of it
 abbrev pub signed_number : ℕ → ℤ → Option Signed
-signed_number width x = if (nat_le 1 width && nat_le width 16) && (nat_lt (2 * extent x) (128 ^ width) && nat_lt (extent x) (2 ^ 63)) then Some (record { value = x; width = width }) else None
+signed_number width x =
+    if (nat_le 1 width && nat_le width 16) && (nat_lt (2 * extent x) (128 ^ width) && nat_lt (extent x) (2 ^ 63))
+    then Some (record { value = x; width = width }) else None
 
 -- The value of a form with this number in the place of its own, in as many bytes. There is none of a value that is no
 -- number of at most 64 bits, and none where the bytes don't hold the number.

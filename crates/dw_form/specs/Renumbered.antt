@@ -22,11 +22,13 @@ unless_sixteen : (b : Bool) (P : Part ℕ) (x : ℕ) → not b ≡ true → P.Fi
 unless_sixteen true P x e h = absurd cc
 unless_sixteen false P x e h = h
 
-fixed_held : (n : ℕ) (x : ℤ) (m : ℕ) → fixed_number (Some (shapes.Fixed n)) x ≡ Some m → (not (n == 16) ≡ true) × (m < 256 ^ n)
+fixed_held : (n : ℕ) (x : ℤ) (m : ℕ) → fixed_number (Some (shapes.Fixed n)) x ≡ Some m
+    → (not (n == 16) ≡ true) × (m < 256 ^ n)
 fixed_held n (negsuc x) m e = absurd cc
 fixed_held n (pos x) m e = by (not (n == 16) && nat_lt x (256 ^ n)) refl e
   where
-    by : (b : Bool) → (not (n == 16) && nat_lt x (256 ^ n)) ≡ b → (if b then Some x else None) ≡ Some m → (not (n == 16) ≡ true) × (m < 256 ^ n)
+    by : (b : Bool) → (not (n == 16) && nat_lt x (256 ^ n)) ≡ b → (if b then Some x else None) ≡ Some m
+        → (not (n == 16) ≡ true) × (m < 256 ^ n)
     by true f h =
         let w = and_parts (not (n == 16)) (nat_lt x (256 ^ n)) f in
         let same : x ≡ m = cc in
@@ -35,30 +37,51 @@ fixed_held n (pos x) m e = by (not (n == 16) && nat_lt x (256 ^ n)) refl e
 
 unsigned_held : (width : ℕ) (x : ℤ) (u : Unsigned) → unsigned_number width x ≡ Some u → UlebFits u × (u.width ≡ width)
 unsigned_held width (negsuc x) u e = absurd cc
-unsigned_held width (pos x) u e = by ((nat_le 1 width && nat_le width 16) && (nat_lt x (128 ^ width) && nat_lt x (2 ^ 64))) refl e
+unsigned_held width (pos x) u e =
+    by ((nat_le 1 width && nat_le width 16) && (nat_lt x (128 ^ width) && nat_lt x (2 ^ 64))) refl e
   where
-    by : (b : Bool) → ((nat_le 1 width && nat_le width 16) && (nat_lt x (128 ^ width) && nat_lt x (2 ^ 64))) ≡ b → (if b then Some (record { value = x; width = width }) else None) ≡ Some u → UlebFits u × (u.width ≡ width)
+    by : (b : Bool) → ((nat_le 1 width && nat_le width 16) && (nat_lt x (128 ^ width) && nat_lt x (2 ^ 64))) ≡ b
+        → (if b then Some (record { value = x; width = width }) else None) ≡ Some u → UlebFits u × (u.width ≡ width)
     by true f h =
         let w = and_parts (nat_le 1 width && nat_le width 16) (nat_lt x (128 ^ width) && nat_lt x (2 ^ 64)) f in
         let one = and_parts (nat_le 1 width) (nat_le width 16) w.0 in
         let two = and_parts (nat_lt x (128 ^ width)) (nat_lt x (2 ^ 64)) w.1 in
         let own : Unsigned = record { value = x; width = width } in
         let same : own ≡ u = cc in
-        let fits : UlebFits own = record { some = leb-true 1 width one.0; most = leb-true width 16 one.1; held = ltb-true x (128 ^ width) two.0; range = ltb-true x (2 ^ 64) two.1 } in
+        let fits : UlebFits own =
+        record {
+          some = leb-true 1 width one.0;
+          most = leb-true width 16 one.1;
+          held = ltb-true x (128 ^ width) two.0;
+          range = ltb-true x (2 ^ 64) two.1;
+        } in
         (subst UlebFits same fits, ap (λ (y : Unsigned). y.width) (sym same))
     by false f h = absurd cc
 
 signed_held : (width : ℕ) (x : ℤ) (s : Signed) → signed_number width x ≡ Some s → SlebFits s × (s.width ≡ width)
-signed_held width x s e = by ((nat_le 1 width && nat_le width 16) && (nat_lt (2 * extent x) (128 ^ width) && nat_lt (extent x) (2 ^ 63))) refl e
+signed_held width x s e =
+    by ((nat_le 1 width && nat_le width 16) && (nat_lt (2 * extent x) (128 ^ width) && nat_lt (extent x) (2 ^ 63))) refl
+    e
   where
-    by : (b : Bool) → ((nat_le 1 width && nat_le width 16) && (nat_lt (2 * extent x) (128 ^ width) && nat_lt (extent x) (2 ^ 63))) ≡ b → (if b then Some (record { value = x; width = width }) else None) ≡ Some s → SlebFits s × (s.width ≡ width)
+    by : (b : Bool)
+        → ((nat_le 1 width && nat_le width 16) && (nat_lt (2 * extent x) (128 ^ width) && nat_lt (extent x) (2 ^ 63)))
+        ≡ b
+        → (if b then Some (record { value = x; width = width }) else None) ≡ Some s → SlebFits s × (s.width ≡ width)
     by true f h =
-        let w = and_parts (nat_le 1 width && nat_le width 16) (nat_lt (2 * extent x) (128 ^ width) && nat_lt (extent x) (2 ^ 63)) f in
+        let w =
+        and_parts (nat_le 1 width && nat_le width 16)
+        (nat_lt (2 * extent x) (128 ^ width) && nat_lt (extent x) (2 ^ 63)) f in
         let one = and_parts (nat_le 1 width) (nat_le width 16) w.0 in
         let two = and_parts (nat_lt (2 * extent x) (128 ^ width)) (nat_lt (extent x) (2 ^ 63)) w.1 in
         let own : Signed = record { value = x; width = width } in
         let same : own ≡ s = cc in
-        let fits : SlebFits own = record { some = leb-true 1 width one.0; most = leb-true width 16 one.1; held = ltb-true (2 * extent x) (128 ^ width) two.0; range = ltb-true (extent x) (2 ^ 63) two.1 } in
+        let fits : SlebFits own =
+        record {
+          some = leb-true 1 width one.0;
+          most = leb-true width 16 one.1;
+          held = ltb-true (2 * extent x) (128 ^ width) two.0;
+          range = ltb-true (extent x) (2 ^ 63) two.1;
+        } in
         (subst SlebFits same fits, ap (λ (y : Signed). y.width) (sym same))
     by false f h = absurd cc
 
@@ -70,7 +93,8 @@ pub record Keeps (k : Ctx) (c : Option Signed) (s : Shape) (v w : Value) : Type 
   pub plain : is_plain v ≡ true
   pub new_plain : is_plain w ≡ true
 
-some_mapped : {X Y : Type 0} (f : X → Y) (o : Option X) (y : Y) → option_map f o ≡ Some y → (x : X) × (o ≡ Some x) × (f x ≡ y)
+some_mapped : {X Y : Type 0} (f : X → Y) (o : Option X) (y : Y) → option_map f o ≡ Some y
+    → (x : X) × (o ≡ Some x) × (f x ≡ y)
 some_mapped f None y e = absurd cc
 some_mapped f (Some x) y e = (x, refl, cc)
 
@@ -83,10 +107,12 @@ as_uleb u = Uleb u
 abbrev as_sleb : Signed → Value
 as_sleb u = Sleb u
 
-keeps_num : (k : Ctx) (c : Option Signed) (n y : ℕ) (x : ℤ) (w : Value) → (shaped k c (shapes.Fixed n)).Fits (Num y) → option_map as_num (fixed_number (Some (shapes.Fixed n)) x) ≡ Some w → Keeps k c (shapes.Fixed n) (Num y) w
+keeps_num : (k : Ctx) (c : Option Signed) (n y : ℕ) (x : ℤ) (w : Value) → (shaped k c (shapes.Fixed n)).Fits (Num y)
+    → option_map as_num (fixed_number (Some (shapes.Fixed n)) x) ≡ Some w → Keeps k c (shapes.Fixed n) (Num y) w
 unfolding shaped
 keeps_num k c n y x w fits e =
-    let m : (z : ℕ) × (fixed_number (Some (shapes.Fixed n)) x ≡ Some z) × (as_num z ≡ w) = some_mapped as_num (fixed_number (Some (shapes.Fixed n)) x) w e in
+    let m : (z : ℕ) × (fixed_number (Some (shapes.Fixed n)) x ≡ Some z) × (as_num z ≡ w) =
+    some_mapped as_num (fixed_number (Some (shapes.Fixed n)) x) w e in
     let z = m.0 in
     let held = fixed_held n x z m.1 in
     let new : (shaped k c (shapes.Fixed n)).Fits (Num z) = unless_sixteen (n == 16) (fixed k.order n) z held.0 held.1 in
@@ -95,31 +121,43 @@ keeps_num k c n y x w fits e =
     let three = ap length (append-nil (fixed_bytes k.order n z)) in
     let four = ap length (append-nil (fixed_bytes k.order n y)) in
     subst (λ (v : Value). Keeps k c (shapes.Fixed n) (Num y) v) m.2
-    (record { fits = new; size = omega (arith, one, two, three, four, length-fixed k.order n z, length-fixed k.order n y); plain = refl; new_plain = refl })
+    (record {
+      fits = new;
+      size = omega (arith, one, two, three, four, length-fixed k.order n z, length-fixed k.order n y);
+      plain = refl;
+      new_plain = refl;
+    })
 
-keeps_uleb : (k : Ctx) (c : Option Signed) (u : Unsigned) (x : ℤ) (w : Value) → (shaped k c shapes.Uleb).Fits (Uleb u) → option_map as_uleb (unsigned_number u.width x) ≡ Some w → Keeps k c shapes.Uleb (Uleb u) w
+keeps_uleb : (k : Ctx) (c : Option Signed) (u : Unsigned) (x : ℤ) (w : Value) → (shaped k c shapes.Uleb).Fits (Uleb u)
+    → option_map as_uleb (unsigned_number u.width x) ≡ Some w → Keeps k c shapes.Uleb (Uleb u) w
 unfolding shaped
 keeps_uleb k c u x w fits e =
-    let m : (z : Unsigned) × (unsigned_number u.width x ≡ Some z) × (as_uleb z ≡ w) = some_mapped as_uleb (unsigned_number u.width x) w e in
+    let m : (z : Unsigned) × (unsigned_number u.width x ≡ Some z) × (as_uleb z ≡ w) =
+    some_mapped as_uleb (unsigned_number u.width x) w e in
     let z = m.0 in
     let held = unsigned_held u.width x z m.1 in
     let new : (shaped k c shapes.Uleb).Fits (Uleb z) = uleb_fits z held.0 in
     subst (λ (v : Value). Keeps k c shapes.Uleb (Uleb u) v) m.2
     (record { fits = new; size = length-uleb z ∙ (held.1 ∙ sym (length-uleb u)); plain = refl; new_plain = refl })
 
-keeps_sleb : (k : Ctx) (c : Option Signed) (u : Signed) (x : ℤ) (w : Value) → (shaped k c shapes.Sleb).Fits (Sleb u) → option_map as_sleb (signed_number u.width x) ≡ Some w → Keeps k c shapes.Sleb (Sleb u) w
+keeps_sleb : (k : Ctx) (c : Option Signed) (u : Signed) (x : ℤ) (w : Value) → (shaped k c shapes.Sleb).Fits (Sleb u)
+    → option_map as_sleb (signed_number u.width x) ≡ Some w → Keeps k c shapes.Sleb (Sleb u) w
 unfolding shaped
 keeps_sleb k c u x w fits e =
-    let m : (z : Signed) × (signed_number u.width x ≡ Some z) × (as_sleb z ≡ w) = some_mapped as_sleb (signed_number u.width x) w e in
+    let m : (z : Signed) × (signed_number u.width x ≡ Some z) × (as_sleb z ≡ w) =
+    some_mapped as_sleb (signed_number u.width x) w e in
     let z = m.0 in
     let held = signed_held u.width x z m.1 in
     let new : (shaped k c shapes.Sleb).Fits (Sleb z) = sleb_fits z held.0 in
     subst (λ (v : Value). Keeps k c shapes.Sleb (Sleb u) v) m.2
     (record { fits = new; size = length-sleb z ∙ (held.1 ∙ sym (length-sleb u)); plain = refl; new_plain = refl })
 
-shape_keeps : (k : Ctx) (c : Option Signed) (form : ℕ) (s : Shape) (x : ℤ) (v w : Value) → shape form k.address_size k.format ≡ Some s → (shaped k c s).Fits v → renumbered k form x v ≡ Some w → Keeps k c s v w
+shape_keeps : (k : Ctx) (c : Option Signed) (form : ℕ) (s : Shape) (x : ℤ) (v w : Value)
+    → shape form k.address_size k.format ≡ Some s → (shaped k c s).Fits v → renumbered k form x v ≡ Some w
+    → Keeps k c s v w
 unfolding shaped
-shape_keeps k c form (shapes.Fixed n) x (Num y) w is fits e = keeps_num k c n y x w fits (ap (λ (o : Option Shape). option_map as_num (fixed_number o x)) (sym is) ∙ e)
+shape_keeps k c form (shapes.Fixed n) x (Num y) w is fits e =
+    keeps_num k c n y x w fits (ap (λ (o : Option Shape). option_map as_num (fixed_number o x)) (sym is) ∙ e)
 shape_keeps k c form (shapes.Fixed n) x (Wide y) w is fits e = absurd cc
 shape_keeps k c form (shapes.Fixed n) x _ w is fits e = absurd fits
 shape_keeps k c form shapes.Uleb x (Uleb u) w is fits e = keeps_uleb k c u x w fits e
@@ -147,25 +185,41 @@ pub record Kept (k : Ctx) (form : ℕ) (c : Option Signed) (a b : Attribute) : T
   pub plain : is_plain a.value ≡ true
   pub new_plain : is_plain b.value ≡ true
 
-formed_keeps : (k : Ctx) (c : Option Signed) (form : ℕ) (x : ℤ) (v w : Value) (o : Option Shape) → shape form k.address_size k.format ≡ o → (shaped_if k c o).Fits v → renumbered k form x v ≡ Some w
-    → (shaped_if k c o).Fits w × (length ((shaped_if k c o).spell w) ≡ length ((shaped_if k c o).spell v)) × (is_plain v ≡ true) × (is_plain w ≡ true)
+formed_keeps : (k : Ctx) (c : Option Signed) (form : ℕ) (x : ℤ) (v w : Value) (o : Option Shape)
+    → shape form k.address_size k.format ≡ o → (shaped_if k c o).Fits v → renumbered k form x v ≡ Some w
+    → (shaped_if k c o).Fits w × (length ((shaped_if k c o).spell w) ≡ length ((shaped_if k c o).spell v))
+    × (is_plain v ≡ true) × (is_plain w ≡ true)
 formed_keeps k c form x v w None is fits e = absurd fits
-formed_keeps k c form x v w (Some s) is fits e = let h = shape_keeps k c form s x v w is fits e in (h.fits, h.size, h.plain, h.new_plain)
+formed_keeps k c form x v w (Some s) is fits e =
+    let h = shape_keeps k c form s x v w is fits e in (h.fits, h.size, h.plain, h.new_plain)
 
-pub number_kept : (k : Ctx) (form : ℕ) (c : Option Signed) (a : Attribute) (x : ℤ) (w : Value) → (attribute k form c).Fits a → renumbered k (form_in form a.via) x a.value ≡ Some w → Kept k form c a (with_value a w)
+pub number_kept : (k : Ctx) (form : ℕ) (c : Option Signed) (a : Attribute) (x : ℤ) (w : Value)
+    → (attribute k form c).Fits a → renumbered k (form_in form a.via) x a.value ≡ Some w
+    → Kept k form c a (with_value a w)
 unfolding attribute
 number_kept k form c a x w fits e =
     let h = by (form == 0x16) a.via fits e in
     record { fits = h.0; size = h.1; plain = h.2; new_plain = h.3 }
   where
-    by : (b : Bool) (via : Option Unsigned) → (by_indirection k c form b).Fits (record { via = via; value = a.value }) → renumbered k (form_in form via) x a.value ≡ Some w
+    by : (b : Bool) (via : Option Unsigned) → (by_indirection k c form b).Fits (record { via = via; value = a.value })
+        → renumbered k (form_in form via) x a.value ≡ Some w
         → (by_indirection k c form b).Fits (record { via = via; value = w })
-        × (length ((by_indirection k c form b).spell (record { via = via; value = w })) ≡ length ((by_indirection k c form b).spell (record { via = via; value = a.value })))
+        × (length ((by_indirection k c form b).spell (record { via = via; value = w }))
+        ≡ length ((by_indirection k c form b).spell (record { via = via; value = a.value })))
         × (is_plain a.value ≡ true) × (is_plain w ≡ true)
     by true None fits e = absurd fits
     by true (Some u) fits e =
-        let h = formed_keeps k None u.value x a.value w (shape u.value k.address_size k.format) refl fits.1 e in
-        ((fits.0, h.0), omega (arith, length-append (uleb.spell u) ((shaped_if k None (shape u.value k.address_size k.format)).spell w), length-append (uleb.spell u) ((shaped_if k None (shape u.value k.address_size k.format)).spell a.value), h.1), h.2, h.3)
+        let h = formed_keeps k None u.value x a.value w (shape u.value k.address_size k.format) refl fits.1 e in (
+          (fits.0, h.0),
+          omega (
+            arith,
+            length-append (uleb.spell u) ((shaped_if k None (shape u.value k.address_size k.format)).spell w),
+            length-append (uleb.spell u) ((shaped_if k None (shape u.value k.address_size k.format)).spell a.value),
+            h.1,
+          ),
+          h.2,
+          h.3,
+        )
     by false None fits e = formed_keeps k c form x a.value w (shape form k.address_size k.format) refl fits e
     by false (Some u) fits e = absurd fits
 
@@ -180,7 +234,8 @@ no_content Present e = refl
 no_content (Implicit s) e = refl
 
 -- such values have no content, and their heads are as long, wherever others' contents are
-module _ (k : Ctx) (form : ℕ) (c : Option Signed) (a b : Attribute) (fits : (attribute k form c).Fits a) (h : Kept k form c a b) where
+module _ (k : Ctx) (form : ℕ) (c : Option Signed) (a b : Attribute) (fits : (attribute k form c).Fits a)
+    (h : Kept k form c a b) where
   pub old_content : bytes_in a ≡ []
   old_content = no_content a.value h.plain
 

@@ -81,9 +81,11 @@ NamesForm a = IfSome a.via (λ u. u.value < 2 ^ 16)
 span_stays : (pool more : List ℕ) (s : Span) → SpanFits (length pool) s → part (pool ++ more) s ≡ part pool s
 span_stays pool more s within =
     let left : length (drop s.start pool) ≡ length pool - s.start = length-drop s.start pool in
-    ap (take s.len) (drop-append-le s.start pool more (omega (arith, within))) ∙ take-append-le s.len (drop s.start pool) more (omega (arith, within, left))
+    ap (take s.len) (drop-append-le s.start pool more (omega (arith, within)))
+    ∙ take-append-le s.len (drop s.start pool) more (omega (arith, within, left))
 
-kept_stays : (pool more : List ℕ) (v : Kept) → KeptFits (length pool) v → kept_value (pool ++ more) v ≡ kept_value pool v
+kept_stays : (pool more : List ℕ) (v : Kept) → KeptFits (length pool) v
+    → kept_value (pool ++ more) v ≡ kept_value pool v
 kept_stays pool more (kept.Block width via span) within = ap (Block width) (span_stays pool more span within)
 kept_stays pool more (kept.Text via span) within = ap Text (span_stays pool more span within)
 kept_stays pool more (kept.Num via x) within = refl
@@ -94,8 +96,11 @@ kept_stays pool more (kept.Present via) within = refl
 kept_stays pool more (kept.Implicit via s) within = refl
 
 -- a stored value is the same in a pool that begins with its own
-pub content_stays : (pool more : List ℕ) (s : Stored) → StoredFits (length pool) s → content (pool ++ more) s ≡ content pool s
-content_stays pool more s within = ap (λ (v : Value). record { via = option_map via_form (kept_via s.kept); value = v }) (kept_stays pool more s.kept within)
+pub content_stays : (pool more : List ℕ) (s : Stored) → StoredFits (length pool) s
+    → content (pool ++ more) s ≡ content pool s
+content_stays pool more s within =
+    ap (λ (v : Value). record { via = option_map via_form (kept_via s.kept); value = v })
+    (kept_stays pool more s.kept within)
 
 kept_fits : (m n : ℕ) (v : Kept) → m ≤ n → KeptFits m v → KeptFits n v
 kept_fits m n (kept.Block width via span) longer within = omega (arith, longer, within)

@@ -11,7 +11,9 @@ abbrev pub IsValueError : {X : Type 0} → Part X → List ℕ → ℕ → Value
 IsValueError P bytes lim (Bad reason) = P.Break bytes lim 0 reason
 IsValueError P bytes lim NoMemory = Unit {0}
 
--- memory is refused only for a value that is there, whose bytes have no room in a pool of so many bytes and this capacity
+-- memory is refused only for a value that is there, whose bytes have no room in a pool of so many bytes and this
+-- capacity
 abbrev pub LacksRoom : Part Attribute → List ℕ → ℕ → ℕ → ℕ → ValueError → Type 0
 LacksRoom P bytes lim used capacity (Bad reason) = Unit {0}
-LacksRoom P bytes lim used capacity NoMemory = (x : Attribute) × (size : ℕ) × Taken P bytes lim x size × (capacity < used + length (bytes_in x))
+LacksRoom P bytes lim used capacity NoMemory =
+    (x : Attribute) × (size : ℕ) × Taken P bytes lim x size × (capacity < used + length (bytes_in x))

@@ -134,7 +134,8 @@ fn via(form: u64, b: &[u8]) -> Option<Option<Uleb>>
 #[inline(always)]
 fn spelled(ctx: Ctx, shape: Shape, implicit: Option<Sleb>, b: &[u8]) -> Option<(Value<'_>, usize)>
     requires { ShapeFits shape }
-    ensures exact { option_map (λ x. (value_of x.0, x.1)) result ≡ spelled_at ctx (option_map sleb_of implicit) shape b.now }
+    ensures exact { option_map (λ x. (value_of x.0, x.1)) result
+        ≡ spelled_at ctx (option_map sleb_of implicit) shape b.now }
     ensures room { IfSome result (λ x. x.1 ≤ length b.now) }
 {
     match shaped(ctx, shape, implicit, b, b.len() as u64) {
@@ -153,7 +154,8 @@ fn by_shape<'a>(
     pool: &'a [u8],
 ) -> Option<(Value<'a>, usize)>
     requires { ShapeFits shape }
-    ensures exact { option_map (λ x. (value_of x.0, x.1)) result ≡ by_content ctx (option_map sleb_of implicit) b.now pool.now shape (has_content shape) }
+    ensures exact { option_map (λ x. (value_of x.0, x.1)) result
+        ≡ by_content ctx (option_map sleb_of implicit) b.now pool.now shape (has_content shape) }
     ensures room { IfSome result (λ x. x.1 ≤ length b.now) }
 {
     if holds(shape) {
@@ -173,7 +175,8 @@ fn by_form<'a>(
     pool: &'a [u8],
 ) -> Option<(Value<'a>, usize)>
     requires { IsContext ctx }
-    ensures exact { option_map (λ x. (value_of x.0, x.1)) result ≡ by_shape ctx (option_map sleb_of implicit) b.now pool.now (shape form ctx.address_size ctx.format) }
+    ensures exact { option_map (λ x. (value_of x.0, x.1)) result
+        ≡ by_shape ctx (option_map sleb_of implicit) b.now pool.now (shape form ctx.address_size ctx.format) }
     ensures room { IfSome result (λ x. x.1 ≤ length b.now) }
 {
     let shape = Shape::of(form, ctx.address_size, ctx.format)?;
@@ -192,7 +195,8 @@ fn behind<'a>(
 ) -> Option<(AttrValue<'a>, usize)>
     requires context { IsContext ctx }
     requires within { via_width (option_map uleb_of via) ≤ length heads.now }
-    ensures exact { option_map (λ x. (attribute_of x.0, x.1)) result ≡ by_via ctx form (option_map sleb_of implicit) heads.now pool.now (option_map uleb_of via) }
+    ensures exact { option_map (λ x. (attribute_of x.0, x.1)) result
+        ≡ by_via ctx form (option_map sleb_of implicit) heads.now pool.now (option_map uleb_of via) }
     ensures room { IfSome result (λ x. x.1 ≤ length heads.now) }
 {
     match via {
@@ -209,14 +213,16 @@ fn behind<'a>(
 }
 
 /// The value of a form whose values have no bytes, and so no head: that the attribute is there, or the constant of its
-/// declaration. `lend_head` gives the same, whatever the heads. None under any other form, `DW_FORM_indirect` among them,
-/// and where there is no constant.
+/// declaration. `lend_head` gives the same, whatever the heads. None under any other form, `DW_FORM_indirect` among
+/// them, and where there is no constant.
 #[inline(always)]
 pub fn lend_bare(ctx: Ctx, form: u64, implicit: Option<Sleb>) -> Option<Value<'static>>
     requires { IsContext ctx }
-    ensures exact { option_map value_of result ≡ bare_value (shape form ctx.address_size ctx.format) (option_map sleb_of implicit) }
+    ensures exact { option_map value_of result ≡ bare_value (shape form ctx.address_size ctx.format)
+        (option_map sleb_of implicit) }
     ensures found { IfSome result (λ v. (heads pool : List ℕ) →
-        head_at ctx form (option_map sleb_of implicit) heads pool ≡ Some (record { via = None; value = value_of v }, 0)) }
+        head_at ctx form (option_map sleb_of implicit) heads pool
+        ≡ Some (record { via = None; value = value_of v }, 0)) }
 {
     match Shape::of(form, ctx.address_size, ctx.format)? {
         Shape::Present => Some(Value::Present),
@@ -237,7 +243,8 @@ fn by_head<'a>(
     pool: &'a [u8],
 ) -> Option<(AttrValue<'a>, usize)>
     requires { IsContext ctx }
-    ensures exact { option_map (λ x. (attribute_of x.0, x.1)) result ≡ head_at ctx form (option_map sleb_of implicit) heads.now pool.now }
+    ensures exact { option_map (λ x. (attribute_of x.0, x.1)) result
+        ≡ head_at ctx form (option_map sleb_of implicit) heads.now pool.now }
     ensures room { IfSome result (λ x. x.1 ≤ length heads.now) }
 {
     let via = via(form, heads)?;
@@ -254,7 +261,8 @@ fn at_front<'a>(
     pool: &'a [u8],
 ) -> Option<(AttrValue<'a>, usize)>
     requires { IsContext ctx }
-    ensures exact { option_map (λ x. (attribute_of x.0, x.1)) result ≡ head_at ctx form (option_map sleb_of implicit) heads.now pool.now }
+    ensures exact { option_map (λ x. (attribute_of x.0, x.1)) result
+        ≡ head_at ctx form (option_map sleb_of implicit) heads.now pool.now }
     ensures room { IfSome result (λ x. x.1 ≤ length heads.now) }
 {
     match lend_bare(ctx, form, implicit) {
@@ -286,12 +294,12 @@ pub fn lend_head<'a>(
     pool: &'a [u8],
 ) -> Option<(AttrValue<'a>, usize)>
     requires { IsContext ctx }
-    ensures exact { option_map (λ x. (attribute_of x.0, x.1)) result ≡ head_at ctx form (option_map sleb_of implicit) heads.now pool.now }
-    ensures put { (a : Attribute) (start : ℕ) (rest : List ℕ) →
-        (attribute ctx form (option_map sleb_of implicit)).Fits a →
-        Lies pool.now start (bytes_in a) →
-        heads.now ≡ head ctx form start a ++ rest →
-        IsSomeAnd result (λ x. (attribute_of x.0 ≡ a) × (x.1 ≡ length (head ctx form start a))) }
+    ensures exact { option_map (λ x. (attribute_of x.0, x.1)) result
+        ≡ head_at ctx form (option_map sleb_of implicit) heads.now pool.now }
+    ensures put { (a : Attribute) (start : ℕ) (rest : List ℕ)
+        → (attribute ctx form (option_map sleb_of implicit)).Fits a → Lies pool.now start (bytes_in a)
+        → heads.now ≡ head ctx form start a ++ rest
+        → IsSomeAnd result (λ x. (attribute_of x.0 ≡ a) × (x.1 ≡ length (head ctx form start a))) }
     ensures room { IfSome result (λ x. x.1 ≤ length heads.now) }
 {
     let _bounded = size(pool);
@@ -307,12 +315,10 @@ pub fn lend_number(ctx: Ctx, form: u64, heads: &[u8]) -> Option<(u64, usize)>
     ensures exact { (c : Option Signed) (pool : List ℕ) → result ≡ number_by_head (head_at ctx form c heads.now pool) }
     ensures found { IfSome result (λ x. (c : Option Signed) (pool : List ℕ) →
         head_at ctx form c heads.now pool ≡ Some (record { via = None; value = Num x.0 }, x.1)) }
-    ensures put { IfSome result (λ x. (c : Option Signed) (a : Attribute) (start : ℕ) (pool rest : List ℕ) →
-        (attribute ctx form c).Fits a →
-        Lies pool start (bytes_in a) →
-        length pool < 256 ^ 8 →
-        heads.now ≡ head ctx form start a ++ rest →
-        (record { via = None; value = Num x.0 } ≡ a) × (x.1 ≡ length (head ctx form start a))) }
+    ensures put { IfSome result (λ x. (c : Option Signed) (a : Attribute) (start : ℕ) (pool rest : List ℕ)
+        → (attribute ctx form c).Fits a → Lies pool start (bytes_in a) → length pool < 256 ^ 8
+        → heads.now ≡ head ctx form start a ++ rest
+        → (record { via = None; value = Num x.0 } ≡ a) × (x.1 ≡ length (head ctx form start a))) }
     ensures room { IfSome result (λ x. x.1 ≤ length heads.now) }
 {
     number_by_form(ctx, form, heads)

@@ -166,13 +166,15 @@ pub fn put_head(
     pool: &mut Vec<u8>,
 ) -> Result<(), AllocError>
     ensures heads { OnOk result
-        (heads.new.items ≡ heads.old.items ++ (front.now ++ finder (length pool.old.items) (value_of value.now.value))) }
+        (heads.new.items ≡ heads.old.items ++ (front.now ++ finder (length pool.old.items)
+        (value_of value.now.value))) }
     ensures pool { OnOk result (pool.new.items ≡ pool.old.items ++ bytes_in (attribute_of value.now)) }
     ensures small { OnOk result (length pool.new.items < 2 ^ 64) }
     ensures heads_kept { OnErr result (heads.new.items ≡ heads.old.items) }
     ensures pool_kept { OnErr result (pool.new.items ≡ pool.old.items) }
     ensures full { OnErr result
-        ((vec_capacity heads.old < vec_len heads.old + length (front.now ++ finder (length pool.old.items) (value_of value.now.value)))
+        ((vec_capacity heads.old < vec_len heads.old + length
+        (front.now ++ finder (length pool.old.items) (value_of value.now.value)))
         ⊎ (vec_capacity pool.old < vec_len pool.old + length (bytes_in (attribute_of value.now)))) }
 {
     match value.value {

@@ -64,11 +64,9 @@ pub fn read_value(
     ensures found { IfOk result (λ x.
         Taken (attribute ctx form (option_map sleb_of implicit)) b.now lim
         (content pool.new.items x.0) x.1) }
-    ensures only { (x : Attribute) (size : ℕ) →
-        Taken (attribute ctx form (option_map sleb_of implicit)) b.now lim x size →
-        MatchResult result
-        (λ y. (content pool.new.items y.0 ≡ x) × (y.1 ≡ size))
-        (λ e. e ≡ NoMemory) }
+    ensures only { (x : Attribute) (size : ℕ)
+        → Taken (attribute ctx form (option_map sleb_of implicit)) b.now lim x size
+        → MatchResult result (λ y. (content pool.new.items y.0 ≡ x) × (y.1 ≡ size)) (λ e. e ≡ NoMemory) }
     ensures spelled { IfOk result (λ x. HasSpelling ctx form (content pool.new.items x.0)) }
     ensures bytes { IfOk result (λ x.
         spelling ctx form (content pool.new.items x.0) ≡ take x.1 b.now) }

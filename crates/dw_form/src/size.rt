@@ -16,8 +16,8 @@ pub enum FormSize {
 }
 
 impl FormSize {
-    /// That of a form by its number. None where the values' bytes tell how many they are, where the form is `implicit_const`,
-    /// whose values have a constant of their declaration, and for a number that is no form.
+    /// That of a form by its number. None where the values' bytes tell how many they are, where the form is
+    /// `implicit_const`, whose values have a constant of their declaration, and for a number that is no form.
     pub fn of(form: u64) -> Option<FormSize>
         ensures told { result ≡ told_form form }
         ensures few { IfSome result FormSizeFits }

@@ -75,7 +75,8 @@ impl Stored {
     pub fn of_end(via: Option<Uleb>, width: Option<u8>, start: usize, pool: &[u8]) -> Stored
         requires names { IfSome via (λ u. u.value < 2 ^ 16) }
         requires within { start ≤ length pool.now }
-        ensures content { content pool.now result ≡ record { via = option_map uleb_of via; value = text_or_block width (drop start pool.now) } }
+        ensures content { content pool.now result
+            ≡ record { via = option_map uleb_of via; value = text_or_block width (drop start pool.now) } }
         ensures fits { StoredFits (length pool.now) result }
     {
         let via = named(via);

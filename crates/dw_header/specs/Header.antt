@@ -19,6 +19,17 @@ pub record Header : Type 0 where
   pub address_size : ℕ
   pub abbrev_offset : ℕ
 
+-- the header of these fields
+abbrev pub header_of : Order → Format → Kind → ℕ → ℕ → Header
+header_of order format kind address_size abbrev_offset =
+    record {
+      order = order;
+      format = format;
+      kind = kind;
+      address_size = address_size;
+      abbrev_offset = abbrev_offset;
+    }
+
 -- the version of a unit of this kind
 abbrev pub version_of : Kind → ℕ
 version_of Compile = 5
@@ -141,7 +152,9 @@ with_version f = Some (version_of f.kind, f)
 
 -- The version, and what follows it. What is accepted says nothing of how the fields are spelled.
 abbrev pub fields_under : Versions → Order → Format → Part Fields
-fields_under versions order format = seen with_version (judged (fixed order 2) (bad_version_under versions) then λ version. fields_behind order format (version == 4))
+fields_under versions order format =
+    seen with_version
+    (judged (fixed order 2) (bad_version_under versions) then λ version. fields_behind order format (version == 4))
 
 -- the same where version 5 alone is accepted
 abbrev pub fields : Order → Format → Part Fields

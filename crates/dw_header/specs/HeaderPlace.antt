@@ -21,7 +21,8 @@ header_size h = length_size h.format + length ((fields h.order h.format).spell (
 -- ---- where the versions that are accepted are told
 
 -- A header is spelled at the front: an initial length n, and the fields within it.
-pub record SpelledHeaderUnder (versions : Versions) (order : Order) (bytes : List ℕ) (format : Format) (n : ℕ) (x : Fields) (rest : List ℕ) : Type 0 where
+pub record SpelledHeaderUnder (versions : Versions) (order : Order) (bytes : List ℕ) (format : Format) (n : ℕ)
+    (x : Fields) (rest : List ℕ) : Type 0 where
   pub length_fits : (initial_length order 0).Fits (format, n)
   pub fields_fit : (fields_under versions order format).Fits x
   pub split : bytes ≡ (length_field order).spell (format, n) ++ ((fields order format).spell x ++ rest)
@@ -30,12 +31,15 @@ pub record SpelledHeaderUnder (versions : Versions) (order : Order) (bytes : Lis
 -- the header breaks in its initial length, or behind it in its fields, with lim the length read
 abbrev pub HeaderBreaksUnder : Versions → Order → List ℕ → ℕ → Reason → Type 0
 HeaderBreaksUnder versions order bytes offset reason = (initial_length order 0).Break bytes length_limit offset reason
-    ⊎ ((format : Format) × (n : ℕ) × (rest : List ℕ) × (own : ℕ) × (initial_length order 0).Fits (format, n) × (bytes ≡ (length_field order).spell (format, n) ++ rest)
-    × (offset ≡ length ((length_field order).spell (format, n)) + own) × (fields_under versions order format).Break rest n own reason)
+    ⊎ ((format : Format) × (n : ℕ) × (rest : List ℕ) × (own : ℕ) × (initial_length order 0).Fits (format, n)
+    × (bytes ≡ (length_field order).spell (format, n) ++ rest)
+    × (offset ≡ length ((length_field order).spell (format, n)) + own)
+    × (fields_under versions order format).Break rest n own reason)
 
 -- a header in this order, and its unit_length, stand at the front of the bytes
 abbrev pub HeaderAtUnder : Versions → Order → List ℕ → Header → ℕ → Type 0
-HeaderAtUnder versions order bytes h n = (h.order ≡ order) × (rest : List ℕ) × SpelledHeaderUnder versions order bytes h.format n (fields_of h) rest
+HeaderAtUnder versions order bytes h n =
+    (h.order ≡ order) × (rest : List ℕ) × SpelledHeaderUnder versions order bytes h.format n (fields_of h) rest
 
 -- the fault of a header that can't be read
 abbrev pub HeaderFaultUnder : Versions → Order → List ℕ → Fault → Type 0

@@ -91,7 +91,10 @@ fn offsets(
 ) -> Result<((u64, Kind), usize), Bad>
     requires some { 1 ≤ unit_type }
     requires most { unit_type ≤ 4 }
-    ensures exact { (fixed_reader order (offset_size format) and_then λ _. read_numbers order (added_sizes format unit_type)) b.now lim ≡ outcome_from (λ x. (x.0, kind_fields x.1)) result }
+    ensures exact { (fixed_reader order (offset_size format) and_then λ _. read_numbers order
+        (added_sizes format unit_type)) b.now
+        lim
+        ≡ outcome_from (λ x. (x.0, kind_fields x.1)) result }
     ensures kind { IfOk result (λ x. kind_number x.0.1 ≡ unit_type) }
     ensures room { IfOk result (λ x. (x.1 ≤ length b.now) × (x.1 ≤ lim) × (x.1 ≤ 24)) }
     ensures near { IfErr result (λ e. e.offset ≤ length b.now) }
@@ -113,7 +116,10 @@ fn address(
 ) -> Result<(HeaderFields, usize), Bad>
     requires some { 1 ≤ unit_type }
     requires most { unit_type ≤ 4 }
-    ensures exact { (checked (fixed_reader order 1) bad_address_size and_then λ _. fixed_reader order (offset_size format) and_then λ _. read_numbers order (added_sizes format unit_type)) b.now lim ≡ outcome_from after_type result }
+    ensures exact { (checked (fixed_reader order 1) bad_address_size and_then
+        λ _. fixed_reader order (offset_size format) and_then λ _. read_numbers order (added_sizes format unit_type))
+        b.now lim
+        ≡ outcome_from after_type result }
     ensures kind { IfOk result (λ x. kind_number x.0.kind ≡ unit_type) }
     ensures room { IfOk result (λ x. (x.1 ≤ length b.now) × (x.1 ≤ lim) × (x.1 ≤ 25)) }
     ensures near { IfErr result (λ e. e.offset ≤ length b.now) }
@@ -137,7 +143,9 @@ fn address(
 
 /// The unit type, and what follows it.
 fn typed(order: Order, format: Format, b: &[u8], lim: u64) -> Result<(HeaderFields, usize), Bad>
-    ensures exact { (checked (fixed_reader order 1) bad_type and_then λ kind. checked (fixed_reader order 1) bad_address_size and_then λ _. fixed_reader order (offset_size format) and_then λ _. read_numbers order (added_sizes format kind)) b.now lim ≡ outcome_from after_version result }
+    ensures exact { (checked (fixed_reader order 1) bad_type and_then λ kind. checked (fixed_reader order 1)
+        bad_address_size and_then λ _. fixed_reader order (offset_size format) and_then λ _. read_numbers order
+        (added_sizes format kind)) b.now lim ≡ outcome_from after_version result }
     ensures kind { IfOk result (λ x. kind_from (kind_number x.0.kind) (kind_fields x.0.kind) ≡ x.0.kind) }
     ensures room { IfOk result (λ x. (x.1 ≤ length b.now) × (x.1 ≤ lim) × (x.1 ≤ 26)) }
     ensures near { IfErr result (λ e. e.offset ≤ length b.now) }

@@ -18,9 +18,9 @@ use dw_leb::{Bad, Fault, Format, Order, Reason, SectionId, read_length};
 /// The header of version 5 at the front of `b`, and the unit_length: the count of bytes that the unit has
 /// after its initial length. No memory is taken.
 ///
-/// The fault is that of the first bad field, in `.debug_info`, its offset from the first byte of
-/// `b`, and at most the count of its bytes. The unit_length is never compared with the count of bytes in `b`: a field past the unit's
-/// end is `PastUnit`, before it could be `Truncated`.
+/// The fault is that of the first bad field, in `.debug_info`, its offset from the first byte of `b`, and at most the
+/// count of its bytes. The unit_length is never compared with the count of bytes in `b`: a field past the unit's end is
+/// `PastUnit`, before it could be `Truncated`.
 pub fn read_header(order: Order, b: &[u8]) -> Result<(Header, u64), Fault>
     ensures found { IfOk result (λ x. HeaderAt order b.now x.0 x.1) }
     ensures room { IfOk result (λ x. header_size x.0 ≤ length b.now) }
@@ -47,7 +47,8 @@ pub fn read_header_as(order: Order, versions: Versions, b: &[u8]) -> Result<(Hea
     ensures room { IfOk result (λ x. header_size x.0 ≤ length b.now) }
     ensures within { IfOk result (λ x. header_size x.0 ≤ length_size x.0.format + x.1) }
     ensures end { IfOk result (λ x. length_size x.0.format + x.1 < 2 ^ 63) }
-    ensures only { (h : TheHeader) (n : ℕ) → HeaderAtUnder versions order b.now h n → IsOkAnd result (λ x. (x.0 ≡ h) × (x.1 ≡ n)) }
+    ensures only { (h : TheHeader) (n : ℕ) → HeaderAtUnder versions order b.now h n
+        → IsOkAnd result (λ x. (x.0 ≡ h) × (x.1 ≡ n)) }
     ensures broken { IfErr result (HeaderFaultUnder versions order b.now) }
     ensures near { IfErr result (λ f. f.offset ≤ length b.now) }
     ensures first { (f : TheFault) → HeaderFaultUnder versions order b.now f → result ≡ Err f }

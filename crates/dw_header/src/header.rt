@@ -3,7 +3,7 @@ ghost use Rattle.std.specs.Prelude.{◌≡◌, ◌≤◌, ◌<◌, ◌+◌, ◌^
 ghost use Rattle.dw_leb.specs.Number.{offset_size};
 ghost use Rattle.dw_header.specs.FieldsView.{all_fields};
 ghost use Rattle.dw_header.specs.ReadHeader.{header_from};
-ghost use Rattle.dw_header.specs.Header.{HeaderFits, KindFits, context_of};
+ghost use Rattle.dw_header.specs.Header.{HeaderFits, KindFits, context_of, header_of};
 ghost use Rattle.dw_header.specs.HeaderPlace.{header_size};
 
 use crate::fields::HeaderFields;
@@ -29,11 +29,33 @@ impl Model for Header {
 
     ghost Value = { TheHeader };
 
-    ghost view = { λ a. record { order = a.order; format = a.format; kind = a.kind; address_size = a.address_size; abbrev_offset = a.abbrev_offset } };
+    ghost view = { λ a.
+        record {
+          order = a.order;
+          format = a.format;
+          kind = a.kind;
+          address_size = a.address_size;
+          abbrev_offset = a.abbrev_offset;
+        } };
 
-    ghost invariant = { λ a. HeaderFits (record { order = a.order; format = a.format; kind = a.kind; address_size = a.address_size; abbrev_offset = a.abbrev_offset }) };
+    ghost invariant = { λ a.
+        HeaderFits
+        (record {
+          order = a.order;
+          format = a.format;
+          kind = a.kind;
+          address_size = a.address_size;
+          abbrev_offset = a.abbrev_offset;
+        }) };
 
-    ghost inverse = { λ h. record { order = h.order; format = h.format; kind = h.kind; address_size = h.address_size; abbrev_offset = h.abbrev_offset } };
+    ghost inverse = { λ h.
+        record {
+          order = h.order;
+          format = h.format;
+          kind = h.kind;
+          address_size = h.address_size;
+          abbrev_offset = h.abbrev_offset;
+        } };
 }
 
 impl Header {
@@ -47,8 +69,8 @@ impl Header {
         address_size: u8,
         abbrev_offset: u64,
     ) -> Option<Header>
-        ensures some { IsSome result ↔ HeaderFits (record { order = order; format = format; kind = kind; address_size = address_size; abbrev_offset = abbrev_offset }) }
-        ensures value { IfSome result (λ h. h ≡ record { order = order; format = format; kind = kind; address_size = address_size; abbrev_offset = abbrev_offset }) }
+        ensures some { IsSome result ↔ HeaderFits (header_of order format kind address_size abbrev_offset) }
+        ensures value { IfSome result (λ h. h ≡ header_of order format kind address_size abbrev_offset) }
     {
         if address_size < 1 || address_size > 8 {
             return None;

@@ -17,7 +17,8 @@ pub fn one_spelling()
     ensures none_begins { NoHeaderBegins }
     ensures spelled { HeadersAreSpelled }
     ensures stand { SpelledHeadersStand }
-    ensures fields_under { (versions : Versions) (order : Order) (format : Format) → NoneBegins (fields_under versions order format) }
+    ensures fields_under { (versions : Versions) (order : Order) (format : Format)
+        → NoneBegins (fields_under versions order format) }
     ensures accepted { HeadersAreAccepted }
     ensures stand_where_accepted { HeadersStandWhereAccepted }
     ensures spelled_under { (versions : Versions) → HeadersAreSpelledUnder versions }
@@ -41,7 +42,8 @@ pub fn outcomes_are_stable()
     ensures fields { (order : Order) (format : Format) → Stays (fields order format).Break }
     ensures breaks { HeaderBreaksStay }
     ensures headers { HeadersStay }
-    ensures fields_under { (versions : Versions) (order : Order) (format : Format) → Stays (fields_under versions order format).Break }
+    ensures fields_under { (versions : Versions) (order : Order) (format : Format)
+        → Stays (fields_under versions order format).Break }
     ensures breaks_under { (versions : Versions) → HeaderBreaksStayUnder versions }
     ensures headers_under { (versions : Versions) → HeadersStayUnder versions }
 {}

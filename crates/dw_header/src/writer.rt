@@ -25,7 +25,9 @@ pub fn write_header<W: Write>(
 ) -> Result<(), WriteError>
     requires fits { FitsLength header.format unit_length }
     requires clear { fault_of writer.old ≡ None }
-    ensures written { Wrote (W.contents (inner_of writer.old)) (W.contents (inner_of writer.new)) (header_bytes header unit_length) result }
+    ensures written { Wrote (W.contents (inner_of writer.old)) (W.contents (inner_of writer.new))
+        (header_bytes header unit_length)
+        result }
     ensures fault { fault_of writer.new ≡ writer_fault result }
 {
     write_all(
@@ -49,7 +51,10 @@ pub(crate) fn field_bytes(header: Header) -> ArrayVec<u8, 32>
 
 /// The fields of a header of version 5.
 fn five_bytes(header: Header) -> ArrayVec<u8, 32>
-    ensures spelling { result.items ≡ (fixed header.order 2).spell 5 ++ (five_part header.order header.format).spell (kind_number header.kind, (header.address_size, (header.abbrev_offset, kind_fields header.kind))) }
+    ensures spelling { result.items
+        ≡ (fixed header.order 2).spell 5
+        ++ (five_part header.order header.format).spell
+        (kind_number header.kind, (header.address_size, (header.abbrev_offset, kind_fields header.kind))) }
 {
     let (order, format) = (header.order(), header.format());
     let context = header.context();
@@ -64,7 +69,9 @@ fn five_bytes(header: Header) -> ArrayVec<u8, 32>
 
 /// The fields of a header of version 4 (section 7.5.1.1 of DWARF 4).
 fn four_bytes(header: Header) -> ArrayVec<u8, 32>
-    ensures spelling { result.items ≡ (fixed header.order 2).spell 4 ++ (four_part header.order header.format).spell (header.abbrev_offset, header.address_size) }
+    ensures spelling { result.items
+        ≡ (fixed header.order 2).spell 4
+        ++ (four_part header.order header.format).spell (header.abbrev_offset, header.address_size) }
 {
     let (order, format) = (header.order(), header.format());
     let context = header.context();

@@ -37,4 +37,6 @@ section_name sections.Abbrev = codes "abbrev"
 
 -- `fault info 0x11 Truncated`: the section, where the field begins, in hexadecimal digits, and why it is refused
 abbrev pub fault_text : Fault → List ℕ
-fault_text f = codes "fault " ++ (section_name f.section ++ (codes " 0x" ++ (digits 16 false f.offset ++ (codes " " ++ reason_name f.reason))))
+fault_text f =
+    codes "fault "
+    ++ (section_name f.section ++ (codes " 0x" ++ (digits 16 false f.offset ++ (codes " " ++ reason_name f.reason))))

@@ -12,12 +12,17 @@ NoneBegins {X} P = (x y : X) (a b : List ℕ) → P.Fits x → P.Fits y → P.sp
 
 -- bytes have exactly one of: one value at the front within lim, one break
 pub record OneAnswer {X : Type 0} (P : Part X) : Type 0 where
-  pub one_break : (bytes : List ℕ) (lim m n : ℕ) (r s : Reason) → P.Break bytes lim m r → P.Break bytes lim n s → (m ≡ n) × (r ≡ s)
-  pub not_both : (x : X) (rest : List ℕ) (lim offset : ℕ) (reason : Reason) → P.Fits x → length (P.spell x) ≤ lim → P.Break (P.spell x ++ rest) lim offset reason → ⊥
-  pub some : (bytes : List ℕ) (lim : ℕ) → AreBytes bytes → ((x : X) × (size : ℕ) × Taken P bytes lim x size) ⊎ ((offset : ℕ) × (reason : Reason) × P.Break bytes lim offset reason)
+  pub one_break : (bytes : List ℕ) (lim m n : ℕ) (r s : Reason) → P.Break bytes lim m r → P.Break bytes lim n s
+      → (m ≡ n) × (r ≡ s)
+  pub not_both : (x : X) (rest : List ℕ) (lim offset : ℕ) (reason : Reason) → P.Fits x → length (P.spell x) ≤ lim
+      → P.Break (P.spell x ++ rest) lim offset reason → ⊥
+  pub some : (bytes : List ℕ) (lim : ℕ) → AreBytes bytes
+      → ((x : X) × (size : ℕ) × Taken P bytes lim x size)
+      ⊎ ((offset : ℕ) × (reason : Reason) × P.Break bytes lim offset reason)
 
 some_answer : {X : Type 0} (P : Part X) (bytes : List ℕ) (lim : ℕ) (o : Outcome X) → Says P bytes lim o
-    → ((x : X) × (size : ℕ) × Taken P bytes lim x size) ⊎ ((offset : ℕ) × (reason : Reason) × P.Break bytes lim offset reason)
+    → ((x : X) × (size : ℕ) × Taken P bytes lim x size)
+    ⊎ ((offset : ℕ) × (reason : Reason) × P.Break bytes lim offset reason)
 some_answer P bytes lim (Found x size) h = inl (x, size, h)
 some_answer P bytes lim (Broken offset reason) h = inr (offset, reason, h)
 

@@ -31,9 +31,9 @@ abbrev pub IsCut : {X : Type 0} → Outcome X → Type 0
 IsCut (Found x size) = ⊥
 IsCut (Broken offset reason) = reason ≡ Truncated
 
--- A reader's outcome first stands at its moment: fewer bytes than are wanted are cut off (waits), as many are not (stands).
--- Where longer bytes have their moment within a front, so has the front (early), then it is the same moment (steady), and the
--- outcome is the same (stays). What is found has as many bytes as are wanted (whole).
+-- A reader's outcome first stands at its moment: fewer bytes than are wanted are cut off (waits), as many are not
+-- (stands). Where longer bytes have their moment within a front, so has the front (early), then it is the same moment
+-- (steady), and the outcome is the same (stays). What is found has as many bytes as are wanted (whole).
 pub record HasMoment {X : Type 0} (R : Reader X) (m : Moment) : Type 0 where
   pub waits : (bytes : List ℕ) (lim : ℕ) → length bytes < m bytes lim → IsCut (R bytes lim)
   pub stands : (bytes : List ℕ) (lim : ℕ) → m bytes lim ≤ length bytes → IsCut (R bytes lim) → ⊥
@@ -67,7 +67,8 @@ module _ {X : Type 0} (R : Reader X) (m : Moment) (it : HasMoment R m) where
   ]
 
   -- and the outcome stood at the moment, with no byte more: not later
-  pub front_stands : (front rest : List ℕ) (lim : ℕ) → m (front ++ rest) lim ≤ length front → R front lim ≡ R (front ++ rest) lim
+  pub front_stands : (front rest : List ℕ) (lim : ℕ) → m (front ++ rest) lim ≤ length front
+      → R front lim ≡ R (front ++ rest) lim
   front_stands front rest lim h = sym (it.stays front rest lim (it.early front rest lim h))
 
 -- ---- the combinators
@@ -118,7 +119,8 @@ module _ {A X : Type 0} (f : A → X) (R : Reader A) (m : Moment) (it : HasMomen
     whole = λ bytes lim x size e. let b = size_back (R bytes lim) x size e in it.whole bytes lim b.0 size b.1;
   }
 
-module _ {A : Type 0} (R : Reader A) (meaning : A → Option Reason) (judges : Judges meaning) (m : Moment) (it : HasMoment R m) where
+module _ {A : Type 0} (R : Reader A) (meaning : A → Option Reason) (judges : Judges meaning) (m : Moment)
+    (it : HasMoment R m) where
   cut_checked : (o : Outcome A) → IsCut o → IsCut (judged_outcome meaning o)
   cut_checked (Found a size) c = absurd c
   cut_checked (Broken offset reason) c = c
@@ -135,7 +137,8 @@ module _ {A : Type 0} (R : Reader A) (meaning : A → Option Reason) (judges : J
   same_size a s None x size e = (found_value a x s size e).1
   same_size a s (Some reason) x size e = absurd cc
 
-  checked_size : (o : Outcome A) (x : A) (size : ℕ) → judged_outcome meaning o ≡ Found x size → (a : A) × (o ≡ Found a size)
+  checked_size : (o : Outcome A) (x : A) (size : ℕ) → judged_outcome meaning o ≡ Found x size
+      → (a : A) × (o ≡ Found a size)
   checked_size (Found a s) x size e = (a, ap (λ (n : ℕ). found a n) (same_size a s (meaning a) x size e))
   checked_size (Broken offset reason) x size e = absurd cc
 
@@ -180,7 +183,8 @@ behind_moment (Broken offset reason) own next bytes lim = own
 abbrev pub moment_then : {A : Type 0} → Reader A → Moment → (A → Moment) → Moment
 moment_then R m next bytes lim = behind_moment (R bytes lim) (m bytes lim) next bytes lim
 
-module _ {A B : Type 0} (R : Reader A) (S : A → Reader B) (m : Moment) (n : A → Moment) (first : HasMoment R m) (second : (a : A) → HasMoment (S a) (n a)) where
+module _ {A B : Type 0} (R : Reader A) (S : A → Reader B) (m : Moment) (n : A → Moment) (first : HasMoment R m)
+    (second : (a : A) → HasMoment (S a) (n a)) where
   cut_paired : (a : A) (size : ℕ) (o : Outcome B) → IsCut o → IsCut (paired a size o)
   cut_paired a size (Found b own) c = c
   cut_paired a size (Broken offset reason) c = c
@@ -189,56 +193,83 @@ module _ {A B : Type 0} (R : Reader A) (S : A → Reader B) (m : Moment) (n : A 
   paired_back a size (Found b own) c = c
   paired_back a size (Broken offset reason) c = c
 
-  by_waits : (bytes : List ℕ) (lim : ℕ) (o : Outcome A) → R bytes lim ≡ o → length bytes < behind_moment o (m bytes lim) n bytes lim → IsCut (behind o S bytes lim)
+  by_waits : (bytes : List ℕ) (lim : ℕ) (o : Outcome A) → R bytes lim ≡ o
+      → length bytes < behind_moment o (m bytes lim) n bytes lim → IsCut (behind o S bytes lim)
   by_waits bytes lim (Found a size) e h =
-      cut_paired a size (S a (drop size bytes) (lim - size)) ((second a).waits (drop size bytes) (lim - size) (omega (arith, h, length-drop size bytes, there R m first bytes lim a size e)))
+      cut_paired a size (S a (drop size bytes) (lim - size))
+      ((second a).waits (drop size bytes) (lim - size)
+      (omega (arith, h, length-drop size bytes, there R m first bytes lim a size e)))
   by_waits bytes lim (Broken offset reason) e h = subst IsCut e (first.waits bytes lim h)
 
-  by_stands : (bytes : List ℕ) (lim : ℕ) (o : Outcome A) → R bytes lim ≡ o → behind_moment o (m bytes lim) n bytes lim ≤ length bytes → IsCut (behind o S bytes lim) → ⊥
+  by_stands : (bytes : List ℕ) (lim : ℕ) (o : Outcome A) → R bytes lim ≡ o
+      → behind_moment o (m bytes lim) n bytes lim ≤ length bytes → IsCut (behind o S bytes lim) → ⊥
   by_stands bytes lim (Found a size) e h c =
-      (second a).stands (drop size bytes) (lim - size) (omega (arith, h, length-drop size bytes, there R m first bytes lim a size e)) (paired_back a size (S a (drop size bytes) (lim - size)) c)
+      (second a).stands (drop size bytes) (lim - size)
+      (omega (arith, h, length-drop size bytes, there R m first bytes lim a size e))
+      (paired_back a size (S a (drop size bytes) (lim - size)) c)
   by_stands bytes lim (Broken offset reason) e h c = first.stands bytes lim h (subst IsCut (sym e) c)
 
-  by_early : (bytes more : List ℕ) (lim : ℕ) (o : Outcome A) → R (bytes ++ more) lim ≡ o → behind_moment o (m (bytes ++ more) lim) n (bytes ++ more) lim ≤ length bytes
+  by_early : (bytes more : List ℕ) (lim : ℕ) (o : Outcome A) → R (bytes ++ more) lim ≡ o
+      → behind_moment o (m (bytes ++ more) lim) n (bytes ++ more) lim ≤ length bytes
       → behind_moment (R bytes lim) (m bytes lim) n bytes lim ≤ length bytes
   by_early bytes more lim (Found a size) e h =
       let le : size ≤ length bytes = omega (arith, h) in
-      let own : m bytes lim ≤ length bytes = first.early bytes more lim (omega (arith, first.whole (bytes ++ more) lim a size e, le)) in
+      let own : m bytes lim ≤ length bytes =
+      first.early bytes more lim (omega (arith, first.whole (bytes ++ more) lim a size e, le)) in
       let same : R bytes lim ≡ Found a size = sym (first.stays bytes more lim own) ∙ e in
       let second_early : n a (drop size bytes) (lim - size) ≤ length (drop size bytes) =
-      (second a).early (drop size bytes) more (lim - size) (omega (arith, h, length-drop size bytes, ap (λ (bs : List ℕ). n a bs (lim - size)) (drop-append-le size bytes more le))) in
-      subst (λ (o : Outcome A). behind_moment o (m bytes lim) n bytes lim ≤ length bytes) (sym same) (omega (arith, second_early, length-drop size bytes, le))
+      (second a).early (drop size bytes) more (lim - size)
+      (omega (
+        arith,
+        h,
+        length-drop size bytes,
+        ap (λ (bs : List ℕ). n a bs (lim - size)) (drop-append-le size bytes more le),
+      ))
+      in
+      subst (λ (o : Outcome A). behind_moment o (m bytes lim) n bytes lim ≤ length bytes) (sym same)
+      (omega (arith, second_early, length-drop size bytes, le))
   by_early bytes more lim (Broken offset reason) e h =
       let own : m bytes lim ≤ length bytes = first.early bytes more lim h in
       let same : R bytes lim ≡ Broken offset reason = sym (first.stays bytes more lim own) ∙ e in
       subst (λ (o : Outcome A). behind_moment o (m bytes lim) n bytes lim ≤ length bytes) (sym same) own
 
-  by_steady : (bytes more : List ℕ) (lim : ℕ) (o : Outcome A) → R bytes lim ≡ o → behind_moment o (m bytes lim) n bytes lim ≤ length bytes
-      → behind_moment (R (bytes ++ more) lim) (m (bytes ++ more) lim) n (bytes ++ more) lim ≡ behind_moment o (m bytes lim) n bytes lim
+  by_steady : (bytes more : List ℕ) (lim : ℕ) (o : Outcome A) → R bytes lim ≡ o
+      → behind_moment o (m bytes lim) n bytes lim ≤ length bytes
+      → behind_moment (R (bytes ++ more) lim) (m (bytes ++ more) lim) n (bytes ++ more) lim
+      ≡ behind_moment o (m bytes lim) n bytes lim
   by_steady bytes more lim (Found a size) e h =
       let le : size ≤ length bytes = there R m first bytes lim a size e in
       let own : m bytes lim ≤ length bytes = omega (arith, first.whole bytes lim a size e, le) in
-      ap (λ (o : Outcome A). behind_moment o (m (bytes ++ more) lim) n (bytes ++ more) lim) (first.stays bytes more lim own ∙ e)
+      ap (λ (o : Outcome A). behind_moment o (m (bytes ++ more) lim) n (bytes ++ more) lim)
+      (first.stays bytes more lim own ∙ e)
       ∙ ap (λ (bs : List ℕ). size + n a bs (lim - size)) (drop-append-le size bytes more le)
-      ∙ ap (λ (k : ℕ). size + k) ((second a).steady (drop size bytes) more (lim - size) (omega (arith, h, length-drop size bytes, le)))
+      ∙ ap (λ (k : ℕ). size + k)
+      ((second a).steady (drop size bytes) more (lim - size) (omega (arith, h, length-drop size bytes, le)))
   by_steady bytes more lim (Broken offset reason) e h =
-      ap (λ (o : Outcome A). behind_moment o (m (bytes ++ more) lim) n (bytes ++ more) lim) (first.stays bytes more lim h ∙ e)
+      ap (λ (o : Outcome A). behind_moment o (m (bytes ++ more) lim) n (bytes ++ more) lim)
+      (first.stays bytes more lim h ∙ e)
       ∙ first.steady bytes more lim h
 
-  by_stays : (bytes more : List ℕ) (lim : ℕ) (o : Outcome A) → R bytes lim ≡ o → behind_moment o (m bytes lim) n bytes lim ≤ length bytes → behind (R (bytes ++ more) lim) S (bytes ++ more) lim ≡ behind o S bytes lim
+  by_stays : (bytes more : List ℕ) (lim : ℕ) (o : Outcome A) → R bytes lim ≡ o
+      → behind_moment o (m bytes lim) n bytes lim ≤ length bytes
+      → behind (R (bytes ++ more) lim) S (bytes ++ more) lim ≡ behind o S bytes lim
   by_stays bytes more lim (Found a size) e h =
       let le : size ≤ length bytes = there R m first bytes lim a size e in
       let own : m bytes lim ≤ length bytes = omega (arith, first.whole bytes lim a size e, le) in
       ap (λ (o : Outcome A). behind o S (bytes ++ more) lim) (first.stays bytes more lim own ∙ e)
       ∙ ap (λ (bs : List ℕ). paired a size (S a bs (lim - size))) (drop-append-le size bytes more le)
-      ∙ ap (paired a size) ((second a).stays (drop size bytes) more (lim - size) (omega (arith, h, length-drop size bytes, le)))
-  by_stays bytes more lim (Broken offset reason) e h = ap (λ (o : Outcome A). behind o S (bytes ++ more) lim) (first.stays bytes more lim h ∙ e)
+      ∙ ap (paired a size)
+      ((second a).stays (drop size bytes) more (lim - size) (omega (arith, h, length-drop size bytes, le)))
+  by_stays bytes more lim (Broken offset reason) e h =
+      ap (λ (o : Outcome A). behind o S (bytes ++ more) lim) (first.stays bytes more lim h ∙ e)
 
-  paired_size : (a : A) (size : ℕ) (o : Outcome B) (x : A × B) (total : ℕ) → paired a size o ≡ Found x total → (b : B) × (own : ℕ) × (o ≡ Found b own) × (size + own ≡ total)
+  paired_size : (a : A) (size : ℕ) (o : Outcome B) (x : A × B) (total : ℕ) → paired a size o ≡ Found x total
+      → (b : B) × (own : ℕ) × (o ≡ Found b own) × (size + own ≡ total)
   paired_size a size (Found b own) x total e = (b, own, refl, (found_value (a, b) x (size + own) total e).1)
   paired_size a size (Broken offset reason) x total e = absurd cc
 
-  by_whole : (bytes : List ℕ) (lim : ℕ) (o : Outcome A) (x : A × B) (total : ℕ) → behind o S bytes lim ≡ Found x total → behind_moment o (m bytes lim) n bytes lim ≡ total
+  by_whole : (bytes : List ℕ) (lim : ℕ) (o : Outcome A) (x : A × B) (total : ℕ) → behind o S bytes lim ≡ Found x total
+      → behind_moment o (m bytes lim) n bytes lim ≡ total
   by_whole bytes lim (Found a size) x total e =
       let p = paired_size a size (S a (drop size bytes) (lim - size)) x total e in
       ap (λ (k : ℕ). size + k) ((second a).whole (drop size bytes) (lim - size) p.0 p.1 p.2) ∙ p.3
@@ -258,7 +289,8 @@ abbrev pub optional_when : Bool → Moment → Moment
 optional_when true m = m
 optional_when false m = at_no_byte
 
-pub optional_moment : {A : Type 0} (b : Bool) (R : Reader A) (m : Moment) → HasMoment R m → HasMoment (read_optional b R) (optional_when b m)
+pub optional_moment : {A : Type 0} (b : Bool) (R : Reader A) (m : Moment) → HasMoment R m
+    → HasMoment (read_optional b R) (optional_when b m)
 optional_moment true R m it = made_moment (λ a. Some a) R m it
 optional_moment false R m it = returned_moment None
 
@@ -271,7 +303,8 @@ bounded n R bytes lim = R bytes n
 abbrev pub bounded_by : ℕ → Moment → Moment
 bounded_by n m bytes lim = m bytes n
 
-pub bounded_moment : {X : Type 0} (n : ℕ) (R : Reader X) (m : Moment) → HasMoment R m → HasMoment (bounded n R) (bounded_by n m)
+pub bounded_moment : {X : Type 0} (n : ℕ) (R : Reader X) (m : Moment) → HasMoment R m
+    → HasMoment (bounded n R) (bounded_by n m)
 bounded_moment n R m it = record {
   waits = λ bytes lim h. it.waits bytes n h;
   stands = λ bytes lim h c. it.stands bytes n h c;
@@ -282,7 +315,8 @@ bounded_moment n R m it = record {
 }
 
 -- a reader that gives the same
-pub same_moment : {X : Type 0} (R S : Reader X) (m : Moment) → ((bytes : List ℕ) (lim : ℕ) → S bytes lim ≡ R bytes lim) → HasMoment R m → HasMoment S m
+pub same_moment : {X : Type 0} (R S : Reader X) (m : Moment) → ((bytes : List ℕ) (lim : ℕ) → S bytes lim ≡ R bytes lim)
+    → HasMoment R m → HasMoment S m
 same_moment R S m e it = record {
   waits = λ bytes lim h. subst IsCut (sym (e bytes lim)) (it.waits bytes lim h);
   stands = λ bytes lim h c. it.stands bytes lim h (subst IsCut (e bytes lim) c);

@@ -1,5 +1,6 @@
--- Numbers in bytes: fixed sizes, LEB128 with its written width (section 7.6), initial lengths (sections 7.2.2 and 7.4), and lists of bytes.
--- In a break, bytes is the rest of the input and lim the count of bytes that are left to the unit's end.
+-- Numbers in bytes: fixed sizes, LEB128 with its written width (section 7.6), initial lengths (sections 7.2.2 and 7.4),
+-- and lists of bytes. In a break, bytes is the rest of the input and lim the count of bytes that are left to the unit's
+-- end.
 use Rattle.std.specs.Prelude.{◌≡◌, ℕ, zero, suc, ◌+◌, ◌-◌, ◌*◌, ◌/◌, ◌%◌, ◌^◌, ◌<◌, ◌≤◌, min, ◌⊎◌, List, [], ◌∷◌, ◌++◌, length, take, reverse, Option, Some, None, nat_lt, nat_le, ◌==◌, if◌then◌else◌, ℤ, pos, negsuc, ◌&&◌}
 use Rattle.std.specs.List.{AllByRecursion}
 pub use Rattle.dw_leb.specs.declared.order.Order.{Order}
@@ -19,7 +20,8 @@ fixed_bytes Big n x = reverse (digits 256 n x)
 
 -- n bytes can't be taken: past the unit's end first, then past the input
 abbrev pub Short : ℕ → Breaks
-Short n bytes lim offset reason = (offset ≡ 0) × ((lim < n) × (reason ≡ PastUnit) ⊎ (n ≤ lim) × (length bytes < n) × (reason ≡ Truncated))
+Short n bytes lim offset reason =
+    (offset ≡ 0) × ((lim < n) × (reason ≡ PastUnit) ⊎ (n ≤ lim) × (length bytes < n) × (reason ≡ Truncated))
 
 -- a number in n bytes
 abbrev pub fixed : Order → ℕ → Part ℕ
@@ -94,7 +96,8 @@ pub record UlebFits (u : Unsigned) : Type 0 where
   pub held : u.value < 128 ^ u.width
   pub range : u.value < 2 ^ 64
 
--- the number itself, and of a negative one its distance from -1 (negsuc n is -n - 1), so that both ends of a range in two's complement are one bound
+-- the number itself, and of a negative one its distance from -1 (negsuc n is -n - 1), so that both ends of a range in
+-- two's complement are one bound
 abbrev pub extent : ℤ → ℕ
 extent (pos n) = n
 extent (negsuc n) = n
@@ -149,16 +152,18 @@ as_initial (Dwarf64, n) = Some (0xffffffff, Some n)
 abbrev pub too_far : ℕ → Format × ℕ → Option Reason
 too_far start x = if nat_lt (start + length_size x.0 + x.1) (2 ^ 63) then None else Some LengthTooBig
 
--- The spelling of an initial length: the format, and the count of bytes after the field. One field, its ff ff ff ff included.
+-- The spelling of an initial length: the format, and the count of bytes after the field. One field, its ff ff ff ff
+-- included.
 abbrev pub length_field : Order → Part (Format × ℕ)
-length_field order = whole (seen as_initial (judged (fixed order 4) reserved then λ x. optional (x == 0xffffffff) (fixed order 8)))
+length_field order =
+    whole (seen as_initial (judged (fixed order 4) reserved then λ x. optional (x == 0xffffffff) (fixed order 8)))
 
 -- the initial length of a unit that begins at start: so spelled, and with the unit's end where it may be
 abbrev pub initial_length : Order → ℕ → Part (Format × ℕ)
 initial_length order start = judged (length_field order) (too_far start)
 
--- The lim under which an initial length is read: its largest size. What is read alone has no end of its own, and no field of
--- the length reaches past this, so that it breaks for Truncated and never for PastUnit.
+-- The lim under which an initial length is read: its largest size. What is read alone has no end of its own, and no
+-- field of the length reaches past this, so that it breaks for Truncated and never for PastUnit.
 abbrev pub length_limit : ℕ
 length_limit = 12
 

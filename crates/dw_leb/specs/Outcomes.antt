@@ -11,6 +11,7 @@ outcome_from view (Ok x) = Found (view x.0) x.1
 outcome_from view (Err e) = Broken e.offset e.reason
 
 -- what is told of a decided part fits
-pub outcome_fits : {X Y : Type 0} (view : X → Y) (P : Part Y) (bytes : List ℕ) (lim : ℕ) (r : Result (X × ℕ) Bad) → Says P bytes lim (outcome_from view r) → IfOk r (λ x. P.Fits (view x.0))
+pub outcome_fits : {X Y : Type 0} (view : X → Y) (P : Part Y) (bytes : List ℕ) (lim : ℕ) (r : Result (X × ℕ) Bad)
+    → Says P bytes lim (outcome_from view r) → IfOk r (λ x. P.Fits (view x.0))
 outcome_fits view P bytes lim (Ok x) h = h.fits
 outcome_fits view P bytes lim (Err e) h = tt

@@ -1,7 +1,29 @@
 -- What a part of the grammar is: how a value is spelled, which values have a spelling, and where bytes break.
 use Rattle.std.specs.Prelude.{◌≡◌, ℕ, ◌+◌, ◌-◌, ◌≤◌, ◌⊎◌, List, [], ◌++◌, length, Option, Some, None, Bool, true, false}
 pub use Rattle.dw_leb.specs.declared.errors.Reason.{Reason}
-pub use Rattle.dw_leb.specs.declared.errors.Reason.TheVariants.{Truncated, PastUnit, ReservedLength, BadVersion, BadUnitType, BadAddressSize, LebTooLong, LebTooBig, NoRoot, UnknownCode, UnknownForm, BadIndirect, TooDeep, SecondRoot, AbbrevOffset, BadChildren, HalfPair, DuplicateCode, TooManyPairs, LengthTooBig}
+pub use
+    Rattle.dw_leb.specs.declared.errors.Reason.TheVariants.{
+      Truncated,
+      PastUnit,
+      ReservedLength,
+      BadVersion,
+      BadUnitType,
+      BadAddressSize,
+      LebTooLong,
+      LebTooBig,
+      NoRoot,
+      UnknownCode,
+      UnknownForm,
+      BadIndirect,
+      TooDeep,
+      SecondRoot,
+      AbbrevOffset,
+      BadChildren,
+      HalfPair,
+      DuplicateCode,
+      TooManyPairs,
+      LengthTooBig,
+    }
 
 -- A break of bytes: the bytes, how many of them the unit still has (lim), the offset of the broken field, and why.
 abbrev pub Breaks : Type 1
@@ -24,7 +46,8 @@ pub record After (s : List ℕ) (P : Breaks) (bytes : List ℕ) (lim offset : �
   pub breaks : P rest (lim - length s) own reason
 
 -- x is spelled at the front, within lim, and its meaning is refused: at its own first byte.
-pub record Refused {X : Type 0} (P : Part X) (meaning : X → Option Reason) (bytes : List ℕ) (lim offset : ℕ) (reason : Reason) : Type 0 where
+pub record Refused {X : Type 0} (P : Part X) (meaning : X → Option Reason) (bytes : List ℕ) (lim offset : ℕ)
+    (reason : Reason) : Type 0 where
   pub value : X
   pub rest : List ℕ
   pub fits : P.Fits value
@@ -40,7 +63,9 @@ abbrev pub ◌then◌ : {A B : Type 0} → Part A → (A → Part B) → Part (A
 A then B = record {
   spell = λ x. A.spell x.0 ++ (B x.0).spell x.1;
   Fits = λ x. A.Fits x.0 × (B x.0).Fits x.1;
-  Break = λ bytes lim offset reason. A.Break bytes lim offset reason ⊎ ((a : _) × A.Fits a × After (A.spell a) (B a).Break bytes lim offset reason);
+  Break =
+      λ bytes lim offset reason.
+      A.Break bytes lim offset reason ⊎ ((a : _) × A.Fits a × After (A.spell a) (B a).Break bytes lim offset reason);
 }
 
 -- Spelling is judged before meaning.

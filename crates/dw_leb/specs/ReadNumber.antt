@@ -16,7 +16,9 @@ ordered Big bytes = reverse bytes
 
 -- n bytes, or why not
 abbrev pub bytes_of : ℕ → Reader (List ℕ)
-bytes_of n bytes lim = if nat_lt lim n then Broken 0 PastUnit else (if nat_lt (length bytes) n then Broken 0 Truncated else Found (take n bytes) n)
+bytes_of n bytes lim =
+    if nat_lt lim n then Broken 0 PastUnit
+    else (if nat_lt (length bytes) n then Broken 0 Truncated else Found (take n bytes) n)
 
 abbrev pub read_fixed : Order → ℕ → Reader ℕ
 read_fixed order n = made (λ bytes. undigits 256 (ordered order bytes)) (bytes_of n)
@@ -24,7 +26,8 @@ read_fixed order n = made (λ bytes. undigits 256 (ordered order bytes)) (bytes_
 -- the bytes before the first 0, or none
 abbrev pub before_zero : List ℕ → Option (List ℕ)
 before_zero [] = None
-before_zero (b ∷ bytes) = if b == 0 then Some [] else elim (before_zero bytes) [ None ↦ None | Some front ↦ Some (b ∷ front) ]
+before_zero (b ∷ bytes) =
+    if b == 0 then Some [] else elim (before_zero bytes) [ None ↦ None | Some front ↦ Some (b ∷ front) ]
 
 abbrev pub text_outcome : ℕ → ℕ → Option (List ℕ) → Outcome (List ℕ)
 text_outcome m lim None = Broken 0 (unended m lim)
@@ -36,7 +39,9 @@ read_text bytes lim = let m = min (length bytes) lim in text_outcome m lim (befo
 -- the groups up to the first byte below 128, or none
 abbrev pub groups_of : List ℕ → Option (List ℕ)
 groups_of [] = None
-groups_of (b ∷ bytes) = if nat_lt b 128 then Some (b ∷ []) else elim (groups_of bytes) [ None ↦ None | Some front ↦ Some ((b - 128) ∷ front) ]
+groups_of (b ∷ bytes) =
+    if nat_lt b 128 then Some (b ∷ [])
+    else elim (groups_of bytes) [ None ↦ None | Some front ↦ Some ((b - 128) ∷ front) ]
 
 abbrev pub groups_outcome : ℕ → ℕ → Option (List ℕ) → Outcome (List ℕ)
 groups_outcome m lim None = Broken 0 (unmarked m lim)
@@ -67,7 +72,10 @@ initial_from (n, None) = (Dwarf32, n)
 initial_from (n, Some m) = (Dwarf64, m)
 
 abbrev pub read_length_field : Order → Reader (Format × ℕ)
-read_length_field order = one_field (made initial_from (checked (read_fixed order 4) reserved and_then λ x. read_optional (x == 0xffffffff) (read_fixed order 8)))
+read_length_field order =
+    one_field
+    (made initial_from
+    (checked (read_fixed order 4) reserved and_then λ x. read_optional (x == 0xffffffff) (read_fixed order 8)))
 
 abbrev pub read_length : Order → ℕ → Reader (Format × ℕ)
 read_length order start = checked (read_length_field order) (too_far start)

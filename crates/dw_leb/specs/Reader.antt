@@ -73,7 +73,12 @@ module _ {H B : Type 0} (head : List (H × B) → Reader H) (ends : H → Bool) 
   abbrev pub read_items : ℕ → List (H × B) → Reader (List (H × B) × H)
   read_items zero before bytes lim = Broken 0 Truncated
   read_items (suc fuel) before bytes lim =
-      made joined (head before and_then λ h. read_optional (if ends h then false else true) (body h and_then λ b. read_items fuel (before ++ (h, b) ∷ []))) bytes lim
+      made joined
+      (head before and_then
+      λ h.
+      read_optional (if ends h then false else true)
+      (body h and_then λ b. read_items fuel (before ++ (h, b) ∷ [])))
+      bytes lim
 
   abbrev pub read_repeated : Reader (List (H × B) × H)
   read_repeated bytes lim = read_items (suc (length bytes)) [] bytes lim
@@ -88,7 +93,8 @@ abbrev pub seen_by : {X Y : Type 0} → (X → Y) → Result X Reason → Result
 seen_by view (Ok x) = Ok (view x)
 seen_by view (Err reason) = Err reason
 
--- the outcome of reading one field where a call answers so: its size is told by its value, and it breaks at its first byte
+-- the outcome of reading one field where a call answers so: its size is told by its value, and it breaks at its first
+-- byte
 abbrev pub outcome_of : {X Y : Type 0} → (X → Y) → (Y → ℕ) → Result X Reason → Outcome Y
 outcome_of view size (Ok x) = Found (view x) (size (view x))
 outcome_of view size (Err reason) = Broken 0 reason

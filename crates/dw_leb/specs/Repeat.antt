@@ -3,7 +3,8 @@ use Rattle.std.specs.Prelude.{◌≡◌, ℕ, Bool, true, false, List, [], ◌�
 use Rattle.dw_leb.specs.Part.{Breaks, Part, After}
 
 -- Items one after the other, until a head that ends them. An item is a head and what belongs to it; a head may hang on
--- the items before it. They break where, behind some whole items, the next head breaks, or what belongs to a head that is no end.
+-- the items before it. They break where, behind some whole items, the next head breaks, or what belongs to a head that
+-- is no end.
 module _ {H B : Type 0} (head : List (H × B) → Part H) (ends : H → Bool) (body : H → Part B) where
   abbrev pub item_bytes : List (H × B) → H × B → List ℕ
   item_bytes before x = (head before).spell x.0 ++ (body x.0).spell x.1
@@ -21,8 +22,10 @@ module _ {H B : Type 0} (head : List (H × B) → Part H) (ends : H → Bool) (b
 
   abbrev pub BreaksBehind : List (H × B) → List (H × B) → Breaks
   BreaksBehind before [] bytes lim offset reason = (head before).Break bytes lim offset reason
-      ⊎ ((h : H) × (head before).Fits h × (ends h ≡ false) × After ((head before).spell h) (body h).Break bytes lim offset reason)
-  BreaksBehind before (x ∷ xs) bytes lim offset reason = ItemFits before x × After (item_bytes before x) (BreaksBehind (before ++ x ∷ []) xs) bytes lim offset reason
+      ⊎ ((h : H) × (head before).Fits h × (ends h ≡ false)
+      × After ((head before).spell h) (body h).Break bytes lim offset reason)
+  BreaksBehind before (x ∷ xs) bytes lim offset reason =
+      ItemFits before x × After (item_bytes before x) (BreaksBehind (before ++ x ∷ []) xs) bytes lim offset reason
 
   abbrev pub repeated : Part (List (H × B) × H)
   repeated = record {

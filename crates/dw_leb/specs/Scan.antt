@@ -25,11 +25,13 @@ front_found bytes lim m None = Err (unmarked m lim)
 front_found bytes lim m (Some i) = Ok (take (i + 1) bytes)
 
 abbrev pub front_at : List ℕ → ℕ → Result (List ℕ) Reason
-front_at bytes lim = let m = min (length bytes) lim in front_found bytes lim m (position is_last (take (min 16 m) bytes))
+front_at bytes lim =
+    let m = min (length bytes) lim in front_found bytes lim m (position is_last (take (min 16 m) bytes))
 
 abbrev pub unsigned_scan : Result (List ℕ) Reason → Result Unsigned Reason
 unsigned_scan (Err reason) = Err reason
-unsigned_scan (Ok front) = if nat_lt (number front) (2 ^ 64) then Ok (record { value = number front; width = length front }) else Err LebTooBig
+unsigned_scan (Ok front) =
+    if nat_lt (number front) (2 ^ 64) then Ok (record { value = number front; width = length front }) else Err LebTooBig
 
 abbrev pub signed_scan : Result (List ℕ) Reason → Result Signed Reason
 signed_scan (Err reason) = Err reason
@@ -49,7 +51,9 @@ fixed_number Little n bytes = little_number n bytes
 fixed_number Big n bytes = big_number n bytes
 
 abbrev pub fixed_scan : Order → ℕ → List ℕ → ℕ → Result ℕ Reason
-fixed_scan order n bytes lim = if nat_lt lim n then Err PastUnit else (if nat_lt (length bytes) n then Err Truncated else Ok (fixed_number order n bytes))
+fixed_scan order n bytes lim =
+    if nat_lt lim n then Err PastUnit
+    else (if nat_lt (length bytes) n then Err Truncated else Ok (fixed_number order n bytes))
 
 -- the n bytes of a number
 abbrev pub fixed_cells : Order → ℕ → ℕ → List ℕ
@@ -58,7 +62,8 @@ fixed_cells Big n x = big_bytes n x
 
 -- a length at start, unless its end would pass 2 ^ 63 - 1
 abbrev pub length_within : ℕ → Format → ℕ → Result (Format × ℕ) Reason
-length_within start format n = if nat_lt (start + length_size format + n) (2 ^ 63) then Ok (format, n) else Err LengthTooBig
+length_within start format n =
+    if nat_lt (start + length_size format + n) (2 ^ 63) then Ok (format, n) else Err LengthTooBig
 
 abbrev pub length_wide : ℕ → Result ℕ Reason → Result (Format × ℕ) Reason
 length_wide start (Err reason) = Err reason

@@ -13,7 +13,8 @@ consumes_none None = tt
 consumes_none (Some xs) = refl
 
 -- two takes are one
-pub consumes_more : (a b c : Option (List ℕ)) (xs ys : List ℕ) → Consumes a b xs → Consumes b c ys → Consumes a c (xs ++ ys)
+pub consumes_more : (a b c : Option (List ℕ)) (xs ys : List ℕ) → Consumes a b xs → Consumes b c ys
+    → Consumes a c (xs ++ ys)
 consumes_more None b c xs ys h k = tt
 consumes_more (Some ws) None c xs ys h k = absurd h
 consumes_more (Some ws) (Some us) None xs ys h k = absurd k
@@ -32,9 +33,11 @@ appends_more (Some ws) (Some us) None xs ys h k = absurd k
 appends_more (Some ws) (Some us) (Some vs) xs ys h k = k ∙ ap (λ zs. zs ++ ys) h ∙ append_assoc ws xs ys
 
 -- a write of the next n bytes
-pub appends_part : (a b c : Option (List ℕ)) (xs : List ℕ) (at n : ℕ) → at ≤ length xs → Appends a b (take at xs) → Appends b c (take n (take (length xs - at) (drop at xs))) → Appends a c (take (at + n) xs)
+pub appends_part : (a b c : Option (List ℕ)) (xs : List ℕ) (at n : ℕ) → at ≤ length xs → Appends a b (take at xs)
+    → Appends b c (take n (take (length xs - at) (drop at xs))) → Appends a c (take (at + n) xs)
 appends_part a b c xs at n h first next =
-    let rest : take (length xs - at) (drop at xs) ≡ drop at xs = take_all (length xs - at) (drop at xs) (omega (arith, length-drop at xs)) in
+    let rest : take (length xs - at) (drop at xs) ≡ drop at xs =
+    take_all (length xs - at) (drop at xs) (omega (arith, length-drop at xs)) in
     let next' : Appends b c (take n (drop at xs)) = rw rest at next in
     let both = appends_more a b c (take at xs) (take n (drop at xs)) first next' in
     rw (take-add at n xs) both
@@ -56,7 +59,8 @@ front_of_both a b xs ys h =
     (n, omega (arith, h.1, longer), rw same h.2)
 
 -- all of the first, and then a beginning of the second
-pub front_behind : (a b c : Option (List ℕ)) (xs ys : List ℕ) → Appends a b xs → AppendsFront b c ys → AppendsFront a c (xs ++ ys)
+pub front_behind : (a b c : Option (List ℕ)) (xs ys : List ℕ) → Appends a b xs → AppendsFront b c ys
+    → AppendsFront a c (xs ++ ys)
 front_behind a b c xs ys h k =
     let n = k.0 in
     let longer : length (xs ++ ys) ≡ length xs + length ys = length-append xs ys in
@@ -68,11 +72,13 @@ pub front_whole : (a b : Option (List ℕ)) (xs : List ℕ) → Appends a b xs �
 front_whole a b xs h = (length xs, omega arith, rw (take_all (length xs) xs (omega arith)) h)
 
 -- all of one list, and then what a call wrote of another
-pub wrote_then : {X : Type 0} (a b c : Option (List ℕ)) (xs ys : List ℕ) (r : Result X WriteError) → Appends a b xs → Wrote b c ys r → Wrote a c (xs ++ ys) r
+pub wrote_then : {X : Type 0} (a b c : Option (List ℕ)) (xs ys : List ℕ) (r : Result X WriteError) → Appends a b xs
+    → Wrote b c ys r → Wrote a c (xs ++ ys) r
 wrote_then a b c xs ys (Ok x) h k = appends_more a b c xs ys h k
 wrote_then a b c xs ys (Err e) h k = front_behind a b c xs ys h k
 
 -- an error in the first of two lists
-pub wrote_err : {X : Type 0} (a b : Option (List ℕ)) (xs ys : List ℕ) (r : Result X WriteError) → IsErr r → AppendsFront a b xs → Wrote a b (xs ++ ys) r
+pub wrote_err : {X : Type 0} (a b : Option (List ℕ)) (xs ys : List ℕ) (r : Result X WriteError) → IsErr r
+    → AppendsFront a b xs → Wrote a b (xs ++ ys) r
 wrote_err a b xs ys (Ok x) e h = absurd cc
 wrote_err a b xs ys (Err e) i h = front_of_both a b xs ys h

@@ -11,11 +11,7 @@ use std::io::{ErrorKind, Write};
 /// was written.
 pub fn write_all<W: Write>(writer: &mut Watched<W>, bytes: &[u8]) -> Result<(), WriteError>
     requires { fault_of writer.old ≡ None }
-    ensures ok { OnOk result
-        (Appends
-        (W.contents (inner_of writer.old))
-        (W.contents (inner_of writer.new))
-        bytes.now) }
+    ensures ok { OnOk result (Appends (W.contents (inner_of writer.old)) (W.contents (inner_of writer.new)) bytes.now) }
     ensures front { AppendsFront
         (W.contents (inner_of writer.old))
         (W.contents (inner_of writer.new))

@@ -9,7 +9,9 @@ is_marked words offset = bit_at (slice_index words (offset / 64)) (offset % 64) 
 
 -- an entry of the unit begins at each offset that is marked
 abbrev pub AreEntryOffsets : WholeUnit → List ℕ → Type 0
-AreEntryOffsets u words = (item offset : ℕ) → is_marked words offset ≡ true → in_unit item u offset ≡ Ok (record { item = item; offset = offset })
+AreEntryOffsets u words =
+    (item offset : ℕ) → is_marked words offset ≡ true
+    → in_unit item u offset ≡ Ok (record { item = item; offset = offset })
 
 -- no other offset than this one was added
 abbrev pub Adds : ℕ → List ℕ → List ℕ → Type 0

@@ -36,7 +36,8 @@ pub record BeginsAt (items : List Item) (id : EntryId) (e : EntryAt) (offset : �
 
 -- ---- what is found begins there
 
-pub found_begins : (items : List Item) (offset : ℕ) (id : EntryId) → in_section (items_at items) offset ≡ Ok id → (e : EntryAt) × BeginsAt items id e offset
+pub found_begins : (items : List Item) (offset : ℕ) (id : EntryId) → in_section (items_at items) offset ≡ Ok id
+    → (e : EntryAt) × BeginsAt items id e offset
 found_begins items offset id e =
     let s : Stands items 0 0 offset id = names_entry items 0 0 offset id (omega arith) e in
     let item : id.item ≡ s.index = s.item_is ∙ omega arith in (
@@ -44,7 +45,9 @@ found_begins items offset id e =
       record {
         start = s.at;
         starts = ap (start_of items) item ∙ s.starts;
-        is_entry = ap (λ (i : ℕ). entry_of (unit_at items i) id.offset) item ∙ ap (λ (o : Option Item). entry_of (known_of o) id.offset) s.known ∙ s.found;
+        is_entry =
+            ap (λ (i : ℕ). entry_of (unit_at items i) id.offset) item
+            ∙ ap (λ (o : Option Item). entry_of (known_of o) id.offset) s.known ∙ s.found;
         sum = s.sum;
       },
     )
@@ -60,31 +63,42 @@ joined hi (x ∷ xs) ys h g = (h.0, joined hi xs ys h.1 g)
 
 module _ (k : Ctx) (t : Table) where
   entry_some : (code : Unsigned) (vs : List Attribute) → uleb.Fits code → 0 < length (entry_bytes k t code vs)
-  entry_some code vs fits = omega (arith, uleb_some code fits, length-append (uleb.spell code) ((values k (declared_pairs (declared t code.value))).spell vs))
+  entry_some code vs fits =
+      omega (
+        arith,
+        uleb_some code fits,
+        length-append (uleb.spell code) ((values k (declared_pairs (declared t code.value))).spell vs),
+      )
 
   mutual
     unfolding tree_bytes CodesFit
 
-    tree_within : (x : Tree) → CodesFit x → (base depth hi : ℕ) → base + length (tree_bytes k t x) ≤ hi → Within hi (preorder k t x base depth)
+    tree_within : (x : Tree) → CodesFit x → (base depth hi : ℕ) → base + length (tree_bytes k t x) ≤ hi
+        → Within hi (preorder k t x base depth)
     tree_within (leaf code vs) fits base depth hi le = (omega (arith, le, entry_some code vs fits), tt)
     tree_within (branch code vs ts w) fits base depth hi le =
         let own = length (entry_bytes k t code vs) in
         let size = length-append (entry_bytes k t code vs) (forest_bytes k t ts ++ uleb.spell (zero_of w)) in
-        let kids = length-append (forest_bytes k t ts) (uleb.spell (zero_of w)) in
-        (omega (arith, le, size, entry_some code vs fits.0), forest_within ts fits.1 (base + own) (suc depth) hi (omega (arith, le, size, kids)))
+        let kids = length-append (forest_bytes k t ts) (uleb.spell (zero_of w)) in (
+          omega (arith, le, size, entry_some code vs fits.0),
+          forest_within ts fits.1 (base + own) (suc depth) hi (omega (arith, le, size, kids)),
+        )
 
-    forest_within : (ts : Forest) → AllCodesFit ts → (base depth hi : ℕ) → base + length (forest_bytes k t ts) ≤ hi → Within hi (all_preorder k t ts base depth)
+    forest_within : (ts : Forest) → AllCodesFit ts → (base depth hi : ℕ) → base + length (forest_bytes k t ts) ≤ hi
+        → Within hi (all_preorder k t ts base depth)
     forest_within none fits base depth hi le = tt
     forest_within (more x ts) fits base depth hi le =
         let size = length-append (tree_bytes k t x) (forest_bytes k t ts) in
-        joined hi (preorder k t x base depth) (all_preorder k t ts (base + length (tree_bytes k t x)) depth) (tree_within x fits.0 base depth hi (omega (arith, le, size)))
+        joined hi (preorder k t x base depth) (all_preorder k t ts (base + length (tree_bytes k t x)) depth)
+        (tree_within x fits.0 base depth hi (omega (arith, le, size)))
         (forest_within ts fits.1 (base + length (tree_bytes k t x)) depth hi (omega (arith, le, size)))
 
 found_below : (hi o : ℕ) (es : List EntryAt) (e : EntryAt) → Within hi es → find_at o es ≡ Some e → o < hi
 found_below hi o [] e h f = absurd cc
 found_below hi o (x ∷ xs) e h f = by (x.offset == o) refl f (found_below hi o xs e h.1)
   where
-    by : (b : Bool) → (x.offset == o) ≡ b → (if b then Some x else find_at o xs) ≡ Some e → (find_at o xs ≡ Some e → o < hi) → o < hi
+    by : (b : Bool) → (x.offset == o) ≡ b → (if b then Some x else find_at o xs) ≡ Some e
+        → (find_at o xs ≡ Some e → o < hi) → o < hi
     by true is g later = omega (arith, h.0, eqb-true x.offset o is)
     by false is g later = later g
 
@@ -92,29 +106,43 @@ pub found_offset : (o : ℕ) (es : List EntryAt) (e : EntryAt) → find_at o es 
 found_offset o [] e f = absurd cc
 found_offset o (x ∷ xs) e f = by (x.offset == o) refl f (found_offset o xs e)
   where
-    by : (b : Bool) → (x.offset == o) ≡ b → (if b then Some x else find_at o xs) ≡ Some e → (find_at o xs ≡ Some e → e.offset ≡ o) → e.offset ≡ o
+    by : (b : Bool) → (x.offset == o) ≡ b → (if b then Some x else find_at o xs) ≡ Some e
+        → (find_at o xs ≡ Some e → e.offset ≡ o) → e.offset ≡ o
     by true is g later = let same : x ≡ e = cc in ap (λ (y : EntryAt). y.offset) (sym same) ∙ eqb-true x.offset o is
     by false is g later = later g
 
 -- an entry of a unit begins before the unit's end
-pub entry_within : (u : WholeUnit) (o : ℕ) (e : EntryAt) → UnitFits u → find_at o (entries_of (tree_of u)) ≡ Some e → o < length (bytes_of u)
+pub entry_within : (u : WholeUnit) (o : ℕ) (e : EntryAt) → UnitFits u → find_at o (entries_of (tree_of u)) ≡ Some e
+    → o < length (bytes_of u)
 entry_within u o e fits found =
     let k : Ctx = context_of u.header in
     let root : List ℕ = tree_bytes k u.table u.root in
     let f : List ℕ = (fields u.header.order u.header.format).spell (fields_of u.header) in
-    let same : (unit_tree k u.table).spell u.root ≡ root = spelled_by_structure k u.table (nesting - 1) u.root fits.tree_fits in
+    let same : (unit_tree k u.table).spell u.root ≡ root =
+    spelled_by_structure k u.table (nesting - 1) u.root fits.tree_fits in
     let body : length (body_bytes u) ≡ length f + (length root + length (nulls u.padding)) =
-    length-append f ((unit_tree k u.table).spell u.root ++ nulls u.padding) ∙ ap (λ (m : ℕ). length f + m) (length-append ((unit_tree k u.table).spell u.root) (nulls u.padding) ∙ ap (λ (b : List ℕ). length b + length (nulls u.padding)) same) in
-    let whole = length-append ((length_field u.header.order).spell (u.header.format, length (body_bytes u))) (body_bytes u) in
+    length-append f ((unit_tree k u.table).spell u.root ++ nulls u.padding)
+    ∙ ap (λ (m : ℕ). length f + m)
+    (length-append ((unit_tree k u.table).spell u.root) (nulls u.padding)
+    ∙ ap (λ (b : List ℕ). length b + length (nulls u.padding)) same)
+    in
+    let whole =
+    length-append ((length_field u.header.order).spell (u.header.format, length (body_bytes u))) (body_bytes u) in
     let codes : CodesFit u.root = tree_codes k u.table (nesting - 1) u.root fits.tree_fits in
-    found_below (length (bytes_of u)) o (entries_of (tree_of u)) e (tree_within k u.table u.root codes (header_size u.header) 1 (length (bytes_of u)) (omega (arith, body, whole, initial-size u.header.order 0 u.header.format (length (body_bytes u))))) found
+    found_below (length (bytes_of u)) o (entries_of (tree_of u)) e
+    (tree_within k u.table u.root codes (header_size u.header) 1 (length (bytes_of u))
+    (omega (arith, body, whole, initial-size u.header.order 0 u.header.format (length (body_bytes u)))))
+    found
 
 -- ---- each is found
 
-fits_there : (versions : Versions) (order : Order) (start : ℕ) (xs : List Item) (i : ℕ) (x : Item) → ItemsFit versions order start xs → slice_get xs i ≡ Some x → (at : ℕ) × ItemFits versions order at x
+fits_there : (versions : Versions) (order : Order) (start : ℕ) (xs : List Item) (i : ℕ) (x : Item)
+    → ItemsFit versions order start xs → slice_get xs i ≡ Some x → (at : ℕ) × ItemFits versions order at x
 fits_there versions order start [] i x fit e = absurd cc
-fits_there versions order start (y ∷ ys) zero x fit e = let same : y ≡ x = cc in (start, subst (λ (z : Item). ItemFits versions order start z) same fit.0)
-fits_there versions order start (y ∷ ys) (suc i) x fit e = fits_there versions order (start + length (item_bytes y)) ys i x fit.1 e
+fits_there versions order start (y ∷ ys) zero x fit e =
+    let same : y ≡ x = cc in (start, subst (λ (z : Item). ItemFits versions order start z) same fit.0)
+fits_there versions order start (y ∷ ys) (suc i) x fit e =
+    fits_there versions order (start + length (item_bytes y)) ys i x fit.1 e
 
 -- the unit of an entry
 pub record InUnit (items : List Item) (id : EntryId) (e : EntryAt) : Type 0 where
@@ -130,16 +158,25 @@ entry_in_unit items id e is = by (slice_get items id.item) refl is
     by (Some (Known u)) at f = record { unit = u; known = at; found = f }
     by (Some (Other bytes)) at f = absurd cc
 
-pub each_found : (s : WholeSection) (offset : ℕ) (id : EntryId) (e : EntryAt) → SectionFits s → BeginsAt s.items id e offset → in_section (items_at s.items) offset ≡ Ok id
+pub each_found : (s : WholeSection) (offset : ℕ) (id : EntryId) (e : EntryAt) → SectionFits s
+    → BeginsAt s.items id e offset → in_section (items_at s.items) offset ≡ Ok id
 each_found s offset id e fits h =
     let i : InUnit s.items id e = entry_in_unit s.items id e h.is_entry in
     let own = fits_there s.versions s.order 0 s.items id.item (Known i.unit) fits i.known in
     let inside : id.offset < length (bytes_of i.unit) = entry_within i.unit id.offset e own.1.fits i.found in
     let back : offset - h.start ≡ id.offset = omega (arith, h.sum) in
     let number : 0 + id.item ≡ id.item = omega arith in
-    held_there s.items 0 0 id.item (Known i.unit) h.start offset i.known h.starts (omega (arith, h.sum)) (omega (arith, h.sum, inside))
-    ∙ ap (λ (n : ℕ). unless_found NotAnEntry (record { item = n; offset = offset - h.start }) (find_at (offset - h.start) (entries_of (tree_of i.unit)))) number
-    ∙ ap (λ (m : ℕ). unless_found NotAnEntry (record { item = id.item; offset = m }) (find_at m (entries_of (tree_of i.unit)))) back
+    held_there s.items 0 0 id.item (Known i.unit) h.start offset i.known h.starts (omega (arith, h.sum))
+    (omega (arith, h.sum, inside))
+    ∙ ap
+    (λ (n : ℕ).
+    unless_found NotAnEntry (record { item = n; offset = offset - h.start })
+    (find_at (offset - h.start) (entries_of (tree_of i.unit))))
+    number
+    ∙ ap
+    (λ (m : ℕ).
+    unless_found NotAnEntry (record { item = id.item; offset = m }) (find_at m (entries_of (tree_of i.unit))))
+    back
     ∙ ap (unless_found NotAnEntry id) i.found
 
 pub is_ok : (t : Target) (id : EntryId) → ok_of t ≡ Some id → t ≡ Ok id

@@ -1,5 +1,5 @@
--- Items of a section: how one is spelled, of which kind it is, where it breaks (sections 7.5 and 7.5.1; of version 4, section
--- 7.5.1.1 of DWARF 4).
+-- Items of a section: how one is spelled, of which kind it is, where it breaks (sections 7.5 and 7.5.1; of version 4,
+-- section 7.5.1.1 of DWARF 4).
 use Rattle.std.specs.Prelude.{◌≡◌, ℕ, ◌+◌, ◌<◌, Bool, true, false, List, ◌++◌, length, Option, Some, None, nat_lt, nat_le, ◌==◌, ◌&&◌, ◌⊎◌, if◌then◌else◌}
 use Rattle.dw_leb.specs.declared.errors.Reason.{Reason}
 use Rattle.dw_leb.specs.declared.errors.Reason.TheVariants.{Truncated}
@@ -36,9 +36,11 @@ abbrev pub least_length : Versions → ℕ
 least_length Five = 3
 least_length FourAndFive = 2
 
--- a version, and a unit type where the version is 5 and there is room for one; nothing where there is none for a version
+-- a version, and a unit type where the version is 5 and there is room for one; nothing where there is none for a
+-- version
 abbrev pub marks_with : Order → Bool → Bool → Part (Option Marks)
-marks_with order room room_for_type = optional room (fixed order 2 then λ version. optional (version == 5 && room_for_type) (fixed order 1))
+marks_with order room room_for_type =
+    optional room (fixed order 2 then λ version. optional (version == 5 && room_for_type) (fixed order 1))
 
 -- what shows the kind of an item with n bytes behind its length field
 abbrev pub marks : Versions → Order → ℕ → Part (Option Marks)
@@ -67,7 +69,8 @@ pub record ShowsKind (versions : Versions) (order : Order) (n : ℕ) (bytes : Li
 -- ---- which items fit at a start
 
 -- An initial length n at a start is spelled at the front: so the item's end is judged from the section's first byte.
-pub record HasInitialLength (order : Order) (start : ℕ) (bytes : List ℕ) (format : Format) (n : ℕ) (rest : List ℕ) : Type 0 where
+pub record HasInitialLength (order : Order) (start : ℕ) (bytes : List ℕ) (format : Format) (n : ℕ) (rest : List ℕ)
+    : Type 0 where
   pub fits : (initial_length order start).Fits (format, n)
   pub split : bytes ≡ (length_field order).spell (format, n) ++ rest
 
@@ -99,29 +102,40 @@ HoldsTable abbreviations (Other bytes) = Unit {0}
 
 -- the length
 abbrev pub LengthBreaks : Order → ℕ → List ℕ → ℕ → Reason → Type 0
-LengthBreaks order start bytes offset reason = (own : ℕ) × (offset ≡ start + own) × (initial_length order start).Break bytes length_limit own reason
+LengthBreaks order start bytes offset reason =
+    (own : ℕ) × (offset ≡ start + own) × (initial_length order start).Break bytes length_limit own reason
 
 -- behind it, what shows the kind
 abbrev pub KindBreaks : Versions → Order → ℕ → List ℕ → ℕ → Reason → Type 0
-KindBreaks versions order start bytes offset reason = (format : Format) × (n : ℕ) × (rest : List ℕ) × (own : ℕ) × HasInitialLength order start bytes format n rest
+KindBreaks versions order start bytes offset reason =
+    (format : Format) × (n : ℕ) × (rest : List ℕ) × (own : ℕ) × HasInitialLength order start bytes format n rest
     × (offset ≡ start + length_size format + own) × (marks versions order n).Break rest n own reason
 
 -- the bytes of an item of no known kind are cut: one field, at its first byte
 abbrev pub OtherCut : Versions → Order → ℕ → List ℕ → ℕ → Reason → Type 0
-OtherCut versions order start bytes offset reason = (format : Format) × (n : ℕ) × (rest : List ℕ) × HasInitialLength order start bytes format n rest × ShowsKind versions order n rest false
+OtherCut versions order start bytes offset reason =
+    (format : Format) × (n : ℕ) × (rest : List ℕ) × HasInitialLength order start bytes format n rest
+    × ShowsKind versions order n rest false
     × (length rest < n) × (offset ≡ start + length_size format) × (reason ≡ Truncated)
 
 -- the item is of a known kind
 abbrev pub IsKnown : Versions → Order → ℕ → List ℕ → Type 0
-IsKnown versions order start bytes = (format : Format) × (n : ℕ) × (rest : List ℕ) × HasInitialLength order start bytes format n rest × ShowsKind versions order n rest true
+IsKnown versions order start bytes =
+    (format : Format) × (n : ℕ) × (rest : List ℕ) × HasInitialLength order start bytes format n rest
+    × ShowsKind versions order n rest true
 
 -- an item of a known kind has the first fault of a unit that stands alone, moved by the start
 abbrev pub UnitFails : Versions → Order → List ℕ → ℕ → List ℕ → ℕ → Reason → Type 0
 UnitFails versions order abbreviations start bytes offset reason =
-    IsKnown versions order start bytes × ((own : ℕ) × (offset ≡ start + own) × FailsUnder versions order abbreviations bytes Info own reason)
+    IsKnown versions order start bytes
+    × ((own : ℕ) × (offset ≡ start + own) × FailsUnder versions order abbreviations bytes Info own reason)
 
 -- the one fault of an item that can't be read; a table's is not moved
 abbrev pub ItemFails : Versions → Order → List ℕ → ℕ → List ℕ → SectionId → ℕ → Reason → Type 0
 ItemFails versions order abbreviations start bytes Info offset reason =
-    LengthBreaks order start bytes offset reason ⊎ (KindBreaks versions order start bytes offset reason ⊎ (OtherCut versions order start bytes offset reason ⊎ UnitFails versions order abbreviations start bytes offset reason))
-ItemFails versions order abbreviations start bytes Abbrev offset reason = IsKnown versions order start bytes × FailsUnder versions order abbreviations bytes Abbrev offset reason
+    LengthBreaks order start bytes offset reason
+    ⊎ (KindBreaks versions order start bytes offset reason
+    ⊎ (OtherCut versions order start bytes offset reason
+    ⊎ UnitFails versions order abbreviations start bytes offset reason))
+ItemFails versions order abbreviations start bytes Abbrev offset reason =
+    IsKnown versions order start bytes × FailsUnder versions order abbreviations bytes Abbrev offset reason

@@ -49,4 +49,6 @@ abbrev versions_code : Coded Versions
 versions_code = code_by Bool coded_bool from_versions to_versions to_versions-from_versions
 
 abbrev pub section_code : Coded WholeSection
-section_code = code_by (Order × (Versions × List Item)) (coded× order_code (coded× versions_code (coded_list item_code))) (λ s. (s.order, (s.versions, s.items))) (λ p. record { order = p.0; versions = p.1.0; items = p.1.1 }) (λ _. refl)
+section_code =
+    code_by (Order × (Versions × List Item)) (coded× order_code (coded× versions_code (coded_list item_code)))
+    (λ s. (s.order, (s.versions, s.items))) (λ p. record { order = p.0; versions = p.1.0; items = p.1.1 }) (λ _. refl)

@@ -22,39 +22,59 @@ use Rattle.dw_section.specs.Found.{BeginsAt}
 
 -- bytes are at most one section
 abbrev pub OneSection : Type 0
-OneSection = (versions : Versions) (order : Order) (abbreviations bytes : List ℕ) (xs ys : List Item) → SectionIs versions order abbreviations xs bytes → SectionIs versions order abbreviations ys bytes → xs ≡ ys
+OneSection =
+    (versions : Versions) (order : Order) (abbreviations bytes : List ℕ) (xs ys : List Item)
+    → SectionIs versions order abbreviations xs bytes → SectionIs versions order abbreviations ys bytes → xs ≡ ys
 
 -- a section that can't be read has one fault
 abbrev pub OneFault : Type 0
-OneFault = (versions : Versions) (order : Order) (abbreviations bytes : List ℕ) (s z : SectionId) (m n : ℕ) (r q : Reason)
-    → SectionFails versions order abbreviations bytes s m r → SectionFails versions order abbreviations bytes z n q → (s ≡ z) × (m ≡ n) × (r ≡ q)
+OneFault =
+    (versions : Versions) (order : Order) (abbreviations bytes : List ℕ) (s z : SectionId) (m n : ℕ) (r q : Reason)
+    → SectionFails versions order abbreviations bytes s m r → SectionFails versions order abbreviations bytes z n q
+    → (s ≡ z) × (m ≡ n) × (r ≡ q)
 
 -- bytes are not both a section and faulty
 abbrev pub NotBoth : Type 0
-NotBoth = (versions : Versions) (order : Order) (abbreviations bytes : List ℕ) (xs : List Item) (s : SectionId) (n : ℕ) (r : Reason) → SectionIs versions order abbreviations xs bytes → SectionFails versions order abbreviations bytes s n r → ⊥
+NotBoth =
+    (versions : Versions) (order : Order) (abbreviations bytes : List ℕ) (xs : List Item) (s : SectionId) (n : ℕ)
+    (r : Reason)
+    → SectionIs versions order abbreviations xs bytes → SectionFails versions order abbreviations bytes s n r → ⊥
 
 -- every list of bytes is one of both
 abbrev pub SomeAnswer : Type 0
-SomeAnswer = (versions : Versions) (order : Order) (abbreviations bytes : List ℕ) → AllByRecursion (λ b. b < 256) abbreviations → AllByRecursion (λ b. b < 256) bytes
-    → ((xs : List Item) × SectionIs versions order abbreviations xs bytes) ⊎ ((s : SectionId) × (n : ℕ) × (r : Reason) × SectionFails versions order abbreviations bytes s n r)
+SomeAnswer =
+    (versions : Versions) (order : Order) (abbreviations bytes : List ℕ) → AllByRecursion (λ b. b < 256) abbreviations
+    → AllByRecursion (λ b. b < 256) bytes
+    → ((xs : List Item) × SectionIs versions order abbreviations xs bytes)
+    ⊎ ((s : SectionId) × (n : ℕ) × (r : Reason) × SectionFails versions order abbreviations bytes s n r)
 
 -- a fault other than Truncated in the section's own bytes stays whatever bytes follow
 abbrev pub FaultsStay : Type 0
-FaultsStay = (versions : Versions) (order : Order) (abbreviations bytes tail : List ℕ) (s : SectionId) (n : ℕ) (r : Reason) → (s ≡ Info → r ≢ Truncated)
-    → SectionFails versions order abbreviations bytes s n r → SectionFails versions order abbreviations (bytes ++ tail) s n r
+FaultsStay =
+    (versions : Versions) (order : Order) (abbreviations bytes tail : List ℕ) (s : SectionId) (n : ℕ) (r : Reason)
+    → (s ≡ Info → r ≢ Truncated)
+    → SectionFails versions order abbreviations bytes s n r
+    → SectionFails versions order abbreviations (bytes ++ tail) s n r
 
 -- no section is refused for a version or for a unit type: items of others are kept as their bytes
 abbrev pub NoKindFaults : Type 0
-NoKindFaults = (versions : Versions) (order : Order) (abbreviations bytes : List ℕ) (s : SectionId) (n : ℕ) (r : Reason) → SectionFails versions order abbreviations bytes s n r → (r ≢ BadVersion) × (r ≢ BadUnitType)
+NoKindFaults =
+    (versions : Versions) (order : Order) (abbreviations bytes : List ℕ) (s : SectionId) (n : ℕ) (r : Reason)
+    → SectionFails versions order abbreviations bytes s n r → (r ≢ BadVersion) × (r ≢ BadUnitType)
 
 -- the bytes of a section are read as that section where the tables of its units stand
 abbrev pub WrittenIsRead : Type 0
-WrittenIsRead = (abbreviations : List ℕ) (s : WholeSection) → SectionFits s → HoldsTables abbreviations s.items → SectionReadAs s.versions s.order abbreviations s.items (section_bytes s)
+WrittenIsRead =
+    (abbreviations : List ℕ) (s : WholeSection) → SectionFits s → HoldsTables abbreviations s.items
+    → SectionReadAs s.versions s.order abbreviations s.items (section_bytes s)
 
 -- the bytes that a section was read from are its one spelling, and it is one that a program can keep
 abbrev pub ReadIsWritten : Type 0
-ReadIsWritten = (versions : Versions) (order : Order) (abbreviations : List ℕ) (items : List Item) (bytes : List ℕ) → SectionIs versions order abbreviations items bytes
-    → SectionFits (record { order = order; versions = versions; items = items }) × (bytes ≡ section_bytes (record { order = order; versions = versions; items = items }))
+ReadIsWritten =
+    (versions : Versions) (order : Order) (abbreviations : List ℕ) (items : List Item) (bytes : List ℕ)
+    → SectionIs versions order abbreviations items bytes
+    → SectionFits (record { order = order; versions = versions; items = items })
+    × (bytes ≡ section_bytes (record { order = order; versions = versions; items = items }))
 
 -- ---- references
 
@@ -62,7 +82,8 @@ ReadIsWritten = (versions : Versions) (order : Order) (abbreviations : List ℕ)
 abbrev pub NamedAs : List Item → ℕ → ℕ → EntryId → EntryAt → RefKind → Type 0
 NamedAs items item v id e InUnit = id ≡ record { item = item; offset = v }
 NamedAs items item v id e InSection = BeginsAt items id e v
-NamedAs items item v id e BySignature = (t : TypeAt) × (first_type (items_at items) v ≡ Some t) × (id ≡ record { item = t.number; offset = t.offset })
+NamedAs items item v id e BySignature =
+    (t : TypeAt) × (first_type (items_at items) v ≡ Some t) × (id ≡ record { item = t.number; offset = t.offset })
 NamedAs items item v id e Elsewhere = ⊥
 
 -- A number under a form names an entry: the form is one of references, and an entry begins where the number says.
@@ -76,5 +97,7 @@ pub record NamesEntry (items : List Item) (item form v : ℕ) (id : EntryId) : T
 
 -- whatever a reference names is an entry that begins where it says
 abbrev pub ReferencesNameEntries : Type 0
-ReferencesNameEntries = (items : List Item) (item : ℕ) (u : WholeUnit) → unit_at items item ≡ Some u → (form : ℕ) (value : Value) (id : EntryId) → named items item u form value ≡ Ok id
+ReferencesNameEntries =
+    (items : List Item) (item : ℕ) (u : WholeUnit) → unit_at items item ≡ Some u
+    → (form : ℕ) (value : Value) (id : EntryId) → named items item u form value ≡ Ok id
     → (v : ℕ) × (number_in value ≡ Some v) × NamesEntry items item form v id

@@ -56,7 +56,8 @@ or_memory (Some why) = why
 
 -- ---- a unit that is not refused
 
-unless : (b : Bool) (why : SectionRefusal) (later : Option SectionRefusal) → refused_unless b why later ≡ None → (b ≡ true) × (later ≡ None)
+unless : (b : Bool) (why : SectionRefusal) (later : Option SectionRefusal) → refused_unless b why later ≡ None
+    → (b ≡ true) × (later ≡ None)
 unless true why later e = (refl, e)
 unless false why later e = absurd cc
 
@@ -74,7 +75,8 @@ accepted Five (TypeUnit signature offset) e = tt
 accepted Five (Skeleton id) e = tt
 accepted Five Four e = absurd cc
 
-pub allowed_fits : (s : WholeSection) (u : WholeUnit) → push_refusal s u ≡ None → UnitFits u → KnownFits s.versions s.order (length (section_bytes s)) u
+pub allowed_fits : (s : WholeSection) (u : WholeUnit) → push_refusal s u ≡ None → UnitFits u
+    → KnownFits s.versions s.order (length (section_bytes s)) u
 allowed_fits s u allowed fits =
     let one = unless (same_order u.header.order s.order) WrongOrder _ allowed in
     let two = unless (accepts s.versions u.header.kind) WrongVersion _ one.1 in
@@ -82,5 +84,18 @@ allowed_fits s u allowed fits =
     let below = ltb-true (length (section_bytes s) + length (bytes_of u)) (2 ^ 63) three.0 in
     let n = length (body_bytes u) in
     let same = order_is u.header.order s.order one.0 in
-    let near = fits_at u.header.order (length (section_bytes s)) u.header.format n fits.length_fits (omega (arith, below, length-append ((length_field u.header.order).spell (u.header.format, n)) (body_bytes u), initial-size u.header.order 0 u.header.format n)) in
-    record { order_is = same; accepted = accepted s.versions u.header.kind two.0; fits = fits; length_fits = subst (λ (o : Order). (initial_length o (length (section_bytes s))).Fits (u.header.format, n)) same near }
+    let near =
+    fits_at u.header.order (length (section_bytes s)) u.header.format n fits.length_fits
+    (omega (
+      arith,
+      below,
+      length-append ((length_field u.header.order).spell (u.header.format, n)) (body_bytes u),
+      initial-size u.header.order 0 u.header.format n,
+    )) in
+    record {
+      order_is = same;
+      accepted = accepted s.versions u.header.kind two.0;
+      fits = fits;
+      length_fits = subst (λ (o : Order). (initial_length o (length (section_bytes s))).Fits (u.header.format, n))
+          same near;
+    }

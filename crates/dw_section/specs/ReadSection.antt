@@ -14,7 +14,9 @@ use Rattle.dw_unit.specs.ReadUnit.{Answer, Unit, Fault, read_unit_under}
 use Rattle.dw_section.specs.Item.{Item, Known, Other, Marks, least_length, is_known}
 
 abbrev pub read_marks : Versions → Order → ℕ → Reader (Option Marks)
-read_marks versions order n = read_optional (nat_le (least_length versions) n) (read_fixed order 2 and_then λ version. read_optional (version == 5 && nat_le 3 n) (read_fixed order 1))
+read_marks versions order n =
+    read_optional (nat_le (least_length versions) n)
+    (read_fixed order 2 and_then λ version. read_optional (version == 5 && nat_le 3 n) (read_fixed order 1))
 
 -- what reading one item gives: the item and its size, or a fault whose place counts from the section's first byte
 pub data ItemAnswer : Type 0 where
@@ -32,22 +34,29 @@ answer_known start (Fault s offset reason) = moved start s offset reason
 
 -- so many bytes behind a length field of so many
 abbrev pub answer_other : ℕ → List ℕ → ℕ → ℕ → ItemAnswer
-answer_other start bytes field n = if nat_le (field + n) (length bytes) then IsItem (Other (take (field + n) bytes)) (field + n) else IsFault Info (start + field) Truncated
+answer_other start bytes field n =
+    if nat_le (field + n) (length bytes) then IsItem (Other (take (field + n) bytes)) (field + n)
+    else IsFault Info (start + field) Truncated
 
 abbrev pub answer_kind : Versions → Order → List ℕ → ℕ → List ℕ → Format → ℕ → Bool → ItemAnswer
-answer_kind versions order abbreviations start bytes format n true = answer_known start (read_unit_under versions order abbreviations bytes)
+answer_kind versions order abbreviations start bytes format n true =
+    answer_known start (read_unit_under versions order abbreviations bytes)
 answer_kind versions order abbreviations start bytes format n false = answer_other start bytes (length_size format) n
 
 abbrev pub answer_marks : Versions → Order → List ℕ → ℕ → List ℕ → Format → ℕ → Outcome (Option Marks) → ItemAnswer
-answer_marks versions order abbreviations start bytes format n (Found m size) = answer_kind versions order abbreviations start bytes format n (is_known versions m)
-answer_marks versions order abbreviations start bytes format n (Broken own reason) = IsFault Info (start + length_size format + own) reason
+answer_marks versions order abbreviations start bytes format n (Found m size) =
+    answer_kind versions order abbreviations start bytes format n (is_known versions m)
+answer_marks versions order abbreviations start bytes format n (Broken own reason) =
+    IsFault Info (start + length_size format + own) reason
 
 abbrev pub answer_begin : Versions → Order → List ℕ → ℕ → List ℕ → Outcome (Format × ℕ) → ItemAnswer
-answer_begin versions order abbreviations start bytes (Found x field) = answer_marks versions order abbreviations start bytes x.0 x.1 (read_marks versions order x.1 (drop field bytes) x.1)
+answer_begin versions order abbreviations start bytes (Found x field) =
+    answer_marks versions order abbreviations start bytes x.0 x.1 (read_marks versions order x.1 (drop field bytes) x.1)
 answer_begin versions order abbreviations start bytes (Broken own reason) = IsFault Info (start + own) reason
 
 unfoldable pub read_item : Versions → Order → List ℕ → ℕ → List ℕ → ItemAnswer
-read_item versions order abbreviations start bytes = answer_begin versions order abbreviations start bytes (read_length order start bytes length_limit)
+read_item versions order abbreviations start bytes =
+    answer_begin versions order abbreviations start bytes (read_length order start bytes length_limit)
 
 -- what reading a section gives
 pub data SectionAnswer : Type 0 where
@@ -67,7 +76,8 @@ abbrev pub read_items : Versions → Order → List ℕ → ℕ → ℕ → List
 read_items versions order abbreviations zero start bytes = Fails Info start Truncated
 read_items versions order abbreviations (suc fuel) start [] = Items []
 read_items versions order abbreviations (suc fuel) start (b ∷ bytes) =
-    behind_item start (b ∷ bytes) (read_items versions order abbreviations fuel) (read_item versions order abbreviations start (b ∷ bytes))
+    behind_item start (b ∷ bytes) (read_items versions order abbreviations fuel)
+    (read_item versions order abbreviations start (b ∷ bytes))
 
 unfoldable pub read_section : Versions → Order → List ℕ → List ℕ → SectionAnswer
 read_section versions order abbreviations bytes = read_items versions order abbreviations (suc (length bytes)) 0 bytes

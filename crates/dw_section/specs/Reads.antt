@@ -21,7 +21,10 @@ use Rattle.dw_section.specs.Section.{ItemsFit, HoldsTables, items_bytes, Section
 
 -- So many bytes of those at an item's start are at most its length field, or at most the item whose length it tells.
 abbrev pub InItem : Order → ℕ → List ℕ → ℕ → Type 0
-InItem order start bytes k = InField bytes k ⊎ ((format : Format) × (n : ℕ) × (rest : List ℕ) × HasInitialLength order start bytes format n rest × (k ≤ length_size format + n))
+InItem order start bytes k =
+    InField bytes k
+    ⊎ ((format : Format) × (n : ℕ) × (rest : List ℕ) × HasInitialLength order start bytes format n rest
+    × (k ≤ length_size format + n))
 
 -- Bytes that were taken of a section are items that stand at its front, and at most the one that stands behind these.
 pub record InSection (versions : Versions) (order : Order) (abbreviations all taken : List ℕ) : Type 0 where
@@ -37,7 +40,8 @@ pub record InSection (versions : Versions) (order : Order) (abbreviations all ta
 -- ---- a section
 
 -- all that the reader had left is the section's spelling, and nothing is left unread
-pub record TakesSection (versions : Versions) (order : Order) (abbreviations : List ℕ) (old new : Option (List ℕ)) (s : WholeSection) : Type 0 where
+pub record TakesSection (versions : Versions) (order : Order) (abbreviations : List ℕ) (old new : Option (List ℕ))
+    (s : WholeSection) : Type 0 where
   pub order_is : s.order ≡ order
   pub versions_is : s.versions ≡ versions
   pub all : List ℕ
@@ -48,36 +52,44 @@ pub record TakesSection (versions : Versions) (order : Order) (abbreviations : L
 
 -- a fault is the first one of all that the reader had left
 abbrev pub IsSectionError : Versions → Order → List ℕ → List ℕ → ReadError → Type 0
-IsSectionError versions order abbreviations all (reads.Fault f) = SectionFails versions order abbreviations all f.section f.offset f.reason
+IsSectionError versions order abbreviations all (reads.Fault f) =
+    SectionFails versions order abbreviations all f.section f.offset f.reason
 IsSectionError versions order abbreviations all reads.NoMemory = Unit {0}
 IsSectionError versions order abbreviations all (reads.Io kind) = Unit {0}
 
 -- no section is read: what the error tells, and that no byte was taken past the end of the item where it came
 abbrev pub TakesNoSection : Versions → Order → List ℕ → Option (List ℕ) → Option (List ℕ) → ReadError → Type 0
-TakesNoSection versions order abbreviations old new e = (all : List ℕ) × (h : Takes old new all) × IsSectionError versions order abbreviations all e × InSection versions order abbreviations all h.taken
+TakesNoSection versions order abbreviations old new e =
+    (all : List ℕ) × (h : Takes old new all) × IsSectionError versions order abbreviations all e
+    × InSection versions order abbreviations all h.taken
 
 -- ---- an item at a start
 
 -- the item stands at the front of what the reader had left, and exactly its bytes were taken
-pub record TakesItem (versions : Versions) (order : Order) (abbreviations : List ℕ) (start : ℕ) (old new : Option (List ℕ)) (x : Item) : Type 0 where
+pub record TakesItem (versions : Versions) (order : Order) (abbreviations : List ℕ) (start : ℕ)
+    (old new : Option (List ℕ)) (x : Item) : Type 0 where
   pub fits : ItemFits versions order start x
   pub place : HoldsTable abbreviations x
   pub consumed : Consumes old new (item_bytes x)
 
 -- or the reader had nothing left
 abbrev pub TakesNext : Versions → Order → List ℕ → ℕ → Option (List ℕ) → Option (List ℕ) → Option TheItem → Type 0
-TakesNext versions order abbreviations start old new (Some x) = TakesItem versions order abbreviations start old new (item_of x)
+TakesNext versions order abbreviations start old new (Some x) =
+    TakesItem versions order abbreviations start old new (item_of x)
 TakesNext versions order abbreviations start old new None = Consumes old new [] × IsAtEnd new
 
 -- a fault is that of the item at the front, of which at least a byte is there
 abbrev pub IsItemError : Versions → Order → List ℕ → ℕ → List ℕ → ReadError → Type 0
-IsItemError versions order abbreviations start all (reads.Fault f) = (0 < length all) × ItemFails versions order abbreviations start all f.section f.offset f.reason
+IsItemError versions order abbreviations start all (reads.Fault f) =
+    (0 < length all) × ItemFails versions order abbreviations start all f.section f.offset f.reason
 IsItemError versions order abbreviations start all reads.NoMemory = Unit {0}
 IsItemError versions order abbreviations start all (reads.Io kind) = Unit {0}
 
 -- no item is read: what the error tells, and that no byte was taken past the item's end
 abbrev pub TakesNoItem : Versions → Order → List ℕ → ℕ → Option (List ℕ) → Option (List ℕ) → ReadError → Type 0
-TakesNoItem versions order abbreviations start old new e = (all : List ℕ) × (h : Takes old new all) × IsItemError versions order abbreviations start all e × InItem order start all (length h.taken)
+TakesNoItem versions order abbreviations start old new e =
+    (all : List ℕ) × (h : Takes old new all) × IsItemError versions order abbreviations start all e
+    × InItem order start all (length h.taken)
 
 -- ---- an item of which some bytes were taken
 
@@ -87,7 +99,8 @@ pub record HasLength (order : Order) (start n : ℕ) (bytes : List ℕ) : Type 0
   pub begins : HasInitialLength order start bytes format n []
 
 -- its length field of so many bytes, and bytes behind it, no more than it says, which show of which kind it is
-pub record HasKind (versions : Versions) (order : Order) (start n field : ℕ) (bytes : List ℕ) (known : Bool) : Type 0 where
+pub record HasKind (versions : Versions) (order : Order) (start n field : ℕ) (bytes : List ℕ) (known : Bool)
+    : Type 0 where
   pub format : Format
   pub rest : List ℕ
   pub begins : HasInitialLength order start bytes format n rest

@@ -38,7 +38,8 @@ pub record ItemAt : Type 0 where
 -- the items with their numbers and starts, the first of which has this number and start
 abbrev pub items_from : ℕ → ℕ → List Item → List ItemAt
 items_from number start [] = []
-items_from number start (x ∷ xs) = record { number = number; start = start; item = x } ∷ items_from (suc number) (start + length (item_bytes x)) xs
+items_from number start (x ∷ xs) =
+    record { number = number; start = start; item = x } ∷ items_from (suc number) (start + length (item_bytes x)) xs
 
 abbrev pub items_at : List Item → List ItemAt
 items_at items = items_from 0 0 items
@@ -47,7 +48,9 @@ items_at items = items_from 0 0 items
 
 -- an offset from the unit's first byte
 abbrev pub in_unit : ℕ → WholeUnit → ℕ → Target
-in_unit item u v = if nat_le (length (bytes_of u)) v then Err OutsideUnit else entry_in NotAnEntry u (record { item = item; offset = v })
+in_unit item u v =
+    if nat_le (length (bytes_of u)) v then Err OutsideUnit
+    else entry_in NotAnEntry u (record { item = item; offset = v })
 
 abbrev pub in_item : ℕ → ℕ → Item → Target
 in_item number offset (Known u) = entry_in NotAnEntry u (record { item = number; offset = offset })
@@ -56,7 +59,8 @@ in_item number offset (Other bytes) = Err InOther
 -- an offset from the section's first byte: in the first item that ends past it
 abbrev pub in_section : List ItemAt → ℕ → Target
 in_section [] v = Err OutsideSection
-in_section (p ∷ ps) v = if nat_lt v (p.start + length (item_bytes p.item)) then in_item p.number (v - p.start) p.item else in_section ps v
+in_section (p ∷ ps) v =
+    if nat_lt v (p.start + length (item_bytes p.item)) then in_item p.number (v - p.start) p.item else in_section ps v
 
 -- the type offset of a unit with this signature
 abbrev pub type_offset_if : ℕ → Kind → Option ℕ

@@ -14,7 +14,8 @@ items_bytes (x ∷ xs) = item_bytes x ++ items_bytes xs
 -- each item fits where it starts; the first one's start is given
 abbrev pub ItemsFit : Versions → Order → ℕ → List Item → Type 0
 ItemsFit versions order start [] = Unit {0}
-ItemsFit versions order start (x ∷ xs) = ItemFits versions order start x × ItemsFit versions order (start + length (item_bytes x)) xs
+ItemsFit versions order start (x ∷ xs) =
+    ItemFits versions order start x × ItemsFit versions order (start + length (item_bytes x)) xs
 
 -- the abbreviation section holds the tables of all units
 abbrev pub HoldsTables : List ℕ → List Item → Type 0
@@ -22,13 +23,15 @@ HoldsTables abbreviations [] = Unit {0}
 HoldsTables abbreviations (x ∷ xs) = HoldsTable abbreviations x × HoldsTables abbreviations xs
 
 -- the bytes are a section of these items
-pub record SectionIs (versions : Versions) (order : Order) (abbreviations : List ℕ) (items : List Item) (bytes : List ℕ) : Type 0 where
+pub record SectionIs (versions : Versions) (order : Order) (abbreviations : List ℕ) (items : List Item) (bytes : List ℕ)
+    : Type 0 where
   pub fit : ItemsFit versions order 0 items
   pub tables : HoldsTables abbreviations items
   pub spelled : bytes ≡ items_bytes items
 
 -- The fault of the first item that has one: all items before it are spelled, and it begins with a byte.
-pub record FailsBehind (versions : Versions) (order : Order) (abbreviations : List ℕ) (start : ℕ) (bytes : List ℕ) (s : SectionId) (offset : ℕ) (reason : Reason) : Type 0 where
+pub record FailsBehind (versions : Versions) (order : Order) (abbreviations : List ℕ) (start : ℕ) (bytes : List ℕ)
+    (s : SectionId) (offset : ℕ) (reason : Reason) : Type 0 where
   pub before : List Item
   pub rest : List ℕ
   pub fit : ItemsFit versions order start before
@@ -39,13 +42,16 @@ pub record FailsBehind (versions : Versions) (order : Order) (abbreviations : Li
 
 -- the one fault of a section that can't be read
 abbrev pub SectionFails : Versions → Order → List ℕ → List ℕ → SectionId → ℕ → Reason → Type 0
-SectionFails versions order abbreviations bytes s offset reason = FailsBehind versions order abbreviations 0 bytes s offset reason
+SectionFails versions order abbreviations bytes s offset reason =
+    FailsBehind versions order abbreviations 0 bytes s offset reason
 
 -- These bytes are read as these items: they are a section of them and of no others, and have no fault.
-pub record SectionReadAs (versions : Versions) (order : Order) (abbreviations : List ℕ) (items : List Item) (bytes : List ℕ) : Type 0 where
+pub record SectionReadAs (versions : Versions) (order : Order) (abbreviations : List ℕ) (items : List Item)
+    (bytes : List ℕ) : Type 0 where
   pub there : SectionIs versions order abbreviations items bytes
   pub only : (others : List Item) → SectionIs versions order abbreviations others bytes → others ≡ items
-  pub no_fault : (s : SectionId) (offset : ℕ) (reason : Reason) → SectionFails versions order abbreviations bytes s offset reason → ⊥
+  pub no_fault : (s : SectionId) (offset : ℕ) (reason : Reason)
+      → SectionFails versions order abbreviations bytes s offset reason → ⊥
 
 -- ---- the program's sections
 

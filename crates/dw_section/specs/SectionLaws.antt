@@ -22,21 +22,34 @@ items_fails : (xs : List Item) (s : SectionId) (n : ℕ) (r : Reason) → Items 
 items_fails xs s n r e = cc
 
 pub one_section : OneSection
-one_section versions order abbreviations bytes xs ys h g = items_value xs ys (sym (section_take versions order abbreviations xs bytes h) ∙ section_take versions order abbreviations ys bytes g)
+one_section versions order abbreviations bytes xs ys h g =
+    items_value xs ys
+    (sym (section_take versions order abbreviations xs bytes h)
+    ∙ section_take versions order abbreviations ys bytes g)
 
 pub one_fault : OneFault
-one_fault versions order abbreviations bytes s z m n r q h g = fails_value s z m n r q (sym (section_fault versions order abbreviations bytes s m r h) ∙ section_fault versions order abbreviations bytes z n q g)
+one_fault versions order abbreviations bytes s z m n r q h g =
+    fails_value s z m n r q
+    (sym (section_fault versions order abbreviations bytes s m r h)
+    ∙ section_fault versions order abbreviations bytes z n q g)
 
 pub not_both : NotBoth
-not_both versions order abbreviations bytes xs s n r h g = items_fails xs s n r (sym (section_take versions order abbreviations xs bytes h) ∙ section_fault versions order abbreviations bytes s n r g)
+not_both versions order abbreviations bytes xs s n r h g =
+    items_fails xs s n r
+    (sym (section_take versions order abbreviations xs bytes h)
+    ∙ section_fault versions order abbreviations bytes s n r g)
 
-some_by : (versions : Versions) (order : Order) (abbreviations bytes : List ℕ) (a : SectionAnswer) → SectionSays versions order abbreviations bytes a
-    → ((xs : List Item) × SectionIs versions order abbreviations xs bytes) ⊎ ((s : SectionId) × (n : ℕ) × (r : Reason) × SectionFails versions order abbreviations bytes s n r)
+some_by : (versions : Versions) (order : Order) (abbreviations bytes : List ℕ) (a : SectionAnswer)
+    → SectionSays versions order abbreviations bytes a
+    → ((xs : List Item) × SectionIs versions order abbreviations xs bytes)
+    ⊎ ((s : SectionId) × (n : ℕ) × (r : Reason) × SectionFails versions order abbreviations bytes s n r)
 some_by versions order abbreviations bytes (Items xs) h = inl (xs, h)
 some_by versions order abbreviations bytes (Fails s n r) h = inr (s, n, r, h)
 
 pub some_answer : SomeAnswer
-some_answer versions order abbreviations bytes fit_s fit = some_by versions order abbreviations bytes (read_section versions order abbreviations bytes) (section_says versions order abbreviations bytes fit_s fit)
+some_answer versions order abbreviations bytes fit_s fit =
+    some_by versions order abbreviations bytes (read_section versions order abbreviations bytes)
+    (section_says versions order abbreviations bytes fit_s fit)
 
 pub faults_stay : FaultsStay
 faults_stay versions order abbreviations bytes tail s n r ne h = record {
@@ -51,7 +64,8 @@ faults_stay versions order abbreviations bytes tail s n r ne h = record {
 
 pub written_is_read : WrittenIsRead
 written_is_read abbreviations s fits tables =
-    let there : SectionIs s.versions s.order abbreviations s.items (section_bytes s) = record { fit = fits; tables = tables; spelled = refl } in
+    let there : SectionIs s.versions s.order abbreviations s.items (section_bytes s) =
+    record { fit = fits; tables = tables; spelled = refl } in
     record {
       there = there;
       only = λ others h. one_section s.versions s.order abbreviations (section_bytes s) others s.items h there;

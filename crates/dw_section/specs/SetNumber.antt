@@ -40,7 +40,8 @@ edit_of id name x = record { offset = id.offset; name = name; number = x }
 
 -- the entry's first attribute of the name has the number; all else stays
 abbrev pub edited : WholeSection → EntryId → ℕ → ℤ → WholeSection
-edited s id name x = record { order = s.order; versions = s.versions; items = put_at id.item (edit_of id name x) s.items }
+edited s id name x =
+    record { order = s.order; versions = s.versions; items = put_at id.item (edit_of id name x) s.items }
 
 -- ---- why a number isn't put
 
@@ -65,24 +66,33 @@ names_nothing None t = false
 names_nothing (Some kind) (Ok id) = false
 names_nothing (Some kind) (Err why) = true
 
--- the value can't stand there: under DW_AT_sibling it isn't the right one, under another name it is a reference that names nothing
+-- the value can't stand there: under DW_AT_sibling it isn't the right one, under another name it is a reference that
+-- names nothing
 abbrev pub is_bad_target : List Item → EntryId → WholeUnit → ℕ → EntryAt → ℕ → ℕ → Value → Bool
-is_bad_target items id u start e name form v = if name == DW_AT_sibling then not (is_right_sibling start e form v) else names_nothing (at_number form ref_forms) (named items id.item u form v)
+is_bad_target items id u start e name form v =
+    if name == DW_AT_sibling then not (is_right_sibling start e form v)
+    else names_nothing (at_number form ref_forms) (named items id.item u form v)
 
-abbrev pub value_refusal : List Item → EntryId → WholeUnit → ℕ → EntryAt → LentAttribute → Result Value SetRefusal → Option SetRefusal
+abbrev pub value_refusal : List Item → EntryId → WholeUnit → ℕ → EntryAt → LentAttribute → Result Value SetRefusal
+    → Option SetRefusal
 value_refusal items id u start e a (Err why) = Some why
-value_refusal items id u start e a (Ok v) = if is_bad_target items id u start e a.name a.form v then Some BadTarget else None
+value_refusal items id u start e a (Ok v) =
+    if is_bad_target items id u start e a.name a.form v then Some BadTarget else None
 
-abbrev pub attribute_refusal : List Item → EntryId → ℤ → WholeUnit → ℕ → EntryAt → Option LentAttribute → Option SetRefusal
+abbrev pub attribute_refusal : List Item → EntryId → ℤ → WholeUnit → ℕ → EntryAt → Option LentAttribute
+    → Option SetRefusal
 attribute_refusal items id x u start e None = Some NoAttribute
-attribute_refusal items id x u start e (Some a) = value_refusal items id u start e a (new_value (context_of u.header) a.form x a.attr.value)
+attribute_refusal items id x u start e (Some a) =
+    value_refusal items id u start e a (new_value (context_of u.header) a.form x a.attr.value)
 
 abbrev pub entry_refusal : List Item → EntryId → ℕ → ℤ → WholeUnit → ℕ → Option EntryAt → Option SetRefusal
 entry_refusal items id name x u start None = Some NoEntry
-entry_refusal items id name x u start (Some e) = attribute_refusal items id x u start e (first_named name (attributes_of e))
+entry_refusal items id name x u start (Some e) =
+    attribute_refusal items id x u start e (first_named name (attributes_of e))
 
 abbrev pub unit_refusal : List Item → EntryId → ℕ → ℤ → Option ℕ → Option WholeUnit → Option SetRefusal
-unit_refusal items id name x (Some start) (Some u) = entry_refusal items id name x u start (find_at id.offset (entries_of (tree_of u)))
+unit_refusal items id name x (Some start) (Some u) =
+    entry_refusal items id name x u start (find_at id.offset (entries_of (tree_of u)))
 unit_refusal items id name x None u = Some NoEntry
 unit_refusal items id name x (Some start) None = Some NoEntry
 
@@ -109,4 +119,5 @@ KeepsOffsets old new = (starts_from 0 new ≡ starts_from 0 old) × (map entry_o
 pub record ItemKept (x y : Item) : Type 0 where
   pub size : length (item_bytes y) ≡ length (item_bytes x)
   pub offsets : entry_offsets y ≡ entry_offsets x
-  pub fits : (versions : Versions) (order : Order) (start : ℕ) → ItemFits versions order start x → ItemFits versions order start y
+  pub fits : (versions : Versions) (order : Order) (start : ℕ) → ItemFits versions order start x
+      → ItemFits versions order start y

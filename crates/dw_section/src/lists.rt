@@ -23,7 +23,9 @@ pub(crate) fn make_room(
     ensures starts { starts.new.items ≡ starts.old.items }
     ensures bases { bases.new.items ≡ bases.old.items }
     ensures types { types.new.entries ≡ types.old.entries }
-    ensures room { OnOk result ((vec_len items.new < vec_capacity items.new) × (vec_len starts.new < vec_capacity starts.new) × (vec_len bases.new < vec_capacity bases.new) × (0 < spare types.new)) }
+    ensures room { OnOk result
+        ((vec_len items.new < vec_capacity items.new) × (vec_len starts.new < vec_capacity starts.new)
+        × (vec_len bases.new < vec_capacity bases.new) × (0 < spare types.new)) }
 {
     items.reserve(1)?;
     starts.reserve(1)?;
@@ -45,7 +47,9 @@ pub(crate) fn add<T: Drop>(list: &mut Vec<T>, value: T)
 /// The type of an item of this number, under its signature, unless an earlier one has that signature.
 pub(crate) fn keep_type(types: &mut IndexMap<u64, EntryId>, number: usize, item: &Item)
     requires { 0 < spare types.old }
-    ensures { (v : ℕ) → lookup (eqb v) types.new.entries ≡ first_id (lookup (eqb v) types.old.entries) (option_map id_of (type_in v number (item_of item.now))) }
+    ensures { (v : ℕ)
+        → lookup (eqb v) types.new.entries
+        ≡ first_id (lookup (eqb v) types.old.entries) (option_map id_of (type_in v number (item_of item.now))) }
 {
     if let Item::Known(unit) = item {
         if let Kind::TypeUnit {
@@ -68,7 +72,8 @@ pub(crate) fn keep_type(types: &mut IndexMap<u64, EntryId>, number: usize, item:
 /// The entry of a type under its signature, unless there is one under it.
 fn add_type(types: &mut IndexMap<u64, EntryId>, signature: u64, id: EntryId)
     requires { 0 < spare types.old }
-    ensures { (v : ℕ) → lookup (eqb v) types.new.entries ≡ first_id (lookup (eqb v) types.old.entries) (id_under v signature id) }
+    ensures { (v : ℕ)
+        → lookup (eqb v) types.new.entries ≡ first_id (lookup (eqb v) types.old.entries) (id_under v signature id) }
 {
     if types.contains_key(&signature) {
         return;

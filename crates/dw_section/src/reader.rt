@@ -183,7 +183,8 @@ fn item_behind<R: Read>(
     ensures broken { IfErr result (TakesNoItem start.versions start.order tables.old start.offset
         (behind bytes.items (R.remaining (inner_of reader.old)))
         (R.remaining (inner_of reader.new))) }
-    ensures memory { KeptSome (behind bytes.items (R.remaining (inner_of reader.old))) (R.remaining (inner_of reader.new)) result }
+    ensures memory { KeptSome (behind bytes.items (R.remaining (inner_of reader.old)))
+        (R.remaining (inner_of reader.new)) result }
     ensures tables { tables.new ≡ tables.old }
     ensures fault { fault_of reader.new ≡ reader_fault result }
 {
@@ -213,7 +214,8 @@ fn known_item<R: Read>(
     ensures broken { IfErr result (TakesNoItem start.versions start.order tables.old start.offset
         (behind taken.now (R.remaining (inner_of reader.old)))
         (R.remaining (inner_of reader.new))) }
-    ensures memory { KeptSome (behind taken.now (R.remaining (inner_of reader.old))) (R.remaining (inner_of reader.new)) result }
+    ensures memory { KeptSome (behind taken.now (R.remaining (inner_of reader.old)))
+        (R.remaining (inner_of reader.new)) result }
     ensures tables { tables.new ≡ tables.old }
     ensures fault { fault_of reader.new ≡ reader_fault result }
 {
@@ -241,13 +243,16 @@ fn other_item<R: Read>(
 ) -> Result<Item, ReadError>
     requires clear { fault_of reader.old ≡ None }
     requires begun { HasKind start.versions start.order start.offset n field bytes.items false }
-    ensures found { (abbreviations : List ℕ) → IfOk result (λ x. TakesItem start.versions start.order abbreviations start.offset
+    ensures found { (abbreviations : List ℕ) → IfOk result
+        (λ x. TakesItem start.versions start.order abbreviations start.offset
         (behind bytes.items (R.remaining (inner_of reader.old)))
         (R.remaining (inner_of reader.new)) (item_of x)) }
-    ensures broken { (abbreviations : List ℕ) → IfErr result (TakesNoItem start.versions start.order abbreviations start.offset
+    ensures broken { (abbreviations : List ℕ) → IfErr result
+        (TakesNoItem start.versions start.order abbreviations start.offset
         (behind bytes.items (R.remaining (inner_of reader.old)))
         (R.remaining (inner_of reader.new))) }
-    ensures memory { KeptSome (behind bytes.items (R.remaining (inner_of reader.old))) (R.remaining (inner_of reader.new)) result }
+    ensures memory { KeptSome (behind bytes.items (R.remaining (inner_of reader.old)))
+        (R.remaining (inner_of reader.new)) result }
     ensures fault { fault_of reader.new ≡ reader_fault result }
 {
     let size = field as u64 + n;

@@ -55,8 +55,10 @@ impl Section {
     /// that signature; `Supplementary`.
     pub fn resolve(&self, from: EntryId, attr: &AttrRef<'_>) -> Result<EntryId, RefFault>
         requires { IsSome (unit_at self.now.items from.item) }
-        ensures named { (u : WholeUnit) → unit_at self.now.items from.item ≡ Some u → result ≡ named self.now.items from.item u attr.now.form (attribute_of attr.now.attr).value }
-        ensures entry { IfOk result (λ id. (e : EntryAt) × (entry self.now.items id ≡ Some e) × (e.offset ≡ id.offset)) }
+        ensures named { (u : WholeUnit) → unit_at self.now.items from.item ≡ Some u
+            → result ≡ named self.now.items from.item u attr.now.form (attribute_of attr.now.attr).value }
+        ensures entry { IfOk result (λ id. (e : EntryAt) × (entry self.now.items id ≡ Some e)
+            × (e.offset ≡ id.offset)) }
     {
         match attr.attr.as_number() {
             Some(value) => self.named_by(from.item, value, RefKind::of(attr.form)),
@@ -75,8 +77,10 @@ impl Section {
     ) -> Result<EntryId, RefFault>
         requires unit { IsSome (unit_at self.now.items from.item) }
         requires known { (u : WholeUnit) → unit_at self.now.items from.item ≡ Some u → AreEntryOffsets u begins.now }
-        ensures named { (u : WholeUnit) → unit_at self.now.items from.item ≡ Some u → result ≡ named self.now.items from.item u attr.now.form (attribute_of attr.now.attr).value }
-        ensures entry { IfOk result (λ id. (e : EntryAt) × (entry self.now.items id ≡ Some e) × (e.offset ≡ id.offset)) }
+        ensures named { (u : WholeUnit) → unit_at self.now.items from.item ≡ Some u
+            → result ≡ named self.now.items from.item u attr.now.form (attribute_of attr.now.attr).value }
+        ensures entry { IfOk result (λ id. (e : EntryAt) × (entry self.now.items id ≡ Some e)
+            × (e.offset ≡ id.offset)) }
     {
         if let Some(RefKind::InUnit) = RefKind::of(attr.form) {
             if let Some(offset) = attr.attr.as_number() {
@@ -94,7 +98,8 @@ impl Section {
     /// The entry that a number names, where it is a reference in the unit of this item.
     fn named_by(&self, item: usize, value: u64, kind: Option<RefKind>) -> Result<EntryId, RefFault>
         requires { IsSome (unit_at self.now.items item) }
-        ensures { (u : WholeUnit) → unit_at self.now.items item ≡ Some u → result ≡ named_by self.now.items item u value kind }
+        ensures { (u : WholeUnit) → unit_at self.now.items item ≡ Some u → result
+            ≡ named_by self.now.items item u value kind }
     {
         match kind {
             Some(RefKind::InUnit) => self.in_unit(item, value),

@@ -52,7 +52,9 @@ impl Model for Section {
 
     ghost view = { λ s. record { order = s.order; versions = s.versions; items = map item_of s.items.items } };
 
-    ghost invariant = { λ s. IsSection (record { order = s.order; versions = s.versions; items = map item_of s.items.items }) s.starts.items s.bases.items s.types.entries s.end };
+    ghost invariant = { λ s.
+        IsSection (record { order = s.order; versions = s.versions; items = map item_of s.items.items })
+        s.starts.items s.bases.items s.types.entries s.end };
 }
 
 impl Section {

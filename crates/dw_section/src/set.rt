@@ -72,7 +72,9 @@ impl Section {
         number: i128,
     ) -> Option<SetRefusal>
         requires { unit_at self.now.items id.item ≡ Some unit.now }
-        ensures { result ≡ definition.entry_refusal self.now.items id name number unit.now start (find_at id.offset (entries_of (tree_of unit.now))) }
+        ensures { result
+            ≡ definition.entry_refusal self.now.items id name number unit.now start
+            (find_at id.offset (entries_of (tree_of unit.now))) }
     {
         let entry = match unit.entry_at(id.offset) {
             Some(entry) => entry,
@@ -99,7 +101,8 @@ impl Section {
     ) -> Option<SetRefusal>
         requires { IsSome (unit_at self.now.items id.item) }
         ensures { (u : WholeUnit) → unit_at self.now.items id.item ≡ Some u →
-            result ≡ definition.value_refusal self.now.items id u start entry.now (attr_of attr.now) (Ok (value_of value.now)) }
+            result ≡ definition.value_refusal self.now.items id u start entry.now (attr_of attr.now)
+            (Ok (value_of value.now)) }
     {
         let new = AttrRef {
             name: attr.name,
@@ -126,7 +129,8 @@ impl Section {
     fn names_entry(&self, id: EntryId, attr: &AttrRef<'_>) -> bool
         requires { IsSome (unit_at self.now.items id.item) }
         ensures { (u : WholeUnit) → unit_at self.now.items id.item ≡ Some u →
-            result ≡ not (definition.names_nothing (at_number attr.now.form ref_forms) (named self.now.items id.item u attr.now.form (attribute_of attr.now.attr).value)) }
+            result ≡ not (definition.names_nothing (at_number attr.now.form ref_forms)
+            (named self.now.items id.item u attr.now.form (attribute_of attr.now.attr).value)) }
     {
         RefKind::of(attr.form).is_none() || self.resolve(id, attr).is_ok()
     }
@@ -156,8 +160,10 @@ fn new_value<'a>(
 
 /// Puts a number in the unit that an item is, and gives the base of its strings then.
 fn put_in_item(item: &mut Item, offset: u64, name: u64, number: i128) -> Option<u64>
-    requires { (u : WholeUnit) × (item_of item.old ≡ Known u) × Takes (record { offset = offset; name = name; number = number }) (tree_of u) }
-    ensures put { item_of item.new ≡ definition.put_in_item (record { offset = offset; name = name; number = number }) (item_of item.old) }
+    requires { (u : WholeUnit) × (item_of item.old ≡ Known u)
+        × Takes (record { offset = offset; name = name; number = number }) (tree_of u) }
+    ensures put { item_of item.new
+        ≡ definition.put_in_item (record { offset = offset; name = name; number = number }) (item_of item.old) }
     ensures keeps { definition.ItemKept (item_of item.old) (item_of item.new) }
     ensures base { result ≡ strings.base_in (item_of item.new) }
 {

@@ -20,11 +20,13 @@ use std::io::Write;
 /// Errors: `Io` with the kind of the writer's failure, `WriteZero` where it took no byte of some.
 pub fn write_section<W: Write>(section: &Section, writer: &mut Watched<W>) -> Result<(), WriteError>
     requires { fault_of writer.old ≡ None }
-    ensures written { Wrote (W.contents (inner_of writer.old)) (W.contents (inner_of writer.new)) (section_bytes section.now) result }
+    ensures written { Wrote (W.contents (inner_of writer.old)) (W.contents (inner_of writer.new))
+        (section_bytes section.now) result }
     ensures fault { fault_of writer.new ≡ writer_fault result }
     ensures fits { SectionFits section.now }
     ensures read_back { (abbreviations : List ℕ) → HoldsTables abbreviations section.now.items
-        → SectionReadAs section.now.versions section.now.order abbreviations section.now.items (section_bytes section.now) }
+        → SectionReadAs section.now.versions section.now.order abbreviations section.now.items
+        (section_bytes section.now) }
 {
     write_items(section.items.as_slice(), writer)
 }
@@ -32,7 +34,8 @@ pub fn write_section<W: Write>(section: &Section, writer: &mut Watched<W>) -> Re
 /// Writes items, one after the other.
 fn write_items<W: Write>(items: &[Item], writer: &mut Watched<W>) -> Result<(), WriteError>
     requires { fault_of writer.old ≡ None }
-    ensures written { Wrote (W.contents (inner_of writer.old)) (W.contents (inner_of writer.new)) (items_bytes (map item_of items.now)) result }
+    ensures written { Wrote (W.contents (inner_of writer.old)) (W.contents (inner_of writer.new))
+        (items_bytes (map item_of items.now)) result }
     ensures fault { fault_of writer.new ≡ writer_fault result }
 {
     let mut left = items;
@@ -46,7 +49,9 @@ fn write_items<W: Write>(items: &[Item], writer: &mut Watched<W>) -> Result<(), 
 /// Writes an item.
 fn write_item<W: Write>(item: &Item, writer: &mut Watched<W>) -> Result<(), WriteError>
     requires { fault_of writer.old ≡ None }
-    ensures written { Wrote (W.contents (inner_of writer.old)) (W.contents (inner_of writer.new)) (item_bytes (item_of item.now)) result }
+    ensures written { Wrote (W.contents (inner_of writer.old)) (W.contents (inner_of writer.new))
+        (item_bytes (item_of item.now))
+        result }
     ensures fault { fault_of writer.new ≡ writer_fault result }
 {
     match item {

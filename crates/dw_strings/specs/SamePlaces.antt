@@ -28,6 +28,8 @@ module _ (one other : StringSections) (offsets : one.str_offsets ≡ other.str_o
   pub placed_same : (form : ℕ) (value : Value) → named_place one u form value ≡ named_place other u form value
   placed_same form value = by (form == 0x08)
     where
-      by : (v : Bool) → (if v then own_text (text_in value) else by_number one u form (number_in value)) ≡ (if v then own_text (text_in value) else by_number other u form (number_in value))
+      by : (v : Bool)
+          → (if v then own_text (text_in value) else by_number one u form (number_in value))
+          ≡ (if v then own_text (text_in value) else by_number other u form (number_in value))
       by true = refl
       by false = numbered_same form (number_in value)

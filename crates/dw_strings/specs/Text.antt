@@ -39,13 +39,16 @@ unless_ended (Some bytes) = Ok bytes
 
 -- the bytes from an offset to before the first zero
 abbrev pub text_at : List ℕ → ℕ → Named
-text_at section offset = if nat_le (length section) offset then Err PastSection else unless_ended (before_zero (drop offset section))
+text_at section offset =
+    if nat_le (length section) offset then Err PastSection else unless_ended (before_zero (drop offset section))
 
 -- ---- by an index
 
 -- the number of so many bytes that begins at a place, if all of them lie there
 abbrev pub number_at : Order → ℕ → List ℕ → ℕ → Option ℕ
-number_at order size bytes place = if nat_le (place + size) (length bytes) then Some (undigits 256 (ordered order (take size (drop place bytes)))) else None
+number_at order size bytes place =
+    if nat_le (place + size) (length bytes) then Some (undigits 256 (ordered order (take size (drop place bytes))))
+    else None
 
 -- ---- where a text begins
 
@@ -62,10 +65,12 @@ abbrev pub at_entry : Option ℕ → Placed
 at_entry None = Err PastOffsets
 at_entry (Some offset) = Ok (InStr offset)
 
--- the entries of a unit begin at its base, and are offsets of its format in its byte order; a place is a whole number without bound
+-- the entries of a unit begin at its base, and are offsets of its format in its byte order; a place is a whole number
+-- without bound
 abbrev pub by_index : StringSections → Header → Option ℕ → ℕ → Placed
 by_index s h None index = Err NoBase
-by_index s h (Some base) index = at_entry (number_at h.order (offset_size h.format) s.str_offsets (base + index * offset_size h.format))
+by_index s h (Some base) index =
+    at_entry (number_at h.order (offset_size h.format) s.str_offsets (base + index * offset_size h.format))
 
 -- the forms of texts that a number names: strp; line_strp; strx, strx1 to strx4; strp_sup, GNU_strp_alt
 abbrev pub stored_forms : List (ℕ × StoredIn)
@@ -98,7 +103,8 @@ own_text (Some bytes) = Ok (Own bytes)
 
 -- where the text begins that a value under a form names in a unit; one of the form string is its own text
 abbrev pub named_place : StringSections → WholeUnit → ℕ → Value → Placed
-named_place s u form value = if form == DW_FORM_string then own_text (text_in value) else by_number s u form (number_in value)
+named_place s u form value =
+    if form == DW_FORM_string then own_text (text_in value) else by_number s u form (number_in value)
 
 -- ---- by a value
 

@@ -46,7 +46,10 @@ impl<'a> Strings<'a> {
         attribute: &AttrRef<'a>,
     ) -> Result<&'a [u8], StrFault>
         requires { IsSome (unit_at section.now.items id.item) }
-        ensures { (u : WholeUnit) → unit_at section.now.items id.item ≡ Some u → seen result ≡ definition.named_text (sections_of self.now) u attribute.now.form (attribute_of attribute.now.attr).value }
+        ensures { (u : WholeUnit) → unit_at section.now.items id.item ≡ Some u
+            → seen result
+            ≡ definition.named_text (sections_of self.now) u attribute.now.form
+            (attribute_of attribute.now.attr).value }
     {
         match self.place(section, id, attribute) {
             Ok(place) => self.text_at(place),
@@ -67,7 +70,10 @@ impl<'a> Strings<'a> {
         attribute: &AttrRef<'a>,
     ) -> Result<TextPlace<'a>, StrFault>
         requires { IsSome (unit_at section.now.items id.item) }
-        ensures { (u : WholeUnit) → unit_at section.now.items id.item ≡ Some u → seen_place result ≡ definition.named_place (sections_of self.now) u attribute.now.form (attribute_of attribute.now.attr).value }
+        ensures { (u : WholeUnit) → unit_at section.now.items id.item ≡ Some u
+            → seen_place result
+            ≡ definition.named_place (sections_of self.now) u attribute.now.form
+            (attribute_of attribute.now.attr).value }
     {
         if attribute.form == DW_FORM_STRING {
             return own_text(&attribute.attr);
@@ -96,7 +102,8 @@ impl<'a> Strings<'a> {
     /// section than `text` has, and one. A text that has a zero byte in itself begins nowhere in a section. No memory
     /// is taken.
     pub fn has_text(&self, place: TextPlace<'a>, text: &[u8]) -> bool
-        ensures { result ≡ definition.is_text text.now (definition.text_in_place (sections_of self.now) (place_of place.entry)) }
+        ensures { result
+            ≡ definition.is_text text.now (definition.text_in_place (sections_of self.now) (place_of place.entry)) }
     {
         match place {
             TextPlace::Own(own) => own == text,
@@ -114,7 +121,8 @@ impl<'a> Strings<'a> {
         stored: Option<StoredIn>,
     ) -> Result<TextPlace<'a>, StrFault>
         requires { IsSome (unit_at section.now.items item) }
-        ensures { (u : WholeUnit) → unit_at section.now.items item ≡ Some u → seen_place result ≡ definition.stored (sections_of self.now) u number stored }
+        ensures { (u : WholeUnit) → unit_at section.now.items item ≡ Some u
+            → seen_place result ≡ definition.stored (sections_of self.now) u number stored }
     {
         match stored {
             Some(StoredIn::Str) => Ok(TextPlace::Str(number)),
@@ -133,7 +141,8 @@ impl<'a> Strings<'a> {
         index: u64,
     ) -> Result<TextPlace<'a>, StrFault>
         requires { IsSome (unit_at section.now.items item) }
-        ensures { (u : WholeUnit) → unit_at section.now.items item ≡ Some u → seen_place result ≡ definition.by_index (sections_of self.now) u.header (base_of u) index }
+        ensures { (u : WholeUnit) → unit_at section.now.items item ≡ Some u
+            → seen_place result ≡ definition.by_index (sections_of self.now) u.header (base_of u) index }
     {
         let header = match section.unit(item) {
             Some(unit) => unit.header(),

@@ -13,8 +13,8 @@ use std::test::Fail;
 /// One declaration: code 1, tag 0x11, no children, one pair of name 3 and form 8.
 const ONE_PAIR: [u8; 8] = [0x01, 0x11, 0, 0x03, 0x08, 0, 0, 0];
 
-/// Code 1 with a number of 2 bytes, an address, an offset into a section, a constant of its own, a text and a flag: the first
-/// four have sizes that their forms tell.
+/// Code 1 with a number of 2 bytes, an address, an offset into a section, a constant of its own, a text and a flag: the
+/// first four have sizes that their forms tell.
 const SIX_PAIRS: [u8; 19] = [
     0x01, 0x34, 0, 0x0b, 0x05, 0x11, 0x01, 0x02, 0x17, 0x1c, 0x21, 0x07, 0x03, 0x08, 0x3f, 0x19, 0,
     0, 0,

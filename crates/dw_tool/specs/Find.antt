@@ -22,11 +22,13 @@ abbrev pub found_line : ℕ → EntryAt → List ℕ
 found_line start e = hexadecimal (start + e.offset) ++ (codes " " ++ (tag_text (tag_at e) ++ codes "\n"))
 
 abbrev pub found_entry : StringSections → List Item → ℕ → List ℕ → EntryAt → List ℕ
-found_entry strings items item name e = if is_named strings items item name e then found_line (start_at items item) e else []
+found_entry strings items item name e =
+    if is_named strings items item name e then found_line (start_at items item) e else []
 
 abbrev pub found_entries : StringSections → List Item → ℕ → List ℕ → List EntryAt → List ℕ
 found_entries strings items item name [] = []
-found_entries strings items item name (e ∷ rest) = found_entry strings items item name e ++ found_entries strings items item name rest
+found_entries strings items item name (e ∷ rest) =
+    found_entry strings items item name e ++ found_entries strings items item name rest
 
 -- of a unit the entries of this name, each before those below it; what isn't read has none
 abbrev pub found_item : StringSections → List Item → ℕ → List ℕ → Item → List ℕ
@@ -36,7 +38,8 @@ found_item strings items number name (Other bytes) = []
 -- of items one after the other, the first of which has this number
 abbrev pub found_items : StringSections → List Item → ℕ → List ℕ → List Item → List ℕ
 found_items strings items number name [] = []
-found_items strings items number name (x ∷ xs) = found_item strings items number name x ++ found_items strings items (suc number) name xs
+found_items strings items number name (x ∷ xs) =
+    found_item strings items number name x ++ found_items strings items (suc number) name xs
 
 abbrev pub found_text : StringSections → List ℕ → WholeSection → List ℕ
 found_text strings name s = found_items strings s.items 0 name s.items

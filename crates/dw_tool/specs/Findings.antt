@@ -7,7 +7,9 @@ use Rattle.dw_tool.specs.Text.{hexadecimal, labelled_decimal}
 -- where its entry begins, the position of the attribute, and the number and the name of its kind
 abbrev pub finding_line : Finding → List ℕ
 finding_line f =
-    hexadecimal f.offset ++ (labelled_decimal (codes " ") f.position ++ (labelled_decimal (codes " ") (kind_number f.kind) ++ (codes " " ++ (kind_name f.kind ++ codes "\n"))))
+    hexadecimal f.offset
+    ++ (labelled_decimal (codes " ") f.position
+    ++ (labelled_decimal (codes " ") (kind_number f.kind) ++ (codes " " ++ (kind_name f.kind ++ codes "\n"))))
 
 abbrev pub findings_text : List Finding → List ℕ
 findings_text [] = []

@@ -1,5 +1,5 @@
--- The text of an entry in the pieces in which it is appended: each newline is in one piece with the beginning of the line
--- behind it.
+-- The text of an entry in the pieces in which it is appended: each newline is in one piece with the beginning of the
+-- line behind it.
 use Rattle.std.specs.Prelude.{ℕ, ◌+◌, List, [], ◌∷◌, ◌++◌, codes}
 use Rattle.dw_tree.specs.Lent.{LentAttribute, EntryAt}
 use Rattle.dw_section.specs.Item.{Item}
@@ -25,12 +25,16 @@ depth_text depth = labelled_decimal (codes "<") depth ++ codes "> "
 
 -- the line of an entry without its newline
 abbrev pub entry_head : ℕ → EntryAt → List ℕ
-entry_head start e = labelled_decimal (codes "<") e.depth ++ (labelled (codes "> ") (start + e.offset) ++ (codes " " ++ tag_text (tag_at e)))
+entry_head start e =
+    labelled_decimal (codes "<") e.depth
+    ++ (labelled (codes "> ") (start + e.offset) ++ (codes " " ++ tag_text (tag_at e)))
 
 -- a newline, and the line of an attribute without its own
 abbrev pub next_attribute : StringSections → List Item → ℕ → LentAttribute → List ℕ
-next_attribute strings items item a = codes "\n  " ++ (attribute_text a.name ++ (codes " " ++ placed_value strings items item a))
+next_attribute strings items item a =
+    codes "\n  " ++ (attribute_text a.name ++ (codes " " ++ placed_value strings items item a))
 
 abbrev pub next_attributes : StringSections → List Item → ℕ → List LentAttribute → List ℕ
 next_attributes strings items item [] = []
-next_attributes strings items item (a ∷ rest) = next_attribute strings items item a ++ next_attributes strings items item rest
+next_attributes strings items item (a ∷ rest) =
+    next_attribute strings items item a ++ next_attributes strings items item rest

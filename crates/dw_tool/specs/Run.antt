@@ -35,8 +35,8 @@ abbrev pub bytes_then : Result WholeSection Refused → Result (List ℕ) ToolEr
 bytes_then (Ok s) = Ok (section_bytes s)
 bytes_then (Err why) = Err (tool.Refused why)
 
--- of a section `show` writes the text, `find` the entries of a name, `type` the type of an entry, `check` what is wrong, `set` the bytes
--- with a number in the place of another, and `copy` the bytes
+-- of a section `show` writes the text, `find` the entries of a name, `type` the type of an entry, `check` what is
+-- wrong, `set` the bytes with a number in the place of another, and `copy` the bytes
 abbrev pub output : Command → StringSections → WholeSection → Result (List ℕ) ToolError
 output Show strings s = Ok (section_text strings s)
 output (Find name) strings s = Ok (found_text strings name.now s)
@@ -62,8 +62,8 @@ status_of Check text = checked_status text
 status_of (SetNumber offset name value) text = Good
 status_of Copy text = Good
 
--- `type` makes its line before it writes it, and `check` its findings, where there is a unit; the others need no memory once the
--- section is read
+-- `type` makes its line before it writes it, and `check` its findings, where there is a unit; the others need no memory
+-- once the section is read
 abbrev pub NeedsMemory : Command → WholeSection → Type 0
 NeedsMemory Show s = ⊥
 NeedsMemory (Find name) s = ⊥
@@ -72,29 +72,42 @@ NeedsMemory Check s = (item : ℕ) × IsSome (unit_at s.items item)
 NeedsMemory (SetNumber offset name value) s = ⊥
 NeedsMemory Copy s = ⊥
 
--- What is written of a section, by what the writer holds before and after, and answered. Where there is no output nothing is written.
-abbrev pub Writes : Command → StringSections → WholeSection → Option (List ℕ) → Option (List ℕ) → Result Status ToolError → Type 0
-Writes command strings s held held' (Ok status) = (text : List ℕ) × (output command strings s ≡ Ok text) × Appends held held' text × (status ≡ status_of command text)
-Writes command strings s held held' (Err (tool.Write kind)) = (text : List ℕ) × (output command strings s ≡ Ok text) × AppendsFront held held' text
-Writes command strings s held held' (Err (tool.Refused r)) = (output command strings s ≡ Err (tool.Refused r)) × Keeps held held'
-Writes command strings s held held' (Err tool.Memory) = (text : List ℕ) × (output command strings s ≡ Ok text) × NeedsMemory command s × Keeps held held'
+-- What is written of a section, by what the writer holds before and after, and answered. Where there is no output
+-- nothing is written.
+abbrev pub Writes : Command → StringSections → WholeSection → Option (List ℕ) → Option (List ℕ)
+    → Result Status ToolError → Type 0
+Writes command strings s held held' (Ok status) =
+    (text : List ℕ) × (output command strings s ≡ Ok text) × Appends held held' text × (status ≡ status_of command text)
+Writes command strings s held held' (Err (tool.Write kind)) =
+    (text : List ℕ) × (output command strings s ≡ Ok text) × AppendsFront held held' text
+Writes command strings s held held' (Err (tool.Refused r)) =
+    (output command strings s ≡ Err (tool.Refused r)) × Keeps held held'
+Writes command strings s held held' (Err tool.Memory) =
+    (text : List ℕ) × (output command strings s ≡ Ok text) × NeedsMemory command s × Keeps held held'
 Writes command strings s held held' (Err (tool.Fault f)) = ⊥
 Writes command strings s held held' (Err (tool.Read kind)) = ⊥
 
--- What a run answers, by the bytes that its reader has left and its writer holds, before and after. Nothing is written before the whole
--- section was read, and nothing at all where it is refused. A fault is the section's first one.
-abbrev pub Runs : Command → StringSections → Versions → Order → List ℕ → Option (List ℕ) → Option (List ℕ) → Option (List ℕ) → Option (List ℕ) → Result Status ToolError → Type 0
-Runs command strings versions order abbreviations left left' held held' (Err (tool.Fault f)) = TakesNoSection versions order abbreviations left left' (reads.Fault f) × Keeps held held'
-Runs command strings versions order abbreviations left left' held held' (Err (tool.Read kind)) = TakesNoSection versions order abbreviations left left' (reads.Io kind) × Keeps held held'
+-- What a run answers, by the bytes that its reader has left and its writer holds, before and after. Nothing is written
+-- before the whole section was read, and nothing at all where it is refused. A fault is the section's first one.
+abbrev pub Runs : Command → StringSections → Versions → Order → List ℕ → Option (List ℕ) → Option (List ℕ)
+    → Option (List ℕ) → Option (List ℕ) → Result Status ToolError → Type 0
+Runs command strings versions order abbreviations left left' held held' (Err (tool.Fault f)) =
+    TakesNoSection versions order abbreviations left left' (reads.Fault f) × Keeps held held'
+Runs command strings versions order abbreviations left left' held held' (Err (tool.Read kind)) =
+    TakesNoSection versions order abbreviations left left' (reads.Io kind) × Keeps held held'
 Runs command strings versions order abbreviations left left' held held' (Err tool.Memory) =
     (TakesNoSection versions order abbreviations left left' reads.NoMemory × Keeps held held')
-    ⊎ ((s : WholeSection) × TakesSection versions order abbreviations left left' s × Writes command strings s held held' (Err tool.Memory))
+    ⊎ ((s : WholeSection) × TakesSection versions order abbreviations left left' s
+    × Writes command strings s held held' (Err tool.Memory))
 Runs command strings versions order abbreviations left left' held held' (Err (tool.Write kind)) =
-    (s : WholeSection) × TakesSection versions order abbreviations left left' s × Writes command strings s held held' (Err (tool.Write kind))
+    (s : WholeSection) × TakesSection versions order abbreviations left left' s
+    × Writes command strings s held held' (Err (tool.Write kind))
 Runs command strings versions order abbreviations left left' held held' (Err (tool.Refused r)) =
-    (s : WholeSection) × TakesSection versions order abbreviations left left' s × Writes command strings s held held' (Err (tool.Refused r))
+    (s : WholeSection) × TakesSection versions order abbreviations left left' s
+    × Writes command strings s held held' (Err (tool.Refused r))
 Runs command strings versions order abbreviations left left' held held' (Ok status) =
-    (s : WholeSection) × TakesSection versions order abbreviations left left' s × Writes command strings s held held' (Ok status)
+    (s : WholeSection) × TakesSection versions order abbreviations left left' s
+    × Writes command strings s held held' (Ok status)
 
 -- At Memory there was something to keep: of known bytes at least one was read.
 abbrev pub TookBytes : {X : Type 0} → Option (List ℕ) → Option (List ℕ) → Result X ToolError → Type 0

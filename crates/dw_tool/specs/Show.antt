@@ -107,11 +107,13 @@ abbrev pub placed_value : StringSections → List Item → ℕ → LentAttribute
 placed_value strings items item a = value_text a.attr.value ++ named_behind strings items item a
 
 abbrev pub attribute_line : StringSections → List Item → ℕ → LentAttribute → List ℕ
-attribute_line strings items item a = codes "  " ++ (attribute_text a.name ++ (codes " " ++ (placed_value strings items item a ++ codes "\n")))
+attribute_line strings items item a =
+    codes "  " ++ (attribute_text a.name ++ (codes " " ++ (placed_value strings items item a ++ codes "\n")))
 
 abbrev pub attribute_lines : StringSections → List Item → ℕ → List LentAttribute → List ℕ
 attribute_lines strings items item [] = []
-attribute_lines strings items item (a ∷ rest) = attribute_line strings items item a ++ attribute_lines strings items item rest
+attribute_lines strings items item (a ∷ rest) =
+    attribute_line strings items item a ++ attribute_lines strings items item rest
 
 -- the tag that an entry's declaration gives it
 abbrev pub tag_at : EntryAt → ℕ
@@ -119,10 +121,13 @@ tag_at e = tag_of (declared e.table (code_of e.node).value)
 
 -- its depth, where it begins if its unit starts here, and its tag
 abbrev pub entry_line : ℕ → EntryAt → List ℕ
-entry_line start e = labelled_decimal (codes "<") e.depth ++ (labelled (codes "> ") (start + e.offset) ++ (codes " " ++ (tag_text (tag_at e) ++ codes "\n")))
+entry_line start e =
+    labelled_decimal (codes "<") e.depth
+    ++ (labelled (codes "> ") (start + e.offset) ++ (codes " " ++ (tag_text (tag_at e) ++ codes "\n")))
 
 abbrev pub entry_text : StringSections → List Item → ℕ → EntryAt → List ℕ
-entry_text strings items item e = entry_line (start_at items item) e ++ attribute_lines strings items item (attributes_of e)
+entry_text strings items item e =
+    entry_line (start_at items item) e ++ attribute_lines strings items item (attributes_of e)
 
 abbrev pub entries_text : StringSections → List Item → ℕ → List EntryAt → List ℕ
 entries_text strings items item [] = []
@@ -151,18 +156,24 @@ added_text Four = []
 
 -- the unit's size, the offset of its abbreviation table, and the size of an address
 abbrev pub header_sizes : Header → ℕ → List ℕ
-header_sizes h size = labelled_decimal (codes " size ") size ++ (labelled (codes " abbrev ") h.abbrev_offset ++ labelled_decimal (codes " addr ") h.address_size)
+header_sizes h size =
+    labelled_decimal (codes " size ") size
+    ++ (labelled (codes " abbrev ") h.abbrev_offset ++ labelled_decimal (codes " addr ") h.address_size)
 
 -- the header of a unit of this size that starts here
 abbrev pub header_line : ℕ → Header → ℕ → List ℕ
 header_line start h size =
-    labelled (codes "unit ") start ++ (codes " " ++ (kind_text h.kind ++ (format_text h.format ++ (header_sizes h size ++ (added_text h.kind ++ codes "\n")))))
+    labelled (codes "unit ") start
+    ++ (codes " "
+    ++ (kind_text h.kind ++ (format_text h.format ++ (header_sizes h size ++ (added_text h.kind ++ codes "\n")))))
 
 -- ---- items
 
 -- a unit: its header, and its entries, each before those below it
 abbrev pub unit_text : StringSections → List Item → ℕ → WholeUnit → List ℕ
-unit_text strings items item u = header_line (start_at items item) u.header (length (bytes_of u)) ++ entries_text strings items item (entries_of (tree_of u))
+unit_text strings items item u =
+    header_line (start_at items item) u.header (length (bytes_of u))
+    ++ entries_text strings items item (entries_of (tree_of u))
 
 -- an item that isn't read starts here and has so many bytes
 abbrev pub other_line : ℕ → ℕ → List ℕ

@@ -21,11 +21,14 @@ two_digits byte = digit_glyph false (byte / 16) ∷ digit_glyph false (byte % 16
 -- the number in four of them
 abbrev pub four_digits : ℕ → List ℕ
 four_digits number =
-    digit_glyph false (number / 16 ^ 3 % 16) ∷ digit_glyph false (number / 16 ^ 2 % 16) ∷ digit_glyph false (number / 16 % 16) ∷ digit_glyph false (number % 16) ∷ []
+    digit_glyph false (number / 16 ^ 3 % 16) ∷ digit_glyph false (number / 16 ^ 2 % 16)
+    ∷ digit_glyph false (number / 16 % 16) ∷ digit_glyph false (number % 16) ∷ []
 
 -- the number in eight of them
 abbrev pub eight_digits : ℕ → List ℕ
-eight_digits number = two_digits (number / 16 ^ 6) ++ (two_digits (number / 16 ^ 4 % 256) ++ (two_digits (number / 256 % 256) ++ two_digits (number % 256)))
+eight_digits number =
+    two_digits (number / 16 ^ 6)
+    ++ (two_digits (number / 16 ^ 4 % 256) ++ (two_digits (number / 256 % 256) ++ two_digits (number % 256)))
 
 -- a tag, and an attribute, by its name or else its number
 abbrev pub tag_text : ℕ → List ℕ

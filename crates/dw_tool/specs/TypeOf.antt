@@ -13,7 +13,8 @@ use Rattle.dw_ctype.specs.Types.{Source, name_of, tag}
 
 -- a variable, formal_parameter, member or subprogram
 abbrev pub has_name : ℕ → Bool
-has_name tag = tag == DW_TAG_variable || (tag == DW_TAG_formal_parameter || (tag == DW_TAG_member || tag == DW_TAG_subprogram))
+has_name tag =
+    tag == DW_TAG_variable || (tag == DW_TAG_formal_parameter || (tag == DW_TAG_member || tag == DW_TAG_subprogram))
 
 -- the name of such an entry, where it can be looked up
 abbrev pub own_name : Source → ℕ → EntryAt → List ℕ
@@ -33,7 +34,8 @@ line_at s (Some id) = line_of (answer s id (name_shown s id.item (entry s.items 
 
 -- the line, or why there is none, whatever memory there is
 abbrev pub type_line : StringSections → ℕ → WholeSection → Result (List ℕ) TypeError
-type_line strings offset section = line_at (record { items = section.items; strings = strings }) (find section.items offset)
+type_line strings offset section =
+    line_at (record { items = section.items; strings = strings }) (find section.items offset)
 
 -- why there is no line: there is none, or memory was refused for one
 abbrev pub OrMemory : Result (List ℕ) TypeError → TypeError → Type 0

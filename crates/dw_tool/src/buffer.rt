@@ -55,8 +55,9 @@ impl Buffer {
         self.used = 0;
     }
 
-    /// Puts the first `count` of the bytes behind those in it, where there is room for all the bytes. Else, and only then,
-    /// the answer is false, and nothing is changed. All are moved, and those behind the first `count` stand for nothing.
+    /// Puts the first `count` of the bytes behind those in it, where there is room for all the bytes. Else, and only
+    /// then, the answer is false, and nothing is changed. All are moved, and those behind the first `count` stand for
+    /// nothing.
     #[inline(always)]
     pub(crate) fn put_front(&mut self, bytes: &[u8], count: usize) -> bool
         requires { count ≤ length bytes.now }

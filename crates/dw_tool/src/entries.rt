@@ -47,7 +47,8 @@ struct Origin<'a> {
     from: EntryId,
 }
 
-/// Appends the texts of entries of a unit, one after the other. `begins` are offsets at which entries of the unit begin.
+/// Appends the texts of entries of a unit, one after the other. `begins` are offsets at which entries of the unit
+/// begin.
 pub(crate) fn push_entries<W: Write>(
     out: &mut Output<'_, W>,
     place: &Place<'_>,
@@ -57,7 +58,9 @@ pub(crate) fn push_entries<W: Write>(
     requires clear { IsClear out.old }
     requires place { IsPlace place.now }
     requires begins { BeginIn place.now.section.now.items place.now.item begins.now }
-    ensures { Puts W.contents out.old out.new (entries_text (sections_of place.now.strings.now) place.now.section.now.items place.now.item entries.entry) result }
+    ensures { Puts W.contents out.old out.new
+        (entries_text (sections_of place.now.strings.now) place.now.section.now.items place.now.item entries.entry)
+        result }
 {
     for entry in entries {
         push_entry(out, place, begins, &entry)?;
@@ -76,7 +79,8 @@ fn push_entry<W: Write>(
     requires clear { IsClear out.old }
     requires place { IsPlace place.now }
     requires begins { BeginIn place.now.section.now.items place.now.item begins.now }
-    ensures { Puts W.contents out.old out.new (entry_text (sections_of place.now.strings.now) place.now.section.now.items place.now.item entry.now) result }
+    ensures { Puts W.contents out.old out.new
+        (entry_text (sections_of place.now.strings.now) place.now.section.now.items place.now.item entry.now) result }
 {
     push_entry_head(out, place.start, entry)?;
     let origin = Origin {
@@ -130,7 +134,10 @@ fn push_attributes<W: Write>(
 ) -> Result<(), WriteError>
     requires clear { IsClear out.old }
     requires origin { IsOrigin origin.now }
-    ensures { Puts W.contents out.old out.new (next_attributes (sections_of origin.now.strings.now) origin.now.section.now.items origin.now.from.item attributes.entry) result }
+    ensures { Puts W.contents out.old out.new
+        (next_attributes (sections_of origin.now.strings.now) origin.now.section.now.items origin.now.from.item
+        attributes.entry)
+        result }
 {
     let mut left = attributes;
     loop {
@@ -160,7 +167,10 @@ fn push_next_number<W: Write>(
 ) -> Result<(), WriteError>
     requires clear { IsClear out.old }
     requires origin { IsOrigin origin.now }
-    ensures { Puts W.contents out.old out.new (next_attribute (sections_of origin.now.strings.now) origin.now.section.now.items origin.now.from.item (number_of number.now)) result }
+    ensures { Puts W.contents out.old out.new
+        (next_attribute (sections_of origin.now.strings.now) origin.now.section.now.items origin.now.from.item
+        (number_of number.now))
+        result }
 {
     push_attribute(out, number.name)?;
     push_hexadecimal(out, number.number as u128)?;
@@ -176,7 +186,10 @@ fn push_named_by_number<W: Write>(
 ) -> Result<(), WriteError>
     requires clear { IsClear out.old }
     requires origin { IsOrigin origin.now }
-    ensures { Puts W.contents out.old out.new (named_behind (sections_of origin.now.strings.now) origin.now.section.now.items origin.now.from.item (number_of number.now)) result }
+    ensures { Puts W.contents out.old out.new
+        (named_behind (sections_of origin.now.strings.now) origin.now.section.now.items origin.now.from.item
+        (number_of number.now))
+        result }
 {
     match named_under(number.form) {
         Names::Entry => push_reference(out, origin, &number.attribute()),
@@ -194,7 +207,10 @@ fn push_next_attribute<W: Write>(
 ) -> Result<(), WriteError>
     requires clear { IsClear out.old }
     requires origin { IsOrigin origin.now }
-    ensures { Puts W.contents out.old out.new (next_attribute (sections_of origin.now.strings.now) origin.now.section.now.items origin.now.from.item (attr_of attribute.now)) result }
+    ensures { Puts W.contents out.old out.new
+        (next_attribute (sections_of origin.now.strings.now) origin.now.section.now.items origin.now.from.item
+        (attr_of attribute.now))
+        result }
 {
     push_attribute(out, attribute.name)?;
     push_placed_value(out, origin, attribute)
@@ -209,7 +225,10 @@ fn push_placed_value<W: Write>(
 ) -> Result<(), WriteError>
     requires clear { IsClear out.old }
     requires origin { IsOrigin origin.now }
-    ensures { Puts W.contents out.old out.new (placed_value (sections_of origin.now.strings.now) origin.now.section.now.items origin.now.from.item (attr_of attribute.now)) result }
+    ensures { Puts W.contents out.old out.new
+        (placed_value (sections_of origin.now.strings.now) origin.now.section.now.items origin.now.from.item
+        (attr_of attribute.now))
+        result }
 {
     push_value(out, &attribute.attr.value)?;
     push_named(out, origin, attribute)
@@ -224,7 +243,10 @@ fn push_named<W: Write>(
 ) -> Result<(), WriteError>
     requires clear { IsClear out.old }
     requires origin { IsOrigin origin.now }
-    ensures { Puts W.contents out.old out.new (named_behind (sections_of origin.now.strings.now) origin.now.section.now.items origin.now.from.item (attr_of attribute.now)) result }
+    ensures { Puts W.contents out.old out.new
+        (named_behind (sections_of origin.now.strings.now) origin.now.section.now.items origin.now.from.item
+        (attr_of attribute.now))
+        result }
 {
     match named_under(attribute.form) {
         Names::Entry => push_reference(out, origin, attribute),
@@ -299,7 +321,10 @@ fn push_reference<W: Write>(
 ) -> Result<(), WriteError>
     requires clear { IsClear out.old }
     requires origin { IsOrigin origin.now }
-    ensures { Puts W.contents out.old out.new (target_text origin.now.section.now.items (target_of origin.now.section.now.items origin.now.from.item (attr_of attribute.now))) result }
+    ensures { Puts W.contents out.old out.new
+        (target_text origin.now.section.now.items
+        (target_of origin.now.section.now.items origin.now.from.item (attr_of attribute.now)))
+        result }
 {
     let target = origin
         .section
@@ -351,7 +376,8 @@ fn push_text<W: Write>(
 ) -> Result<(), WriteError>
     requires clear { IsClear out.old }
     requires origin { IsOrigin origin.now }
-    ensures { Puts W.contents out.old out.new (named_quoted (text_of (sections_of origin.now.strings.now) origin.now.section.now.items origin.now.from.item (attr_of attribute.now))) result }
+    ensures { Puts W.contents out.old out.new (named_quoted (text_of (sections_of origin.now.strings.now)
+        origin.now.section.now.items origin.now.from.item (attr_of attribute.now))) result }
 {
     match origin.strings.text(origin.section, origin.from, attribute) {
         Ok(text) => push_behind_space(out, text),

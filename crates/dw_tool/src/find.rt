@@ -52,8 +52,11 @@ fn push_found_item<W: Write>(
 ) -> Result<bool, WriteError>
     requires clear { IsClear out.old }
     requires there { slice_get section.now.items number ≡ Some (item_of item.now) }
-    ensures puts { Puts W.contents out.old out.new (found_item (sections_of strings.now) section.now.items number name.now (item_of item.now)) result }
-    ensures any { IfOk result (λ found. found ≡ is_any (found_item (sections_of strings.now) section.now.items number name.now (item_of item.now))) }
+    ensures puts { Puts W.contents out.old out.new
+        (found_item (sections_of strings.now) section.now.items number name.now (item_of item.now)) result }
+    ensures any { IfOk result
+        (λ found.
+        found ≡ is_any (found_item (sections_of strings.now) section.now.items number name.now (item_of item.now))) }
 {
     let Some(start) = section.start(number) else {
         unreachable!()
@@ -81,8 +84,12 @@ fn push_found_entries<W: Write>(
 ) -> Result<bool, WriteError>
     requires clear { IsClear out.old }
     requires place { IsPlace place.now }
-    ensures puts { Puts W.contents out.old out.new (found_entries (sections_of place.now.strings.now) place.now.section.now.items place.now.item name.now entries.entry) result }
-    ensures any { IfOk result (λ found. found ≡ is_any (found_entries (sections_of place.now.strings.now) place.now.section.now.items place.now.item name.now entries.entry)) }
+    ensures puts { Puts W.contents out.old out.new
+        (found_entries (sections_of place.now.strings.now) place.now.section.now.items place.now.item name.now
+        entries.entry)
+        result }
+    ensures any { IfOk result (λ found. found ≡ is_any (found_entries (sections_of place.now.strings.now)
+        place.now.section.now.items place.now.item name.now entries.entry)) }
 {
     let mut found = false;
     for entry in entries {
@@ -100,8 +107,12 @@ fn push_if_named<W: Write>(
 ) -> Result<bool, WriteError>
     requires clear { IsClear out.old }
     requires place { IsPlace place.now }
-    ensures puts { Puts W.contents out.old out.new (found_entry (sections_of place.now.strings.now) place.now.section.now.items place.now.item name.now entry.now) result }
-    ensures any { IfOk result (λ found. found ≡ is_any (found_entry (sections_of place.now.strings.now) place.now.section.now.items place.now.item name.now entry.now)) }
+    ensures puts { Puts W.contents out.old out.new
+        (found_entry (sections_of place.now.strings.now) place.now.section.now.items place.now.item name.now
+        entry.now)
+        result }
+    ensures any { IfOk result (λ found. found ≡ is_any (found_entry (sections_of place.now.strings.now)
+        place.now.section.now.items place.now.item name.now entry.now)) }
 {
     let named = is_named(place, entry, name);
     if named {
@@ -113,7 +124,8 @@ fn push_if_named<W: Write>(
 /// Whether the first DW_AT_name of an entry of a unit has this text.
 fn is_named(place: &Place<'_>, entry: &EntryRef<'_>, name: &[u8]) -> bool
     requires { IsPlace place.now }
-    ensures { result ≡ is_named (sections_of place.now.strings.now) place.now.section.now.items place.now.item name.now entry.now }
+    ensures { result
+        ≡ is_named (sections_of place.now.strings.now) place.now.section.now.items place.now.item name.now entry.now }
 {
     let Some(attribute) = entry.attr(DW_AT_NAME) else {
         return false;

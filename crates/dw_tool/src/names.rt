@@ -131,7 +131,8 @@ pub fn attribute_name(attribute: u64) -> Option<&'static str>
 /// padding. `None` where it has no name.
 #[inline(always)]
 pub(crate) fn tag_label(tag: u64) -> Option<&'static str>
-    ensures label { option_map (λ label. label.now) result ≡ option_map (λ name. tag_label name ++ padding) (name_in tag_names tag) }
+    ensures label { option_map (λ label. label.now) result
+        ≡ option_map (λ name. tag_label name ++ padding) (name_in tag_names tag) }
     ensures long { IfSome result (λ label. 32 ≤ length label.now) }
     ensures short { IfSome result (λ label. length label.now ≤ 56) }
 {
@@ -142,7 +143,8 @@ pub(crate) fn tag_label(tag: u64) -> Option<&'static str>
 /// name and a space, in one piece, and behind it the padding. `None` where it has no name.
 #[inline(always)]
 pub(crate) fn attribute_label(attribute: u64) -> Option<&'static str>
-    ensures label { option_map (λ label. label.now) result ≡ option_map (λ name. attribute_label name ++ padding) (name_in attribute_names attribute) }
+    ensures label { option_map (λ label. label.now) result
+        ≡ option_map (λ name. attribute_label name ++ padding) (name_in attribute_names attribute) }
     ensures long { IfSome result (λ label. 32 ≤ length label.now) }
     ensures short { IfSome result (λ label. length label.now ≤ 56) }
 {

@@ -40,8 +40,8 @@ impl<'a, W: Write> Output<'a, W> {
         self.append_front(bytes, bytes.len())
     }
 
-    /// Appends the first `count` of the bytes, and else does what `append` does. Where there is room for all, all are moved:
-    /// a number of bytes that is known is moved at once.
+    /// Appends the first `count` of the bytes, and else does what `append` does. Where there is room for all, all are
+    /// moved: a number of bytes that is known is moved at once.
     #[inline(always)]
     pub(crate) fn append_front(&mut self, bytes: &[u8], count: usize) -> Result<(), WriteError>
         requires clear { IsClear self.old }

@@ -60,12 +60,10 @@ pub fn run<R: Read, W: Write>(
 ) -> Result<Status, ToolError>
     requires reader { fault_of inputs.info.now ≡ None }
     requires writer { fault_of writer.old ≡ None }
-    ensures runs { Runs command.entry (sections_of inputs.entry.strings) inputs.entry.versions inputs.entry.order inputs.entry.abbrev.now
-        (R.remaining (inner_of inputs.entry.info.now))
-        (R.remaining (inner_of inputs.exit.1.1.0.now))
-        (W.contents (inner_of writer.old))
-        (W.contents (inner_of writer.new))
-        result }
+    ensures runs { Runs command.entry (sections_of inputs.entry.strings) inputs.entry.versions inputs.entry.order
+        inputs.entry.abbrev.now (R.remaining (inner_of inputs.entry.info.now))
+        (R.remaining (inner_of inputs.exit.1.1.0.now)) (W.contents (inner_of writer.old))
+        (W.contents (inner_of writer.new)) result }
     ensures memory { TookBytes
         (R.remaining (inner_of inputs.entry.info.now))
         (R.remaining (inner_of inputs.exit.1.1.0.now))
@@ -93,7 +91,8 @@ fn write_output<W: Write>(
     writer: &mut Watched<W>,
 ) -> Result<Status, ToolError>
     requires { fault_of writer.old ≡ None }
-    ensures written { Writes command.entry (sections_of strings.now) section.old (W.contents (inner_of writer.old)) (W.contents (inner_of writer.new)) result }
+    ensures written { Writes command.entry (sections_of strings.now) section.old (W.contents (inner_of writer.old))
+        (W.contents (inner_of writer.new)) result }
     ensures fault { fault_of writer.new ≡ run_writer_fault result }
 {
     match command {
@@ -124,7 +123,8 @@ fn show<W: Write>(
     writer: &mut Watched<W>,
 ) -> Result<(), WriteError>
     requires { fault_of writer.old ≡ None }
-    ensures written { Wrote (W.contents (inner_of writer.old)) (W.contents (inner_of writer.new)) (section_text (sections_of strings.now) section.now) result }
+    ensures written { Wrote (W.contents (inner_of writer.old)) (W.contents (inner_of writer.new))
+        (section_text (sections_of strings.now) section.now) result }
     ensures fault { fault_of writer.new ≡ writer_fault result }
 {
     let mut out = Output::new(writer);
@@ -139,8 +139,10 @@ fn find<W: Write>(
     writer: &mut Watched<W>,
 ) -> Result<Status, WriteError>
     requires { fault_of writer.old ≡ None }
-    ensures written { Wrote (W.contents (inner_of writer.old)) (W.contents (inner_of writer.new)) (found_text (sections_of strings.now) name.now section.now) result }
-    ensures status { IfOk result (λ status. status ≡ found_status (found_text (sections_of strings.now) name.now section.now)) }
+    ensures written { Wrote (W.contents (inner_of writer.old)) (W.contents (inner_of writer.new))
+        (found_text (sections_of strings.now) name.now section.now) result }
+    ensures status { IfOk result (λ status. status
+        ≡ found_status (found_text (sections_of strings.now) name.now section.now)) }
     ensures fault { fault_of writer.new ≡ writer_fault result }
 {
     let mut out = Output::new(writer);
@@ -157,7 +159,8 @@ fn tell_findings<W: Write>(
     writer: &mut Watched<W>,
 ) -> Result<Status, ToolError>
     requires { fault_of writer.old ≡ None }
-    ensures written { Writes Check (sections_of strings.now) section.now (W.contents (inner_of writer.old)) (W.contents (inner_of writer.new)) result }
+    ensures written { Writes Check (sections_of strings.now) section.now (W.contents (inner_of writer.old))
+        (W.contents (inner_of writer.new)) result }
     ensures fault { fault_of writer.new ≡ run_writer_fault result }
 {
     let found = check(alloc, section, strings)?;
@@ -177,7 +180,8 @@ fn status_by(found: &[Finding]) -> Status
 
 fn write_findings<W: Write>(findings: &[Finding], writer: &mut Watched<W>) -> Result<(), WriteError>
     requires { fault_of writer.old ≡ None }
-    ensures written { Wrote (W.contents (inner_of writer.old)) (W.contents (inner_of writer.new)) (findings_text findings.now) result }
+    ensures written { Wrote (W.contents (inner_of writer.old)) (W.contents (inner_of writer.new))
+        (findings_text findings.now) result }
     ensures fault { fault_of writer.new ≡ writer_fault result }
 {
     let mut out = Output::new(writer);

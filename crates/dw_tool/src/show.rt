@@ -18,10 +18,10 @@ use dw_unit::{Header, Kind, Unit};
 use std::alloc::Global;
 use std::io::Write;
 
-/// Appends the text of a section: of its items, one after the other. Of a unit that are the line of its header
-/// and its entries with their attributes, of another item one line. Offsets count from the section's first
-/// byte. The texts that attributes name are those of `strings`. The memory that is asked for only makes it faster: where
-/// it is refused the text is the same.
+/// Appends the text of a section: of its items, one after the other. Of a unit that are the line of its header and its
+/// entries with their attributes, of another item one line. Offsets count from the section's first byte. The texts that
+/// attributes name are those of `strings`. The memory that is asked for only makes it faster: where it is refused the
+/// text is the same.
 pub(crate) fn push_section<W: Write>(
     alloc: Global,
     out: &mut Output<'_, W>,
@@ -53,7 +53,8 @@ fn push_item<W: Write>(
 ) -> Result<(), WriteError>
     requires clear { IsClear out.old }
     requires there { slice_get section.now.items number ≡ Some (item_of item.now) }
-    ensures { Puts W.contents out.old out.new (item_text (sections_of strings.now) section.now.items number (item_of item.now)) result }
+    ensures { Puts W.contents out.old out.new
+        (item_text (sections_of strings.now) section.now.items number (item_of item.now)) result }
 {
     let Some(start) = section.start(number) else {
         unreachable!()
@@ -83,7 +84,8 @@ fn push_unit<W: Write>(
     requires clear { IsClear out.old }
     requires place { IsPlace place.now }
     requires begins { BeginIn place.now.section.now.items place.now.item begins.now }
-    ensures { Puts W.contents out.old out.new (unit_text (sections_of place.now.strings.now) place.now.section.now.items place.now.item unit.now) result }
+    ensures { Puts W.contents out.old out.new
+        (unit_text (sections_of place.now.strings.now) place.now.section.now.items place.now.item unit.now) result }
 {
     push_header(out, place.start, unit.header(), unit.size())?;
     push_entries(out, place, begins, unit.entries())
@@ -181,7 +183,8 @@ fn push_type<W: Write>(
     type_offset: u64,
 ) -> Result<(), WriteError>
     requires { IsClear out.old }
-    ensures { Puts W.contents out.old out.new (labelled (codes " signature ") signature ++ labelled (codes " type ") type_offset) result }
+    ensures { Puts W.contents out.old out.new
+        (labelled (codes " signature ") signature ++ labelled (codes " type ") type_offset) result }
 {
     push_labelled(out, b" signature ", signature)?;
     push_labelled(out, b" type ", type_offset)

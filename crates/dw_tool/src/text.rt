@@ -212,7 +212,8 @@ pub(crate) fn push_tag<W: Write>(out: &mut Output<'_, W>, tag: u64) -> Result<()
     }
 }
 
-/// Appends a newline, two spaces, the attribute as `DW_AT_` and its name, or its number where it has no name, and a space.
+/// Appends a newline, two spaces, the attribute as `DW_AT_` and its name, or its number where it has no name, and a
+/// space.
 #[inline(always)]
 pub(crate) fn push_attribute<W: Write>(
     out: &mut Output<'_, W>,

@@ -17,10 +17,14 @@ use Rattle.dw_tree.specs.Row.{Token, leaf_row, branch_row, null_row, all_rows, r
 -- ---- numbers and values
 
 abbrev pub unsigned_code : Coded Unsigned
-unsigned_code = code_by (ℕ × ℕ) (coded× coded_ℕ coded_ℕ) (λ u. (u.value, u.width)) (λ p. record { value = p.0; width = p.1 }) (λ _. refl)
+unsigned_code =
+    code_by (ℕ × ℕ) (coded× coded_ℕ coded_ℕ) (λ u. (u.value, u.width)) (λ p. record { value = p.0; width = p.1 })
+    (λ _. refl)
 
 abbrev pub signed_code : Coded Signed
-signed_code = code_by (ℤ × ℕ) (coded× coded_ℤ coded_ℕ) (λ u. (u.value, u.width)) (λ p. record { value = p.0; width = p.1 }) (λ _. refl)
+signed_code =
+    code_by (ℤ × ℕ) (coded× coded_ℤ coded_ℕ) (λ u. (u.value, u.width)) (λ p. record { value = p.0; width = p.1 })
+    (λ _. refl)
 
 abbrev ValueParts : Type 0
 ValueParts = (ℕ ⊎ ℕ) ⊎ ((Unsigned ⊎ Signed) ⊎ (((ℕ × List ℕ) ⊎ List ℕ) ⊎ Option Signed))
@@ -56,10 +60,17 @@ to_value-from_value Present = refl
 to_value-from_value (Implicit s) = refl
 
 abbrev pub value_code : Coded Value
-value_code = code_by ValueParts (coded⊎ (coded⊎ coded_ℕ coded_ℕ) (coded⊎ (coded⊎ unsigned_code signed_code) (coded⊎ (coded⊎ (coded× coded_ℕ (coded_list coded_ℕ)) (coded_list coded_ℕ)) (coded_option signed_code)))) from_value to_value to_value-from_value
+value_code =
+    code_by ValueParts
+    (coded⊎ (coded⊎ coded_ℕ coded_ℕ)
+    (coded⊎ (coded⊎ unsigned_code signed_code)
+    (coded⊎ (coded⊎ (coded× coded_ℕ (coded_list coded_ℕ)) (coded_list coded_ℕ)) (coded_option signed_code))))
+    from_value to_value to_value-from_value
 
 abbrev pub attribute_code : Coded Attribute
-attribute_code = code_by (Option Unsigned × Value) (coded× (coded_option unsigned_code) value_code) (λ a. (a.via, a.value)) (λ p. record { via = p.0; value = p.1 }) (λ _. refl)
+attribute_code =
+    code_by (Option Unsigned × Value) (coded× (coded_option unsigned_code) value_code) (λ a. (a.via, a.value))
+    (λ p. record { via = p.0; value = p.1 }) (λ _. refl)
 
 abbrev pub values_code : Coded (List Attribute)
 values_code = coded_list attribute_code
@@ -97,18 +108,32 @@ abbrev pub format_code : Coded Format
 format_code = code_by Bool coded_bool from_format to_format to_format-from_format
 
 abbrev pub context_code : Coded Ctx
-context_code = code_by (Order × (Format × ℕ)) (coded× order_code (coded× format_code coded_ℕ)) (λ k. (k.order, (k.format, k.address_size))) (λ p. record { order = p.0; format = p.1.0; address_size = p.1.1 }) (λ _. refl)
+context_code =
+    code_by (Order × (Format × ℕ)) (coded× order_code (coded× format_code coded_ℕ))
+    (λ k. (k.order, (k.format, k.address_size))) (λ p. record { order = p.0; format = p.1.0; address_size = p.1.1 })
+    (λ _. refl)
 
 abbrev pair_code : Coded Pair
-pair_code = code_by (Unsigned × (Unsigned × Option Signed)) (coded× unsigned_code (coded× unsigned_code (coded_option signed_code))) (λ x. (x.name, (x.form, x.constant))) (λ p. record { name = p.0; form = p.1.0; constant = p.1.1 }) (λ _. refl)
+pair_code =
+    code_by (Unsigned × (Unsigned × Option Signed))
+    (coded× unsigned_code (coded× unsigned_code (coded_option signed_code))) (λ x. (x.name, (x.form, x.constant)))
+    (λ p. record { name = p.0; form = p.1.0; constant = p.1.1 }) (λ _. refl)
 
 abbrev declaration_code : Coded Declaration
-declaration_code = code_by ((Unsigned × Unsigned) × (Bool × (List Pair × (ℕ × ℕ)))) (coded× (coded× unsigned_code unsigned_code) (coded× coded_bool (coded× (coded_list pair_code) (coded× coded_ℕ coded_ℕ))))
+declaration_code =
+    code_by ((Unsigned × Unsigned) × (Bool × (List Pair × (ℕ × ℕ))))
+    (coded× (coded× unsigned_code unsigned_code)
+    (coded× coded_bool (coded× (coded_list pair_code) (coded× coded_ℕ coded_ℕ))))
     (λ d. ((d.code, d.tag), (d.children, (d.pairs, (d.name_zero, d.form_zero)))))
-    (λ p. record { code = p.0.0; tag = p.0.1; children = p.1.0; pairs = p.1.1.0; name_zero = p.1.1.1.0; form_zero = p.1.1.1.1 }) (λ _. refl)
+    (λ p.
+    record
+    { code = p.0.0; tag = p.0.1; children = p.1.0; pairs = p.1.1.0; name_zero = p.1.1.1.0; form_zero = p.1.1.1.1 })
+    (λ _. refl)
 
 abbrev pub table_code : Coded Table
-table_code = code_by (List Declaration × ℕ) (coded× (coded_list declaration_code) coded_ℕ) (λ t. (t.declarations, t.last_zero)) (λ p. record { declarations = p.0; last_zero = p.1 }) (λ _. refl)
+table_code =
+    code_by (List Declaration × ℕ) (coded× (coded_list declaration_code) coded_ℕ) (λ t. (t.declarations, t.last_zero))
+    (λ p. record { declarations = p.0; last_zero = p.1 }) (λ _. refl)
 
 -- ---- trees
 
@@ -128,7 +153,10 @@ to_token-from_token (branch_row code vs) = refl
 to_token-from_token (null_row w) = refl
 
 abbrev pub token_code : Coded Token
-token_code = code_by ((Unsigned × List Attribute) ⊎ ((Unsigned × List Attribute) ⊎ ℕ)) (coded⊎ (coded× unsigned_code values_code) (coded⊎ (coded× unsigned_code values_code) coded_ℕ)) from_token to_token to_token-from_token
+token_code =
+    code_by ((Unsigned × List Attribute) ⊎ ((Unsigned × List Attribute) ⊎ ℕ))
+    (coded⊎ (coded× unsigned_code values_code) (coded⊎ (coded× unsigned_code values_code) coded_ℕ)) from_token
+    to_token to_token-from_token
 
 abbrev pub forest_code : Coded Forest
 forest_code = code_by (List Token) (coded_list token_code) all_rows (λ xs. (rest_of xs).here) here-all

@@ -7,7 +7,17 @@ use Rattle.dw_tree.specs.declared.row.Unfinished.{Unfinished}
 
 -- the row of an entry, of this kind, end and level
 abbrev pub row_with : Unfinished → RowKind → ℕ → ℕ → Row
-row_with r kind end depth = record { offset = r.offset; end = end; first = r.first; code = r.code.value; width = r.code.width; depth = depth; kind = kind; fits = r.code.fits }
+row_with r kind end depth =
+    record {
+      offset = r.offset;
+      end = end;
+      first = r.first;
+      code = r.code.value;
+      width = r.code.width;
+      depth = depth;
+      kind = kind;
+      fits = r.code.fits;
+    }
 
 -- that of an entry that has all its values; so many entries are open, and so many rows stand before it
 abbrev pub row_of : Bool → Unfinished → ℕ → ℕ → Row
@@ -16,7 +26,16 @@ row_of false r n depth = row_with r Leaf (n + 1) depth
 
 -- with one value more
 abbrev pub one_given : Unfinished → Unfinished
-one_given r = record { code = r.code; offset = r.offset; first = r.first; given = r.given + 1; count = r.count; children = r.children; pool = r.pool }
+one_given r =
+    record {
+      code = r.code;
+      offset = r.offset;
+      first = r.first;
+      given = r.given + 1;
+      count = r.count;
+      children = r.children;
+      pool = r.pool;
+    }
 
 -- it was given as many values as its declaration asks for
 abbrev pub is_whole : Unfinished → Bool

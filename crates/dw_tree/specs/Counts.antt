@@ -64,10 +64,23 @@ value_count k [] (v ∷ vs) fits = absurd fits
 value_count k (p ∷ ps) [] fits = absurd fits
 value_count k (p ∷ ps) (v ∷ vs) fits = ap suc (value_count k ps vs fits.1)
 
-pub few_values : (k : Ctx) (t : Table) → FewPairs t → (xs : List Token) → AllByRecursion (TokenFits k t) xs → count_values xs ≤ 1024 * count_entries xs
+pub few_values : (k : Ctx) (t : Table) → FewPairs t → (xs : List Token) → AllByRecursion (TokenFits k t) xs
+    → count_values xs ≤ 1024 * count_entries xs
 few_values k t few [] h = omega arith
-few_values k t few (leaf_row code vs ∷ xs) h = omega (arith, few_values k t few xs h.1, few_declared t few code.value, value_count k (declared_pairs (declared t code.value)) vs h.0.0.values_fit)
-few_values k t few (branch_row code vs ∷ xs) h = omega (arith, few_values k t few xs h.1, few_declared t few code.value, value_count k (declared_pairs (declared t code.value)) vs h.0.0.values_fit)
+few_values k t few (leaf_row code vs ∷ xs) h =
+    omega (
+      arith,
+      few_values k t few xs h.1,
+      few_declared t few code.value,
+      value_count k (declared_pairs (declared t code.value)) vs h.0.0.values_fit,
+    )
+few_values k t few (branch_row code vs ∷ xs) h =
+    omega (
+      arith,
+      few_values k t few xs h.1,
+      few_declared t few code.value,
+      value_count k (declared_pairs (declared t code.value)) vs h.0.0.values_fit,
+    )
 few_values k t few (null_row w ∷ xs) h = few_values k t few xs h.1
 
 -- ---- what a draft counts: its entries, and the values that their declarations ask for
@@ -93,12 +106,17 @@ values_joined (branch_row code vs ∷ xs) ys = omega (arith, values_joined xs ys
 values_joined (null_row w ∷ xs) ys = values_joined xs ys
 
 -- the innermost open entry is closed: its null is no entry and has no values
-pub closed_counted : (t : Table) (xs : List Token) (w entries asked : ℕ) → xs ≡ rows_before (spot_after xs).above (spot_after xs).left
-    → xs ++ null_row w ∷ [] ≡ rows_before (spot_after (xs ++ null_row w ∷ [])).above (spot_after (xs ++ null_row w ∷ [])).left
-    → AreCounted t (record { spot = spot_after xs; unfinished = None }) entries asked → AreCounted t (record { spot = spot_after (xs ++ null_row w ∷ []); unfinished = None }) entries asked
+pub closed_counted : (t : Table) (xs : List Token) (w entries asked : ℕ)
+    → xs ≡ rows_before (spot_after xs).above (spot_after xs).left
+    → xs ++ null_row w ∷ []
+    ≡ rows_before (spot_after (xs ++ null_row w ∷ [])).above (spot_after (xs ++ null_row w ∷ [])).left
+    → AreCounted t (record { spot = spot_after xs; unfinished = None }) entries asked
+    → AreCounted t (record { spot = spot_after (xs ++ null_row w ∷ []); unfinished = None }) entries asked
 closed_counted t xs w entries asked old new are = record {
-  entries_are = omega (arith, are.entries_are, ap count_entries old, ap count_entries new, entries_joined xs (null_row w ∷ []));
-  asked_are = omega (arith, are.asked_are, ap count_values old, ap count_values new, values_joined xs (null_row w ∷ []));
+  entries_are =
+      omega (arith, are.entries_are, ap count_entries old, ap count_entries new, entries_joined xs (null_row w ∷ []));
+  asked_are =
+      omega (arith, are.asked_are, ap count_values old, ap count_values new, values_joined xs (null_row w ∷ []));
 }
 
 -- an entry that its declaration asks for so many values
@@ -107,13 +125,17 @@ module _ (t : Table) (s : Spot) (code : Unsigned) (d : Declaration) (known : dec
   asks = ap (λ (o : Option Declaration). length (declared_pairs o)) known
 
   -- with these values, where it may have all
-  settles : (vs : List Attribute) (entries asked : ℕ) → entries ≡ count_entries (rows_before s.above s.left) + 1 → asked ≡ count_values (rows_before s.above s.left) + length d.pairs → AreCounted t (settle t s code vs) entries asked
-  settles vs entries asked e a = rw known (by (length vs == length d.pairs) d.children (eqb-true (length vs) (length d.pairs)))
+  settles : (vs : List Attribute) (entries asked : ℕ) → entries ≡ count_entries (rows_before s.above s.left) + 1
+      → asked ≡ count_values (rows_before s.above s.left) + length d.pairs
+      → AreCounted t (settle t s code vs) entries asked
+  settles vs entries asked e a =
+      rw known (by (length vs == length d.pairs) d.children (eqb-true (length vs) (length d.pairs)))
     where
       xs : List Token
       xs = rows_before s.above s.left
 
-      by : (whole children : Bool) → (whole ≡ true → length vs ≡ length d.pairs) → AreCounted t (settled whole children s code vs) entries asked
+      by : (whole children : Bool) → (whole ≡ true → length vs ≡ length d.pairs)
+          → AreCounted t (settled whole children s code vs) entries asked
       by true true all = record {
         entries_are = omega (arith, e, entries_joined xs (branch_row code vs ∷ []));
         asked_are = omega (arith, a, all refl, values_joined xs (branch_row code vs ∷ []));
@@ -127,15 +149,25 @@ module _ (t : Table) (s : Spot) (code : Unsigned) (d : Declaration) (known : dec
       by false children all = record { entries_are = e; asked_are = omega (arith, a, asks) }
 
   -- it begins
-  pub begun_counted : (vs : List Attribute) (entries asked n : ℕ) (p : Place) → p ≡ settle t s code vs → length d.pairs ≡ n → AreCounted t (record { spot = s; unfinished = None }) entries asked → AreCounted t p (entries + 1) (asked + n)
+  pub begun_counted : (vs : List Attribute) (entries asked n : ℕ) (p : Place) → p ≡ settle t s code vs
+      → length d.pairs ≡ n → AreCounted t (record { spot = s; unfinished = None }) entries asked
+      → AreCounted t p (entries + 1) (asked + n)
   begun_counted vs entries asked n p is many are =
-      subst (λ (q : Place). AreCounted t q (entries + 1) (asked + n)) (sym is) (settles vs (entries + 1) (asked + n) (omega (arith, are.entries_are)) (omega (arith, are.asked_are, many)))
+      subst (λ (q : Place). AreCounted t q (entries + 1) (asked + n)) (sym is)
+      (settles vs (entries + 1) (asked + n) (omega (arith, are.entries_are)) (omega (arith, are.asked_are, many)))
 
-  module _ (ws : List Attribute) (entries asked : ℕ) (are : AreCounted t (record { spot = s; unfinished = Some (record { code = code; values = ws; partial = None }) }) entries asked) where
-    -- it is given a value more
-    pub given_counted : (vs : List Attribute) (p : Place) → p ≡ settle t s code vs → AreCounted t p entries asked
-    given_counted vs p is = subst (λ (q : Place). AreCounted t q entries asked) (sym is) (settles vs entries asked are.entries_are (omega (arith, are.asked_are, asks)))
+  module _ (ws : List Attribute) (entries asked : ℕ)
+      (are : AreCounted t
+      (record { spot = s; unfinished = Some (record { code = code; values = ws; partial = None }) }) entries asked)
+    where
+      -- it is given a value more
+      pub given_counted : (vs : List Attribute) (p : Place) → p ≡ settle t s code vs → AreCounted t p entries asked
+      given_counted vs p is =
+          subst (λ (q : Place). AreCounted t q entries asked) (sym is)
+          (settles vs entries asked are.entries_are (omega (arith, are.asked_are, asks)))
 
-    -- it is taken back
-    pub undone_counted : (n : ℕ) → length d.pairs ≡ n → AreCounted t (record { spot = s; unfinished = None }) (entries - 1) (asked - n)
-    undone_counted n many = record { entries_are = omega (arith, are.entries_are); asked_are = omega (arith, are.asked_are, asks, many) }
+      -- it is taken back
+      pub undone_counted : (n : ℕ) → length d.pairs ≡ n
+          → AreCounted t (record { spot = s; unfinished = None }) (entries - 1) (asked - n)
+      undone_counted n many =
+          record { entries_are = omega (arith, are.entries_are); asked_are = omega (arith, are.asked_are, asks, many) }

@@ -29,7 +29,9 @@ pub record EndsAt (xs : List Token) (i end : ℕ) : Type 0 where
 
 -- each entry is open, or its row has the end of its tree
 abbrev pub HaveEnds : List Row → List Token → List ℕ → Type 0
-HaveEnds rows xs open_at = (i : ℕ) (d : Row) → i < length rows → IsEntry (get_or rows i d).kind → IsIn i open_at ⊎ EndsAt xs i (get_or rows i d).end
+HaveEnds rows xs open_at =
+    (i : ℕ) (d : Row) → i < length rows → IsEntry (get_or rows i d).kind
+    → IsIn i open_at ⊎ EndsAt xs i (get_or rows i d).end
 
 -- the rows are those before the place where they lead, and open_at has the rows of its open entries
 pub record IsSpelled (rows : List Row) (xs : List Token) (open_at : List ℕ) : Type 0 where
@@ -83,12 +85,16 @@ abbrev pub Stand : Ctx → Table → ℕ → ℕ → List Row → List Token →
 Stand k t at depth [] [] = Unit {0}
 Stand k t at depth [] (x ∷ xs) = ⊥
 Stand k t at depth (r ∷ rows) [] = ⊥
-Stand k t at depth (r ∷ rows) (x ∷ xs) = ((r.offset ≡ at) × (r.depth ≡ depth) × TokenFits k t x × LevelFits x depth) × Stand k t (at + length (row_bytes k t x)) (level_after depth x) rows xs
+Stand k t at depth (r ∷ rows) (x ∷ xs) =
+    ((r.offset ≡ at) × (r.depth ≡ depth) × TokenFits k t x × LevelFits x depth)
+    × Stand k t (at + length (row_bytes k t x)) (level_after depth x) rows xs
 
 -- ---- an entry of which these values were given
 
--- it begins behind these rows, its heads and contents behind theirs, and its values have a spelling under its first pairs
-pub record IsGivenEntry (k : Ctx) (t : Table) (start : ℕ) (xs : List Token) (vs : List Attribute) (r : Unfinished) : Type 0 where
+-- it begins behind these rows, its heads and contents behind theirs, and its values have a spelling under its first
+-- pairs
+pub record IsGivenEntry (k : Ctx) (t : Table) (start : ℕ) (xs : List Token) (vs : List Attribute) (r : Unfinished)
+    : Type 0 where
   pub decl : Declaration
   pub declared : declared t r.code.value ≡ Some decl
   pub children : decl.children ≡ r.children
@@ -104,7 +110,8 @@ pub record IsGivenEntry (k : Ctx) (t : Table) (start : ℕ) (xs : List Token) (v
   pub level : length (spot_after xs).above < nesting
 
 -- some of its values are still to come
-pub record IsUnfinished (k : Ctx) (t : Table) (start : ℕ) (xs : List Token) (vs : List Attribute) (r : Unfinished) : Type 0 where
+pub record IsUnfinished (k : Ctx) (t : Table) (start : ℕ) (xs : List Token) (vs : List Attribute) (r : Unfinished)
+    : Type 0 where
   pub entry : IsGivenEntry k t start xs vs r
   pub short : r.given < r.count
 
@@ -121,8 +128,10 @@ pairs_given t (Some r) = pairs_at t r.code.value
 abbrev pub entry_with : List Attribute → Unfinished → UnfinishedEntry
 entry_with vs r = record { code = uleb_of r.code; values = vs; partial = None }
 
--- ---- the lists are those of a tree with one open place: they have these rows, and the heads and contents of their values and of those of the unfinished entry, and no others
-pub record AreLists (k : Ctx) (t : Table) (start : ℕ) (rows : List Row) (hs pool : List ℕ) (open_at : List ℕ) (o : Option Unfinished) (here : ℕ) (xs : List Token) (vs : List Attribute) : Type 0 where
+-- ---- the lists are those of a tree with one open place: they have these rows, and the heads and contents of
+-- their values and of those of the unfinished entry, and no others
+pub record AreLists (k : Ctx) (t : Table) (start : ℕ) (rows : List Row) (hs pool : List ℕ) (open_at : List ℕ)
+    (o : Option Unfinished) (here : ℕ) (xs : List Token) (vs : List Attribute) : Type 0 where
   pub rows_are : RowsAre k t 0 0 rows xs
   pub account : Account k t xs (pairs_given t o) vs hs pool
   pub small : length pool < 2 ^ 64
@@ -130,4 +139,5 @@ pub record AreLists (k : Ctx) (t : Table) (start : ℕ) (rows : List Row) (hs po
   pub stand : Stand k t start 1 rows xs
   pub are_given : AreGiven k t start xs vs o
   pub deep : length open_at ≤ nesting
-  pub here_is : here ≡ start + (length (rows_bytes k t xs) + length (unfinished_bytes k t (option_map (entry_with vs) o)))
+  pub here_is : here
+      ≡ start + (length (rows_bytes k t xs) + length (unfinished_bytes k t (option_map (entry_with vs) o)))

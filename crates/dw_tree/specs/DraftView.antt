@@ -22,18 +22,27 @@ partial_of pool b = record { via = option_map uleb_of b.via; width = b.width; by
 
 abbrev pub place_with : Option StoredPartial → List ℕ → Place → Place
 place_with None pool p = p
-place_with (Some b) pool p = record { spot = p.spot; unfinished = option_map (given_partial (Some (partial_of pool b))) p.unfinished }
+place_with (Some b) pool p =
+    record { spot = p.spot; unfinished = option_map (given_partial (Some (partial_of pool b))) p.unfinished }
 
 -- over the pool's bytes of the values that were given
 abbrev pub given : Inside → List ℕ → Growing
-given a pool = record { context = a.context; table = a.table.value; start = a.start; place = place_of a.context a.table.value a.rows.items a.heads.items pool a.unfinished }
+given a pool =
+    record {
+      context = a.context;
+      table = a.table.value;
+      start = a.start;
+      place = place_of a.context a.table.value a.rows.items a.heads.items pool a.unfinished;
+    }
 
 abbrev pub growing : Inside → Growing
 growing a = record {
   context = a.context;
   table = a.table.value;
   start = a.start;
-  place = place_with a.partial a.pool.items (place_of a.context a.table.value a.rows.items a.heads.items (front a.partial a.pool.items) a.unfinished);
+  place =
+      place_with a.partial a.pool.items
+      (place_of a.context a.table.value a.rows.items a.heads.items (front a.partial a.pool.items) a.unfinished);
 }
 
 -- what is so of the values that were given, whose bytes are these: what the lists stand for
@@ -41,10 +50,14 @@ pub record IsGiven (a : Inside) (pool : List ℕ) : Type 0 where
   pub context_fits : IsContext a.context
   pub tokens : List Token
   pub values : List Attribute
-  pub lists : AreLists a.context a.table.value a.start a.rows.items a.heads.items pool a.nested.items a.unfinished a.here tokens values
+  pub lists :
+      AreLists a.context a.table.value a.start a.rows.items a.heads.items pool a.nested.items a.unfinished a.here tokens
+      values
   pub room : HasRoom a.unfinished (vec_len a.rows) (vec_capacity a.rows) (vec_len a.nested) (vec_capacity a.nested)
   pub near : a.here < 2 ^ 63
-  pub counted : AreCounted a.table.value (record { spot = spot_after tokens; unfinished = option_map (entry_with values) a.unfinished }) a.entries a.asked
+  pub counted :
+      AreCounted a.table.value
+      (record { spot = spot_after tokens; unfinished = option_map (entry_with values) a.unfinished }) a.entries a.asked
 
 -- a partial value belongs to the unfinished entry, and there is room for its head
 pub record HasPartial (a : Inside) (b : StoredPartial) : Type 0 where

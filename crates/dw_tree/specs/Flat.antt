@@ -32,7 +32,17 @@ code_in r = record { value = r.code; width = r.width }
 
 -- a row with this end
 abbrev pub with_end : Row → ℕ → Row
-with_end r end = record { offset = r.offset; end = end; first = r.first; code = r.code; width = r.width; depth = r.depth; kind = r.kind; fits = r.fits }
+with_end r end =
+    record {
+      offset = r.offset;
+      end = end;
+      first = r.first;
+      code = r.code;
+      width = r.width;
+      depth = r.depth;
+      kind = r.kind;
+      fits = r.fits;
+    }
 
 abbrev pub kind_token : RowKind → Unsigned → List Attribute → Token
 kind_token Leaf code vs = leaf_row code vs
@@ -51,7 +61,12 @@ tokens_at k t rows hs pool = map (token_at k t hs pool) rows
 
 -- the unfinished entry: as many values as it was given
 abbrev pub unfinished_of : Ctx → Table → List ℕ → List ℕ → Unfinished → UnfinishedEntry
-unfinished_of k t hs pool r = record { code = uleb_of r.code; values = values_at k (take r.given (pairs_at t r.code.value)) (drop r.first hs) pool; partial = None }
+unfinished_of k t hs pool r =
+    record {
+      code = uleb_of r.code;
+      values = values_at k (take r.given (pairs_at t r.code.value)) (drop r.first hs) pool;
+      partial = None;
+    }
 
 abbrev pub place_of : Ctx → Table → List Row → List ℕ → List ℕ → Option Unfinished → Place
 place_of k t rows hs pool unfinished = record {
@@ -82,7 +97,9 @@ abbrev pub RowsAre : Ctx → Table → ℕ → ℕ → List Row → List Token �
 RowsAre k t first start [] [] = Unit {0}
 RowsAre k t first start [] (x ∷ xs) = ⊥
 RowsAre k t first start (r ∷ rows) [] = ⊥
-RowsAre k t first start (r ∷ rows) (x ∷ xs) = RowIs first r x × RowsAre k t (first + length (row_heads k t start x)) (start + length (joined (row_values x))) rows xs
+RowsAre k t first start (r ∷ rows) (x ∷ xs) =
+    RowIs first r x
+    × RowsAre k t (first + length (row_heads k t start x)) (start + length (joined (row_values x))) rows xs
 
 -- the heads of an entry's values stand from its place on
 pub record HasHeads (k : Ctx) (t : Table) (hs pool : List ℕ) (r : Row) : Type 0 where

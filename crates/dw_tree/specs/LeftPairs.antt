@@ -15,7 +15,8 @@ left_pairs t None = []
 left_pairs t (Some r) = next_pairs t r
 
 -- behind the values that an entry was given
-pub settled_left : (t : Table) (s : Spot) (code : Unsigned) (vs : List Attribute) → left_pairs t (settle t s code vs).unfinished ≡ drop (length vs) (declared_pairs (declared t code.value))
+pub settled_left : (t : Table) (s : Spot) (code : Unsigned) (vs : List Attribute)
+    → left_pairs t (settle t s code vs).unfinished ≡ drop (length vs) (declared_pairs (declared t code.value))
 settled_left t s code vs = by (declared t code.value) refl
   where
     past : {X : Type 0} (xs : List X) (n : ℕ) → n ≡ length xs → [] ≡ drop n xs
@@ -28,17 +29,20 @@ settled_left t s code vs = by (declared t code.value) refl
     none_left zero = refl
     none_left (suc n) = refl
 
-    full : (d : Declaration) (children b : Bool) → (length vs == length d.pairs) ≡ b → declared t code.value ≡ Some d → left_pairs t (settled b children s code vs).unfinished ≡ drop (length vs) d.pairs
+    full : (d : Declaration) (children b : Bool) → (length vs == length d.pairs) ≡ b → declared t code.value ≡ Some d
+        → left_pairs t (settled b children s code vs).unfinished ≡ drop (length vs) d.pairs
     full d true true e known = past d.pairs (length vs) (eqb-true (length vs) (length d.pairs) e)
     full d false true e known = past d.pairs (length vs) (eqb-true (length vs) (length d.pairs) e)
     full d children false e known = ap (λ (o : Option Declaration). drop (length vs) (declared_pairs o)) known
 
-    by : (o : Option Declaration) → declared t code.value ≡ o → left_pairs t (settle_by o s code vs).unfinished ≡ drop (length vs) (declared_pairs o)
+    by : (o : Option Declaration) → declared t code.value ≡ o
+        → left_pairs t (settle_by o s code vs).unfinished ≡ drop (length vs) (declared_pairs o)
     by None e = sym (none_left (length vs))
     by (Some d) e = full d d.children (length vs == length d.pairs) refl e
 
 -- behind one value more those behind the first are left
-pub value_left : (v : Attribute) (g : Growing) (o : Option UnfinishedEntry) → g.place.unfinished ≡ o → left_pairs g.table (value_at v g o).place.unfinished ≡ drop 1 (left_pairs g.table o)
+pub value_left : (v : Attribute) (g : Growing) (o : Option UnfinishedEntry) → g.place.unfinished ≡ o
+    → left_pairs g.table (value_at v g o).place.unfinished ≡ drop 1 (left_pairs g.table o)
 value_left v g None e = ap (left_pairs g.table) e
 value_left v g (Some r) e =
     let n : length (r.values ++ v ∷ []) ≡ length r.values + 1 = length-append r.values (v ∷ []) in

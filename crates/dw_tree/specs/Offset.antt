@@ -25,7 +25,8 @@ unfoldable mutual
   offset_at k t base (leaf code vs) [] = Some base
   offset_at k t base (leaf code vs) (i ∷ path) = None
   offset_at k t base (branch code vs ts w) [] = Some base
-  offset_at k t base (branch code vs ts w) (i ∷ path) = offset_in k t (base + length (entry_bytes k t code vs)) ts i path
+  offset_at k t base (branch code vs ts w) (i ∷ path) =
+      offset_in k t (base + length (entry_bytes k t code vs)) ts i path
 
   pub offset_in : Ctx → Table → ℕ → Forest → ℕ → List ℕ → Option ℕ
   offset_in k t base none i path = None

@@ -29,4 +29,6 @@ patch_by k x p false (Some v) others = option_map (moved v.1) (others v.1)
 -- for values under these pairs, whose heads are at the front
 abbrev pub patch_in : Ctx → ℕ → ℤ → List Pair → List ℕ → List ℕ → Option Patch
 patch_in k name x [] hs pool = None
-patch_in k name x (p ∷ ps) hs pool = patch_by k x p (p.name.value == name) (head_at k p.form.value p.constant hs pool) (λ n. patch_in k name x ps (drop n hs) pool)
+patch_in k name x (p ∷ ps) hs pool =
+    patch_by k x p (p.name.value == name) (head_at k p.form.value p.constant hs pool)
+    (λ n. patch_in k name x ps (drop n hs) pool)

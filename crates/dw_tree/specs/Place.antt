@@ -57,13 +57,15 @@ abbrev pub open_rows : List Frame → List ℕ
 open_rows [] = []
 open_rows (f ∷ fs) = open_rows fs ++ length (rows_before fs f.left) ∷ []
 
-pub rows_before-push : (fs : List Frame) (ts : Forest) (x : Tree) → rows_before fs (push ts x) ≡ rows_before fs ts ++ rows_of x
+pub rows_before-push : (fs : List Frame) (ts : Forest) (x : Tree)
+    → rows_before fs (push ts x) ≡ rows_before fs ts ++ rows_of x
 rows_before-push [] ts x = rows-push ts x
 rows_before-push (f ∷ fs) ts x =
     ap (λ (xs : List Token). rows_before fs f.left ++ branch_row f.code f.values ∷ xs) (rows-push ts x)
     ∙ sym (append_assoc (rows_before fs f.left) (branch_row f.code f.values ∷ all_rows ts) (rows_of x))
 
--- a text, or a block whose length field has a width, that comes in pieces: the form that an indirect value names, and its bytes so far
+-- a text, or a block whose length field has a width, that comes in pieces: the form that an indirect value names, and
+-- its bytes so far
 pub record PartialValue : Type 0 where
   pub via : Option Unsigned
   pub width : Option ℕ
@@ -80,18 +82,29 @@ pub record Place : Type 0 where
   pub unfinished : Option UnfinishedEntry
 
 abbrev frame_code : Coded Frame
-frame_code = code_by (Unsigned × (List Attribute × Forest)) (coded× unsigned_code (coded× values_code forest_code)) (λ f. (f.code, (f.values, f.left))) (λ p. record { code = p.0; values = p.1.0; left = p.1.1 }) (λ _. refl)
+frame_code =
+    code_by (Unsigned × (List Attribute × Forest)) (coded× unsigned_code (coded× values_code forest_code))
+    (λ f. (f.code, (f.values, f.left))) (λ p. record { code = p.0; values = p.1.0; left = p.1.1 }) (λ _. refl)
 
 abbrev spot_code : Coded Spot
-spot_code = code_by (List Frame × Forest) (coded× (coded_list frame_code) forest_code) (λ s. (s.above, s.left)) (λ p. record { above = p.0; left = p.1 }) (λ _. refl)
+spot_code =
+    code_by (List Frame × Forest) (coded× (coded_list frame_code) forest_code) (λ s. (s.above, s.left))
+    (λ p. record { above = p.0; left = p.1 }) (λ _. refl)
 
 abbrev partial_code : Coded PartialValue
-partial_code = code_by (Option Unsigned × (Option ℕ × List ℕ)) (coded× (coded_option unsigned_code) (coded× (coded_option coded_ℕ) (coded_list coded_ℕ))) (λ b. (b.via, (b.width, b.bytes)))
+partial_code =
+    code_by (Option Unsigned × (Option ℕ × List ℕ))
+    (coded× (coded_option unsigned_code) (coded× (coded_option coded_ℕ) (coded_list coded_ℕ)))
+    (λ b. (b.via, (b.width, b.bytes)))
     (λ p. record { via = p.0; width = p.1.0; bytes = p.1.1 }) (λ _. refl)
 
 abbrev unfinished_code : Coded UnfinishedEntry
-unfinished_code = code_by (Unsigned × (List Attribute × Option PartialValue)) (coded× unsigned_code (coded× values_code (coded_option partial_code))) (λ r. (r.code, (r.values, r.partial)))
+unfinished_code =
+    code_by (Unsigned × (List Attribute × Option PartialValue))
+    (coded× unsigned_code (coded× values_code (coded_option partial_code))) (λ r. (r.code, (r.values, r.partial)))
     (λ p. record { code = p.0; values = p.1.0; partial = p.1.1 }) (λ _. refl)
 
 abbrev pub place_code : Coded Place
-place_code = code_by (Spot × Option UnfinishedEntry) (coded× spot_code (coded_option unfinished_code)) (λ s. (s.spot, s.unfinished)) (λ p. record { spot = p.0; unfinished = p.1 }) (λ _. refl)
+place_code =
+    code_by (Spot × Option UnfinishedEntry) (coded× spot_code (coded_option unfinished_code))
+    (λ s. (s.spot, s.unfinished)) (λ p. record { spot = p.0; unfinished = p.1 }) (λ _. refl)

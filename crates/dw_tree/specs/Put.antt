@@ -30,27 +30,32 @@ put_value k form x v = or_own v (renumbered_in k form x v)
 abbrev pub put_first : Ctx → ℕ → ℤ → List Pair → List Attribute → List Attribute
 put_first k name x [] vs = vs
 put_first k name x (p ∷ ps) [] = []
-put_first k name x (p ∷ ps) (v ∷ vs) = if p.name.value == name then put_value k p.form.value x v ∷ vs else v ∷ put_first k name x ps vs
+put_first k name x (p ∷ ps) (v ∷ vs) =
+    if p.name.value == name then put_value k p.form.value x v ∷ vs else v ∷ put_first k name x ps vs
 
 -- ---- the tree
 
 -- the values of an entry that begins here
 abbrev pub put_here : Ctx → Table → Edit → ℕ → Unsigned → List Attribute → List Attribute
-put_here k t e here code vs = if here == e.offset then put_first k e.name e.number (declared_pairs (declared t code.value)) vs else vs
+put_here k t e here code vs =
+    if here == e.offset then put_first k e.name e.number (declared_pairs (declared t code.value)) vs else vs
 
 -- a tree that begins here
 abbrev mutual
   pub put_tree : Ctx → Table → Edit → ℕ → Tree → Tree
   put_tree k t e here (leaf code vs) = leaf code (put_here k t e here code vs)
-  put_tree k t e here (branch code vs ts w) = branch code (put_here k t e here code vs) (put_forest k t e (here + length (entry_bytes k t code vs)) ts) w
+  put_tree k t e here (branch code vs ts w) =
+      branch code (put_here k t e here code vs) (put_forest k t e (here + length (entry_bytes k t code vs)) ts) w
 
   pub put_forest : Ctx → Table → Edit → ℕ → Forest → Forest
   put_forest k t e here none = none
-  put_forest k t e here (more x ts) = more (put_tree k t e here x) (put_forest k t e (here + length (tree_bytes k t x)) ts)
+  put_forest k t e here (more x ts) =
+      more (put_tree k t e here x) (put_forest k t e (here + length (tree_bytes k t x)) ts)
 
 -- the edited tree; all else stays
 abbrev pub put : Edit → TreeAt → TreeAt
-put e u = record { context = u.context; table = u.table; start = u.start; root = put_tree u.context u.table e u.start u.root }
+put e u =
+    record { context = u.context; table = u.table; start = u.start; root = put_tree u.context u.table e u.start u.root }
 
 -- ---- which edits can be made: an entry begins at the offset, and its first attribute of the name takes the number
 pub record Takes (e : Edit) (u : TreeAt) : Type 0 where

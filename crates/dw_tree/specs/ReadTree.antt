@@ -20,14 +20,21 @@ nodes_from (x ∷ xs) = more (node_from x) (nodes_from xs)
 
 abbrev pub read_values : Ctx → List Pair → Reader (List Attribute)
 read_values k [] = returned []
-read_values k (p ∷ ps) = made (λ x. x.0 ∷ x.1) ((read_attribute k p.form.value p.constant) and_then λ _. read_values k ps)
+read_values k (p ∷ ps) =
+    made (λ x. x.0 ∷ x.1) ((read_attribute k p.form.value p.constant) and_then λ _. read_values k ps)
 
 abbrev pub read_body : Ctx → Table → Reader (Forest × Unsigned) → Unsigned → Reader Body
-read_body k t kids code = read_values k (declared_pairs (declared t code.value)) and_then λ _. read_optional (declares_children (declared t code.value)) kids
+read_body k t kids code =
+    read_values k (declared_pairs (declared t code.value)) and_then
+    λ _. read_optional (declares_children (declared t code.value)) kids
 
 unfoldable pub read_children : Ctx → Table → ℕ → Reader (Forest × Unsigned)
-read_children k t zero = made (λ x. (nodes_from x.0, x.1)) (read_repeated (λ _. checked read_uleb (bad_child t false)) is_null (λ _. failing TooDeep))
-read_children k t (suc room) = made (λ x. (nodes_from x.0, x.1)) (read_repeated (λ _. checked read_uleb (bad_child t true)) is_null (read_body k t (read_children k t room)))
+read_children k t zero =
+    made (λ x. (nodes_from x.0, x.1))
+    (read_repeated (λ _. checked read_uleb (bad_child t false)) is_null (λ _. failing TooDeep))
+read_children k t (suc room) =
+    made (λ x. (nodes_from x.0, x.1))
+    (read_repeated (λ _. checked read_uleb (bad_child t true)) is_null (read_body k t (read_children k t room)))
 
 unfoldable pub read_tree : Ctx → Table → ℕ → Reader Tree
 read_tree k t room = made node_from (checked read_uleb (bad_root t) and_then read_body k t (read_children k t room))
@@ -35,4 +42,6 @@ read_tree k t room = made node_from (checked read_uleb (bad_root t) and_then rea
 -- nulls up to the unit's end
 abbrev pub read_padding : ℕ → Reader (List ℕ)
 read_padding zero bytes lim = Found [] 0
-read_padding (suc fuel) bytes lim = if lim == 0 then Found [] 0 else made (λ x. x.0.width ∷ x.1) (checked read_uleb not_null and_then λ _. read_padding fuel) bytes lim
+read_padding (suc fuel) bytes lim =
+    if lim == 0 then Found [] 0
+    else made (λ x. x.0.width ∷ x.1) (checked read_uleb not_null and_then λ _. read_padding fuel) bytes lim

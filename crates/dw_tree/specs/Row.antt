@@ -43,7 +43,8 @@ abbrev pub join : Forest → Forest → Forest
 join none us = us
 join (more x ts) us = more x (join ts us)
 
--- What follows a place in the rows: the trees up to the null that ends their chain, its width, and the same of each chain around it.
+-- What follows a place in the rows: the trees up to the null that ends their chain, its width, and the same of each
+-- chain around it.
 pub record Rest : Type 0 where
   pub here : Forest
   pub width : ℕ
@@ -98,7 +99,8 @@ here-all ts =
 
 pub rows-push : (ts : Forest) (x : Tree) → all_rows (push ts x) ≡ all_rows ts ++ rows_of x
 rows-push none x = append-nil (rows_of x)
-rows-push (more y ts) x = ap (λ xs. rows_of y ++ xs) (rows-push ts x) ∙ sym (append_assoc (rows_of y) (all_rows ts) (rows_of x))
+rows-push (more y ts) x =
+    ap (λ xs. rows_of y ++ xs) (rows-push ts x) ∙ sym (append_assoc (rows_of y) (all_rows ts) (rows_of x))
 
 -- the first of a chain; an entry of code 0 where there is none
 abbrev pub head_of : Forest → Tree
@@ -106,4 +108,6 @@ head_of none = leaf (record { value = 0; width = 0 }) []
 head_of (more x ts) = x
 
 pub tree_of_rows : (x : Tree) → head_of (rest_of (rows_of x)).here ≡ x
-tree_of_rows x = ap (λ (xs : List Token). head_of (rest_of xs).here) (sym (append-nil (rows_of x))) ∙ ap (λ (r : Rest). head_of r.here) (rest-rows x [])
+tree_of_rows x =
+    ap (λ (xs : List Token). head_of (rest_of xs).here) (sym (append-nil (rows_of x)))
+    ∙ ap (λ (r : Rest). head_of r.here) (rest-rows x [])

@@ -10,7 +10,9 @@ use Rattle.dw_tree.specs.Row.{Token, null_row, rows_of, all_rows, row_bytes, row
 module _ (k : Ctx) (t : Table) where
   pub bytes_append : (xs ys : List Token) → rows_bytes k t (xs ++ ys) ≡ rows_bytes k t xs ++ rows_bytes k t ys
   bytes_append [] ys = refl
-  bytes_append (x ∷ xs) ys = ap (λ (bs : List ℕ). row_bytes k t x ++ bs) (bytes_append xs ys) ∙ sym (append_assoc (row_bytes k t x) (rows_bytes k t xs) (rows_bytes k t ys))
+  bytes_append (x ∷ xs) ys =
+      ap (λ (bs : List ℕ). row_bytes k t x ++ bs) (bytes_append xs ys)
+      ∙ sym (append_assoc (row_bytes k t x) (rows_bytes k t xs) (rows_bytes k t ys))
 
   mutual
     unfolding tree_bytes
@@ -24,4 +26,6 @@ module _ (k : Ctx) (t : Table) where
 
     pub rows_are_forest : (ts : Forest) → rows_bytes k t (all_rows ts) ≡ forest_bytes k t ts
     rows_are_forest none = refl
-    rows_are_forest (more x ts) = bytes_append (rows_of x) (all_rows ts) ∙ ap₂ (λ (bs cs : List ℕ). bs ++ cs) (rows_are_tree x) (rows_are_forest ts)
+    rows_are_forest (more x ts) =
+        bytes_append (rows_of x) (all_rows ts)
+        ∙ ap₂ (λ (bs cs : List ℕ). bs ++ cs) (rows_are_tree x) (rows_are_forest ts)

@@ -24,7 +24,9 @@ pub record AreShort (rows heads content bytes : ℕ) : Type 0 where
 
 module _ (k : Ctx) where
   -- values with their heads and contents
-  pub values_short : (ps : List Pair) (vs : List Attribute) (start : ℕ) → (values k ps).Fits vs → (length (heads k ps start vs) ≤ 16 * length ((values k ps).spell vs)) × (length (joined vs) ≤ length ((values k ps).spell vs))
+  pub values_short : (ps : List Pair) (vs : List Attribute) (start : ℕ) → (values k ps).Fits vs
+      → (length (heads k ps start vs) ≤ 16 * length ((values k ps).spell vs))
+      × (length (joined vs) ≤ length ((values k ps).spell vs))
   values_short [] [] start fits = (omega arith, omega arith)
   values_short [] (v ∷ vs) start fits = absurd fits
   values_short (p ∷ ps) [] start fits = absurd fits
@@ -39,22 +41,32 @@ module _ (k : Ctx) where
 
   module _ (t : Table) where
     entry_short : (code : Unsigned) (vs : List Attribute) (start : ℕ) → EntryFits k t code vs
-        → AreShort 1 (length (heads k (declared_pairs (declared t code.value)) start vs)) (length (joined vs)) (length (row_bytes k t (leaf_row code vs)))
+        → AreShort 1 (length (heads k (declared_pairs (declared t code.value)) start vs)) (length (joined vs))
+        (length (row_bytes k t (leaf_row code vs)))
     entry_short code vs start fits =
         let ps = declared_pairs (declared t code.value) in
         let own = values_short ps vs start fits.values_fit in
         let all = length-append (uleb.spell code) ((values k ps).spell vs) in
         let some = uleb_some code fits.code_fits in
-        record { rows_short = omega (arith, all, some); heads_short = omega (arith, own.0, all); content_short = omega (arith, own.1, all) }
+        record {
+          rows_short = omega (arith, all, some);
+          heads_short = omega (arith, own.0, all);
+          content_short = omega (arith, own.1, all);
+        }
 
-    row_short : (x : Token) (start : ℕ) → TokenFits k t x → AreShort 1 (length (row_heads k t start x)) (length (joined (row_values x))) (length (row_bytes k t x))
+    row_short : (x : Token) (start : ℕ) → TokenFits k t x
+        → AreShort 1 (length (row_heads k t start x)) (length (joined (row_values x))) (length (row_bytes k t x))
     row_short (leaf_row code vs) start fits = entry_short code vs start fits.0
     row_short (branch_row code vs) start fits = entry_short code vs start fits.0
-    row_short (null_row w) start fits = let some = uleb_some (zero_of w) fits in record { rows_short = omega (arith, some); heads_short = omega arith; content_short = omega arith }
+    row_short (null_row w) start fits =
+        let some = uleb_some (zero_of w) fits in
+        record { rows_short = omega (arith, some); heads_short = omega arith; content_short = omega arith }
 
     -- the rows of a tree with their heads and contents
-    pub rows_short : (xs : List Token) (start : ℕ) → AllByRecursion (TokenFits k t) xs → AreShort (length xs) (length (rows_heads k t start xs)) (length (held xs)) (length (rows_bytes k t xs))
-    rows_short [] start fits = record { rows_short = omega arith; heads_short = omega arith; content_short = omega arith }
+    pub rows_short : (xs : List Token) (start : ℕ) → AllByRecursion (TokenFits k t) xs
+        → AreShort (length xs) (length (rows_heads k t start xs)) (length (held xs)) (length (rows_bytes k t xs))
+    rows_short [] start fits =
+        record { rows_short = omega arith; heads_short = omega arith; content_short = omega arith }
     rows_short (x ∷ xs) start fits =
         let own = row_short x start fits.0 in
         let others = rows_short xs (start + length (joined (row_values x))) fits.1 in

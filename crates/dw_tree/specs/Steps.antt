@@ -11,7 +11,7 @@ use Rattle.dw_form.specs.HeadSize.{is_plain}
 use Rattle.dw_abbrev.specs.Table.{Pair, Declaration, Table, declared}
 use Rattle.dw_tree.specs.Tree.{Tree, leaf, Forest, none, more, values, declared_pairs}
 use Rattle.dw_tree.specs.Row.{rows_bytes}
-use Rattle.dw_tree.specs.Place.{Frame, Spot, add, enter, leave, rows_before, PartialValue, UnfinishedEntry, Place, place_code}
+use Rattle.dw_tree.specs.Place.{Frame, Spot, nowhere, add, enter, leave, rows_before, PartialValue, UnfinishedEntry, Place, place_code}
 use Rattle.dw_tree.specs.Codes.{context_code, table_code, tree_code}
 
 -- a tree under construction, whose root begins at this offset of its unit
@@ -21,15 +21,23 @@ pub record Growing : Type 0 where
   pub start : ℕ
   pub place : Place
 
+-- one that has no entry yet
+abbrev pub nothing_grown : Ctx → Table → ℕ → Growing
+nothing_grown context table start =
+    record { context = context; table = table; start = start; place = record { spot = nowhere; unfinished = None } }
+
 abbrev pub growing_code : Coded Growing
-growing_code = code_by (Ctx × (Table × (ℕ × Place))) (coded× context_code (coded× table_code (coded× coded_ℕ place_code)))
-    (λ g. (g.context, (g.table, (g.start, g.place)))) (λ p. record { context = p.0; table = p.1.0; start = p.1.1.0; place = p.1.1.1 }) (λ _. refl)
+growing_code =
+    code_by (Ctx × (Table × (ℕ × Place))) (coded× context_code (coded× table_code (coded× coded_ℕ place_code)))
+    (λ g. (g.context, (g.table, (g.start, g.place))))
+    (λ p. record { context = p.0; table = p.1.0; start = p.1.1.0; place = p.1.1.1 }) (λ _. refl)
 
 -- an entry with all its values is closed at once, or is opened
 abbrev pub settled : Bool → Bool → Spot → Unsigned → List Attribute → Place
 settled true true s code vs = record { spot = enter code vs s; unfinished = None }
 settled true false s code vs = record { spot = add (leaf code vs) s; unfinished = None }
-settled false children s code vs = record { spot = s; unfinished = Some (record { code = code; values = vs; partial = None }) }
+settled false children s code vs =
+    record { spot = s; unfinished = Some (record { code = code; values = vs; partial = None }) }
 
 -- an entry is given these values so far
 abbrev pub settle_by : Option Declaration → Spot → Unsigned → List Attribute → Place
@@ -65,7 +73,8 @@ abbrev pub given_partial : Option PartialValue → UnfinishedEntry → Unfinishe
 given_partial o r = record { code = r.code; values = r.values; partial = o }
 
 abbrev pub with_partial : Option PartialValue → Growing → Growing
-with_partial o g = record g { place = record { spot = g.place.spot; unfinished = option_map (given_partial o) g.place.unfinished } }
+with_partial o g =
+    record g { place = record { spot = g.place.spot; unfinished = option_map (given_partial o) g.place.unfinished } }
 
 -- a text or block begins, of which no bytes are there yet
 abbrev pub started : Option Unsigned → Option ℕ → Growing → Growing
@@ -111,7 +120,10 @@ unfinished_bytes k t None = []
 unfinished_bytes k t (Some r) = uleb.spell r.code ++ first_values k (declared_pairs (declared t r.code.value)) r.values
 
 abbrev pub end_of : Growing → ℕ
-end_of g = g.start + (length (rows_bytes g.context g.table (rows_before g.place.spot.above g.place.spot.left)) + length (unfinished_bytes g.context g.table g.place.unfinished))
+end_of g =
+    g.start
+    + (length (rows_bytes g.context g.table (rows_before g.place.spot.above g.place.spot.left))
+    + length (unfinished_bytes g.context g.table g.place.unfinished))
 
 -- ---- what the caller has tested
 
@@ -146,7 +158,8 @@ abbrev pub next_front : Ctx → Table → Option UnfinishedEntry → Attribute �
 next_front k t o v = front_bytes v (next_bytes k t o v)
 
 -- these bytes spell a value as the next one, and it is no text or block
-pub record IsPlainNext (k : Ctx) (t : Table) (o : Option UnfinishedEntry) (v : Attribute) (bytes : List ℕ) : Type 0 where
+pub record IsPlainNext (k : Ctx) (t : Table) (o : Option UnfinishedEntry) (v : Attribute) (bytes : List ℕ)
+    : Type 0 where
   pub fits : NextFits k t o v
   pub plain : is_plain v.value ≡ true
   pub spelled : bytes ≡ next_bytes k t o v
@@ -158,7 +171,9 @@ SpellsPlain k t o bytes = (v : Attribute) × IsPlainNext k t o v bytes
 abbrev pub ArePlain : Ctx → List Pair → List Attribute → List ℕ → Type 0
 ArePlain k ps [] bytes = bytes ≡ []
 ArePlain k [] (v ∷ vs) bytes = ⊥
-ArePlain k (p ∷ ps) (v ∷ vs) bytes = ((attribute k p.form.value p.constant).Fits v × (is_plain v.value ≡ true)) × ((rest : List ℕ) × (bytes ≡ (attribute k p.form.value p.constant).spell v ++ rest) × ArePlain k ps vs rest)
+ArePlain k (p ∷ ps) (v ∷ vs) bytes =
+    ((attribute k p.form.value p.constant).Fits v × (is_plain v.value ≡ true))
+    × ((rest : List ℕ) × (bytes ≡ (attribute k p.form.value p.constant).spell v ++ rest) × ArePlain k ps vs rest)
 
 -- so many of them
 abbrev pub SpellsFirst : Ctx → List Pair → ℕ → List ℕ → Type 0
@@ -175,7 +190,8 @@ pub record TreeAt : Type 0 where
 
 abbrev pub tree_at_code : Coded TreeAt
 tree_at_code = code_by (Ctx × (Table × (ℕ × Tree))) (coded× context_code (coded× table_code (coded× coded_ℕ tree_code)))
-    (λ g. (g.context, (g.table, (g.start, g.root)))) (λ p. record { context = p.0; table = p.1.0; start = p.1.1.0; root = p.1.1.1 }) (λ _. refl)
+    (λ g. (g.context, (g.table, (g.start, g.root))))
+    (λ p. record { context = p.0; table = p.1.0; start = p.1.1.0; root = p.1.1.1 }) (λ _. refl)
 
 -- the tree of a place behind a whole one
 abbrev pub only_tree : Forest → Option Tree
@@ -189,4 +205,6 @@ whole_tree [] ts (Some r) = None
 whole_tree (f ∷ fs) ts o = None
 
 abbrev pub finished : Growing → Option TreeAt
-finished g = option_map (λ (x : Tree). record { context = g.context; table = g.table; start = g.start; root = x }) (whole_tree g.place.spot.above g.place.spot.left g.place.unfinished)
+finished g =
+    option_map (λ (x : Tree). record { context = g.context; table = g.table; start = g.start; root = x })
+    (whole_tree g.place.spot.above g.place.spot.left g.place.unfinished)

@@ -15,7 +15,8 @@ use Rattle.dw_tree.specs.Runs.{size_of_shape}
 
 -- the first values have so many bytes in all, and these are the pairs of the others
 abbrev pub ToldFront : Ctx → List Pair → ℕ → List Pair → Type 0
-ToldFront k ps size others = (count : ℕ) × (count ≤ length ps) × AreTold k (take count ps) size × (others ≡ drop count ps)
+ToldFront k ps size others =
+    (count : ℕ) × (count ≤ length ps) × AreTold k (take count ps) size × (others ≡ drop count ps)
 
 -- ---- the size of one
 
@@ -31,14 +32,22 @@ by_shape (Some shapes.CountedUleb) n h = absurd h
 by_shape (Some shapes.Text) n h = absurd h
 by_shape (Some shapes.Indirect) n h = absurd h
 
-constant_size : (k : Ctx) (form n : ℕ) → form ≡ 0x21 → n ≡ 0 → size_of_shape (shape form k.address_size k.format) ≡ Some n
+constant_size : (k : Ctx) (form n : ℕ) → form ≡ 0x21 → n ≡ 0
+    → size_of_shape (shape form k.address_size k.format) ≡ Some n
 unfolding shape
 constant_size k form n is zero_is = rw (is, zero_is) refl
 
-pub told_is : (k : Ctx) (p : Pair) (s : FormSize) → told p ≡ Some s → size_of_shape (shape p.form.value k.address_size k.format) ≡ Some (size_in k s)
+pub told_is : (k : Ctx) (p : Pair) (s : FormSize) → told p ≡ Some s
+    → size_of_shape (shape p.form.value k.address_size k.format) ≡ Some (size_in k s)
 told_is k p s e = by (is_some p.constant) (p.form.value == 0x21) refl e
   where
-    by : (b c : Bool) → (p.form.value == 0x21) ≡ c → (if b && c then Some (Bytes 0) else told_form p.form.value) ≡ Some s → size_of_shape (shape p.form.value k.address_size k.format) ≡ Some (size_in k s)
-    by true true is h = let same : Bytes 0 ≡ s = cc in constant_size k p.form.value (size_in k s) (eqb-true p.form.value 0x21 is) (ap (size_in k) (sym same))
-    by true false is h = by_shape (shape p.form.value k.address_size k.format) (size_in k s) (told_shape k p.form.value s h)
-    by false c is h = by_shape (shape p.form.value k.address_size k.format) (size_in k s) (told_shape k p.form.value s h)
+    by : (b c : Bool) → (p.form.value == 0x21) ≡ c
+        → (if b && c then Some (Bytes 0) else told_form p.form.value) ≡ Some s
+        → size_of_shape (shape p.form.value k.address_size k.format) ≡ Some (size_in k s)
+    by true true is h =
+        let same : Bytes 0 ≡ s = cc in
+        constant_size k p.form.value (size_in k s) (eqb-true p.form.value 0x21 is) (ap (size_in k) (sym same))
+    by true false is h =
+        by_shape (shape p.form.value k.address_size k.format) (size_in k s) (told_shape k p.form.value s h)
+    by false c is h =
+        by_shape (shape p.form.value k.address_size k.format) (size_in k s) (told_shape k p.form.value s h)

@@ -74,12 +74,15 @@ bad_child t room code = if is_null code then None else (if room then unknown t c
 
 -- behind its code an entry is its values and, exactly where its declaration has them, its children
 abbrev pub body : Ctx → Table → Part (Forest × Unsigned) → Unsigned → Part Body
-body k t children code = values k (declared_pairs (declared t code.value)) then λ _. optional (declares_children (declared t code.value)) children
+body k t children code =
+    values k (declared_pairs (declared t code.value)) then
+    λ _. optional (declares_children (declared t code.value)) children
 
 -- Entries until a null, with room for so many levels. Without room the null alone is taken.
 unfoldable pub children : Ctx → Table → ℕ → Part (Forest × Unsigned)
 children k t zero = seen as_nodes (repeated (λ _. judged uleb (bad_child t false)) is_null (λ _. refused TooDeep))
-children k t (suc room) = seen as_nodes (repeated (λ _. judged uleb (bad_child t true)) is_null (body k t (children k t room)))
+children k t (suc room) =
+    seen as_nodes (repeated (λ _. judged uleb (bad_child t true)) is_null (body k t (children k t room)))
 
 -- the most levels of a tree
 unfoldable pub nesting : ℕ
@@ -110,4 +113,5 @@ abbrev pub MoreBreaks : Breaks
 MoreBreaks rest lim offset reason = (0 < lim) × (judged uleb not_null).Break rest lim offset reason
 
 abbrev pub PaddingBreaks : Breaks
-PaddingBreaks bytes lim offset reason = (ws : List ℕ) × AreNulls ws × After (nulls ws) MoreBreaks bytes lim offset reason
+PaddingBreaks bytes lim offset reason =
+    (ws : List ℕ) × AreNulls ws × After (nulls ws) MoreBreaks bytes lim offset reason

@@ -13,7 +13,8 @@ abbrev pub tokens_in : Inside → List Token
 tokens_in a = tokens_at a.context a.table.value a.rows.items a.heads.items a.pool.items
 
 abbrev pub tree_at : Inside → TreeAt
-tree_at a = record { context = a.context; table = a.table.value; start = a.start; root = head_of (rest_of (tokens_in a)).here }
+tree_at a =
+    record { context = a.context; table = a.table.value; start = a.start; root = head_of (rest_of (tokens_in a)).here }
 
 pub record IsTree (a : Inside) : Type 0 where
   pub context_fits : IsContext a.context

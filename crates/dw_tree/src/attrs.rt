@@ -33,8 +33,8 @@ pub struct AttrRef<'a> {
     pub attr: AttrValue<'a>,
 }
 
-/// An attribute of an entry whose value is a number of a fixed size of at most 8 bytes (section 7.5.5). Its fields are those
-/// of an `AttrRef`, whose value is the number; it borrows nothing.
+/// An attribute of an entry whose value is a number of a fixed size of at most 8 bytes (section 7.5.5). Its fields are
+/// those of an `AttrRef`, whose value is the number; it borrows nothing.
 #[derive(Clone, Copy, Debug)]
 pub struct NumberRef {
     /// The name, `DW_AT_..`.
@@ -87,7 +87,9 @@ impl<'a> Model for Attrs<'a> {
 
     ghost Value = { List LentAttribute };
 
-    ghost view = { λ a. lent_attributes a.ctx a.at (map pair_of a.pairs.now) (values_at a.ctx (map pair_of a.pairs.now) a.heads.now a.pool.now) };
+    ghost view = { λ a.
+        lent_attributes a.ctx a.at (map pair_of a.pairs.now)
+        (values_at a.ctx (map pair_of a.pairs.now) a.heads.now a.pool.now) };
 
     ghost invariant = { λ a. AreLent a.ctx a.at (map pair_of a.pairs.now) a.heads.now a.pool.now };
 }
@@ -103,7 +105,9 @@ impl<'a> Attrs<'a> {
         at: u64,
     ) -> Attrs<'a>
         requires { AreLent ctx at (map pair_of pairs.now) heads.now pool.now }
-        ensures { result ≡ lent_attributes ctx at (map pair_of pairs.now) (values_at ctx (map pair_of pairs.now) heads.now pool.now) }
+        ensures { result
+            ≡ lent_attributes ctx at (map pair_of pairs.now)
+            (values_at ctx (map pair_of pairs.now) heads.now pool.now) }
     {
         Attrs {
             ctx,
@@ -114,9 +118,9 @@ impl<'a> Attrs<'a> {
         }
     }
 
-    /// The next attribute, where its value is a number of a fixed size of at most 8 bytes (and isn't indirect): as `next`
-    /// gives it, and in less memory. None where it is any other, or none is left: nothing was taken, and `next` is to be
-    /// asked.
+    /// The next attribute, where its value is a number of a fixed size of at most 8 bytes (and isn't indirect): as
+    /// `next` gives it, and in less memory. None where it is any other, or none is left: nothing was taken, and `next`
+    /// is to be asked.
     #[inline(always)]
     pub fn next_number(&mut self) -> Option<NumberRef>
         ensures some { IfSome result (λ n. self.old ≡ number_of n ∷ self.new) }
@@ -142,9 +146,9 @@ impl<'a> Attrs<'a> {
         Some(first)
     }
 
-    /// The next attribute, where its value has no bytes (and isn't indirect): that the attribute is there, or the constant
-    /// of its declaration (section 7.5.5, `flag_present` and `implicit_const`). As `next` gives it, and at less cost. None
-    /// where it is any other, or none is left: nothing was taken, and `next` is to be asked.
+    /// The next attribute, where its value has no bytes (and isn't indirect): that the attribute is there, or the
+    /// constant of its declaration (section 7.5.5, `flag_present` and `implicit_const`). As `next` gives it, and at
+    /// less cost. None where it is any other, or none is left: nothing was taken, and `next` is to be asked.
     #[inline(always)]
     pub fn next_bare(&mut self) -> Option<AttrRef<'static>>
         ensures some { IfSome result (λ a. self.old ≡ attr_of a ∷ self.new) }

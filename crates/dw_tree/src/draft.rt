@@ -7,7 +7,7 @@ ghost use Rattle.dw_form.specs.Lent.{attribute_of};
 ghost use Rattle.dw_abbrev.specs.PairView.{pair_of};
 ghost use Rattle.dw_abbrev.specs.Table.{declared, zero_of};
 ghost use Rattle.dw_tree.specs.Tree.{nesting, unit_tree};
-ghost use Rattle.dw_tree.specs.Place.{nowhere, rows_before};
+ghost use Rattle.dw_tree.specs.Place.{rows_before};
 ghost use Rattle.dw_tree.specs.DraftView.{partial_of};
 ghost use Rattle.dw_tree.specs.Flat.{with_end as row_ending};
 ghost use Rattle.dw_tree.specs.PoolBytes.{held_in, partial_bytes};
@@ -17,7 +17,7 @@ ghost use Rattle.dw_tree.specs.Emptiness.{is_bare};
 ghost use Rattle.dw_tree.specs.declared.row.RowKind.TheVariants.{Null};
 ghost use Rattle.dw_tree.specs.Completed.{one_given, row_with, settled_rows, settled_open, settled_unfinished};
 ghost use Rattle.dw_tree.specs.FirstGiven.{given_if};
-ghost use Rattle.dw_tree.specs.Steps.{begun_at, with_value, partial_in, partial_attribute, started, extended, ended, closed_at, undone, end_of, NextFits, IsPlainNext, SpellsPlain, ArePlain, SpellsFirst, with_values, next_bytes, next_front, next_pair, next_pairs, finished};
+ghost use Rattle.dw_tree.specs.Steps.{begun_at, with_value, partial_in, partial_attribute, started, extended, ended, closed_at, undone, end_of, NextFits, IsPlainNext, SpellsPlain, ArePlain, SpellsFirst, with_values, next_bytes, next_front, next_pair, next_pairs, finished, nothing_grown};
 
 use crate::row::{PartialValue, Row, RowKind, Unfinished};
 use crate::tree::EntryTree;
@@ -75,7 +75,7 @@ impl TreeDraft {
     pub fn new(alloc: Global, context: Ctx, table: Rc<Table>, start: u64) -> TreeDraft
         requires context { IsContext context }
         requires near { start < 2 ^ 63 }
-        ensures { result ≡ record { context = context; table = table.value; start = start; place = record { spot = nowhere; unfinished = None } } }
+        ensures { result ≡ nothing_grown context table.value start }
     {
         TreeDraft {
             context,
@@ -137,8 +137,10 @@ impl TreeDraft {
     ) -> Result<(), AllocError>
         requires between { partial_in self.old.place.unfinished ≡ None }
         requires fits { NextFits self.old.context self.old.table self.old.place.unfinished (attribute_of value.now) }
-        requires front { front.now ≡ next_front self.old.context self.old.table self.old.place.unfinished (attribute_of value.now) }
-        requires size { size ≡ length (next_bytes self.old.context self.old.table self.old.place.unfinished (attribute_of value.now)) }
+        requires front { front.now ≡ next_front self.old.context self.old.table self.old.place.unfinished
+            (attribute_of value.now) }
+        requires size { size
+            ≡ length (next_bytes self.old.context self.old.table self.old.place.unfinished (attribute_of value.now)) }
         requires near { end_of self.old + size < 2 ^ 63 }
         ensures ok { OnOk result (self.new ≡ with_value (attribute_of value.now) self.old) }
         ensures err { OnErr result (self.new ≡ self.old) }
@@ -157,7 +159,9 @@ impl TreeDraft {
         requires between { partial_in self.old.place.unfinished ≡ None }
         requires spelled { SpellsPlain self.old.context self.old.table self.old.place.unfinished spelling.now }
         requires near { end_of self.old + length spelling.now < 2 ^ 63 }
-        ensures ok { (v : Attribute) → IsPlainNext self.old.context self.old.table self.old.place.unfinished v spelling.now → OnOk result (self.new ≡ with_value v self.old) }
+        ensures ok { (v : Attribute) → IsPlainNext self.old.context self.old.table self.old.place.unfinished v
+            spelling.now
+            → OnOk result (self.new ≡ with_value v self.old) }
         ensures err { OnErr result (self.new ≡ self.old) }
     {
         if let Some(_unfinished) = self.unfinished {
@@ -168,12 +172,12 @@ impl TreeDraft {
         Ok(())
     }
 
-    /// An entry of this code begins, which `decl` declares, and is given its first values, `count` of them and none a text or
-    /// block, by the bytes that spell them one behind the other: the first `size` of these. With all its values the entry is
-    /// complete. It is what `begin` and as many calls of `plain_value` do, and `true` is answered.
+    /// An entry of this code begins, which `decl` declares, and is given its first values, `count` of them and none a
+    /// text or block, by the bytes that spell them one behind the other: the first `size` of these. With all its values
+    /// the entry is complete. It is what `begin` and as many calls of `plain_value` do, and `true` is answered.
     ///
-    /// Where the growth by the values is refused, it is what `begin` does alone: the entry waits for all its values, and
-    /// `false` is answered. `AllocError` where a growth by one entry is refused, and nothing is changed.
+    /// Where the growth by the values is refused, it is what `begin` does alone: the entry waits for all its values,
+    /// and `false` is answered. `AllocError` where a growth by one entry is refused, and nothing is changed.
     #[inline(always)]
     pub fn begin_with(
         &mut self,
@@ -190,7 +194,9 @@ impl TreeDraft {
         requires within { size ≤ length bytes.now }
         requires spelled { SpellsFirst self.old.context decl.now.pairs count (take size bytes.now) }
         requires near { end_of self.old + (code.width + size) < 2 ^ 63 }
-        ensures ok { (vs : List Attribute) → length vs ≡ count → ArePlain self.old.context decl.now.pairs vs (take size bytes.now) → IfOk result (λ all. self.new ≡ with_values (given_if all vs) (begun_at (uleb_of code) self.old)) }
+        ensures ok { (vs : List Attribute) → length vs ≡ count
+            → ArePlain self.old.context decl.now.pairs vs (take size bytes.now)
+            → IfOk result (λ all. self.new ≡ with_values (given_if all vs) (begun_at (uleb_of code) self.old)) }
         ensures err { OnErr result (self.new ≡ self.old) }
     {
         self.rows.reserve(1)?;
@@ -217,7 +223,8 @@ impl TreeDraft {
         Ok(true)
     }
 
-    /// The same where there is no memory for the values. For the entry itself there is room already, so none is asked for.
+    /// The same where there is no memory for the values. For the entry itself there is room already, so none is asked
+    /// for.
     fn begin_alone(&mut self, code: Uleb) -> Result<bool, AllocError>
         requires some { 0 < code.value }
         requires known { IsSome (declared self.old.table code.value) }
@@ -258,10 +265,16 @@ impl TreeDraft {
     /// it has `size` bytes, those of its form, its length and its end included, of which `front` come
     /// before its own.
     pub fn end_value(&mut self, front: &[u8], size: u64)
-        requires fits { IfSome (partial_in self.old.place.unfinished) (λ b. NextFits self.old.context self.old.table self.old.place.unfinished (partial_attribute b)) }
-        requires front { IfSome (partial_in self.old.place.unfinished) (λ b. front.now ≡ next_front self.old.context self.old.table self.old.place.unfinished (partial_attribute b)) }
+        requires fits { IfSome (partial_in self.old.place.unfinished)
+            (λ b. NextFits self.old.context self.old.table self.old.place.unfinished (partial_attribute b)) }
+        requires front { IfSome (partial_in self.old.place.unfinished)
+            (λ b.
+            front.now ≡ next_front self.old.context self.old.table self.old.place.unfinished (partial_attribute b)) }
         requires short { length front.now ≤ 32 }
-        requires size { IfSome (partial_in self.old.place.unfinished) (λ b. size ≡ length (next_bytes self.old.context self.old.table self.old.place.unfinished (partial_attribute b))) }
+        requires size { IfSome (partial_in self.old.place.unfinished)
+            (λ b.
+            size
+            ≡ length (next_bytes self.old.context self.old.table self.old.place.unfinished (partial_attribute b))) }
         requires near { end_of self.old + size < 2 ^ 63 }
         ensures { self.new ≡ ended self.old }
     {
@@ -339,7 +352,8 @@ impl TreeDraft {
     /// they were given. It keeps no others.
     pub fn content(&self) -> &[u8]
         ensures exact { result.now ≡ held_in self.now.place }
-        ensures short { length result.now ≤ end_of self.now - self.now.start + length (partial_bytes (partial_in self.now.place.unfinished)) }
+        ensures short { length result.now
+            ≤ end_of self.now - self.now.start + length (partial_bytes (partial_in self.now.place.unfinished)) }
     {
         &self.pool
     }
@@ -558,8 +572,8 @@ fn append_few(list: &mut Vec<u8>, bytes: &[u8]) -> Result<(), AllocError>
 /// As many bytes as most entries have at most, which are moved at once.
 const AT_ONCE: usize = 32;
 
-/// Appends the first `size` bytes. Where there are few of them, and enough behind them and in the list, more are moved at
-/// once, and cut off.
+/// Appends the first `size` bytes. Where there are few of them, and enough behind them and in the list, more are moved
+/// at once, and cut off.
 #[inline(always)]
 fn append_front(list: &mut Vec<u8>, bytes: &[u8], size: usize) -> Result<(), AllocError>
     requires { size ≤ length bytes.now }
@@ -586,8 +600,10 @@ fn count_value(rows: &mut Vec<Row>, nested: &mut Vec<usize>, unfinished: &mut Op
     requires row { vec_len rows.old < vec_capacity rows.old }
     requires place { vec_len nested.old < vec_capacity nested.old }
     requires level { vec_len nested.old < 2 ^ 15 }
-    ensures rows { IfSome unfinished.old (λ r. rows.new.items ≡ settled_rows (one_given r) (vec_len nested.old + 1) rows.old.items) }
-    ensures nested { IfSome unfinished.old (λ r. nested.new.items ≡ settled_open (one_given r) (vec_len rows.old) nested.old.items) }
+    ensures rows { IfSome unfinished.old (λ r. rows.new.items
+        ≡ settled_rows (one_given r) (vec_len nested.old + 1) rows.old.items) }
+    ensures nested { IfSome unfinished.old (λ r. nested.new.items
+        ≡ settled_open (one_given r) (vec_len rows.old) nested.old.items) }
     ensures unfinished { IfSome unfinished.old (λ r. unfinished.new ≡ settled_unfinished (one_given r)) }
     ensures room { IsSome unfinished.new → (vec_len rows.new < vec_capacity rows.new) }
     ensures open_room { IsSome unfinished.new → (vec_len nested.new < vec_capacity nested.new) }
@@ -601,8 +617,8 @@ fn count_value(rows: &mut Vec<Row>, nested: &mut Vec<usize>, unfinished: &mut Op
     }
 }
 
-/// What is left of an entry stands as the unfinished one, where there was none. Of most entries nothing is, and then nothing
-/// is stored.
+/// What is left of an entry stands as the unfinished one, where there was none. Of most entries nothing is, and then
+/// nothing is stored.
 #[inline(always)]
 fn leave(unfinished: &mut Option<Unfinished>, left: Option<Unfinished>)
     requires { unfinished.old ≡ None }

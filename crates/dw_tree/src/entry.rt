@@ -31,7 +31,8 @@ impl<'a> Model for EntryRef<'a> {
 
     ghost view = { λ e. entry_at_row e.tree.now e.at };
 
-    ghost invariant = { λ e. StandsAt (rows_of e.tree.now.root) e.at (head_of (chain_at (rows_of e.tree.now.root) e.at)) };
+    ghost invariant = { λ e. StandsAt (rows_of e.tree.now.root) e.at
+        (head_of (chain_at (rows_of e.tree.now.root) e.at)) };
 }
 
 impl EntryTree {

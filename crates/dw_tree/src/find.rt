@@ -43,7 +43,8 @@ pub(crate) fn row_at(rows: &[Row], offset: u64) -> Option<usize>
 fn rows_before(rows: &[Row], offset: u64) -> usize
     requires { OffsetsGrow rows.now }
     ensures bound { result ≤ length rows.now }
-    ensures point { IsPartitionPoint (λ r. nat_lt r.offset offset ≡ true) (λ r. nat_lt r.offset offset ≡ false) rows.now result }
+    ensures point { IsPartitionPoint (λ r. nat_lt r.offset offset ≡ true)
+        (λ r. nat_lt r.offset offset ≡ false) rows.now result }
 {
     rows.partition_point(
         |row: &Row| -> bool

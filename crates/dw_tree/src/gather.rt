@@ -20,7 +20,8 @@ use dw_form::{Ctx, Value, front_len, lend_head};
 /// The bytes of rows, one behind the other, that are still to be written.
 pub(crate) type Gathered = ArrayVec<u8, 512>;
 
-/// The most bytes of a row that is gathered, where not each form of its values tells their size, or its code has several bytes.
+/// The most bytes of a row that is gathered, where not each form of its values tells their size, or its code has
+/// several bytes.
 const MOST_SPELLED: usize = 128;
 
 /// Puts the bytes of a row behind those that were gathered, where there is room for them. Else nothing is changed, and
@@ -36,7 +37,9 @@ pub(crate) fn gather(
 ) -> bool
     requires context { IsContext ctx }
     requires reads { RowReads ctx table.now heads.now pool.now row }
-    ensures put { IsTrue result → gathered.new.items ≡ gathered.old.items ++ row_bytes ctx table.now (token_at ctx table.now heads.now pool.now row) }
+    ensures put { IsTrue result
+        → gathered.new.items
+        ≡ gathered.old.items ++ row_bytes ctx table.now (token_at ctx table.now heads.now pool.now row) }
     ensures same { IsFalse result → gathered.new.items ≡ gathered.old.items }
 {
     match plain_row(ctx, table, heads, pool, row) {
@@ -45,7 +48,8 @@ pub(crate) fn gather(
     }
 }
 
-/// The same of an entry of few bytes, whatever its code and its values. What was put of one that has no room is taken back.
+/// The same of an entry of few bytes, whatever its code and its values. What was put of one that has no room is taken
+/// back.
 fn put_row(
     ctx: Ctx,
     table: &Table,
@@ -56,7 +60,9 @@ fn put_row(
 ) -> bool
     requires context { IsContext ctx }
     requires reads { RowReads ctx table.now heads.now pool.now row }
-    ensures put { IsTrue result → gathered.new.items ≡ gathered.old.items ++ row_bytes ctx table.now (token_at ctx table.now heads.now pool.now row) }
+    ensures put { IsTrue result
+        → gathered.new.items
+        ≡ gathered.old.items ++ row_bytes ctx table.now (token_at ctx table.now heads.now pool.now row) }
     ensures same { IsFalse result → gathered.new.items ≡ gathered.old.items }
 {
     let before = gathered.len();
@@ -90,7 +96,10 @@ fn put_entry(
 ) -> Option<()>
     requires context { IsContext ctx }
     requires reads { RowReads ctx table.now heads.now pool.now row }
-    ensures put { IfSome result (λ x. gathered.new.items ≡ gathered.old.items ++ row_bytes ctx table.now (token_at ctx table.now heads.now pool.now row)) }
+    ensures put { IfSome result
+        (λ x.
+        gathered.new.items
+        ≡ gathered.old.items ++ row_bytes ctx table.now (token_at ctx table.now heads.now pool.now row)) }
     ensures kept { Grown gathered.old.items gathered.new.items }
 {
     if let RowKind::Null = row.kind {
@@ -114,8 +123,8 @@ fn put_code(row: Row, most: usize, gathered: &mut Gathered) -> Option<()>
     put_bytes(row.code().bytes().as_slice(), most, gathered)
 }
 
-/// Puts the bytes of an entry's values behind those that were gathered. Values without content are put together, as they
-/// stand. None where there is no room for all: then those that are too far behind aren't looked at.
+/// Puts the bytes of an entry's values behind those that were gathered. Values without content are put together, as
+/// they stand. None where there is no room for all: then those that are too far behind aren't looked at.
 #[inline(always)]
 fn put_values(
     ctx: Ctx,
@@ -127,7 +136,8 @@ fn put_values(
 ) -> Option<()>
     requires context { IsContext ctx }
     requires here { Here ctx decl.now.pairs heads.now pool.now }
-    ensures put { IfSome result (λ x. gathered.new.items ≡ gathered.old.items ++ run_bytes ctx decl.now.pairs heads.now pool.now) }
+    ensures put { IfSome result (λ x. gathered.new.items
+        ≡ gathered.old.items ++ run_bytes ctx decl.now.pairs heads.now pool.now) }
     ensures kept { Grown gathered.old.items gathered.new.items }
 {
     let (told, others) = told_front(ctx, decl);
@@ -141,8 +151,8 @@ fn put_values(
     put_bytes(front(run, size), most, gathered)
 }
 
-/// Where the values without content that begin at `size` end, and the pairs of those behind them. What ends behind the first
-/// `room` bytes of the run isn't looked at.
+/// Where the values without content that begin at `size` end, and the pairs of those behind them. What ends behind the
+/// first `room` bytes of the run isn't looked at.
 #[inline(always)]
 fn whole_values<'a>(
     ctx: Ctx,
@@ -155,7 +165,8 @@ fn whole_values<'a>(
     requires context { IsContext ctx }
     requires here { Here ctx (map pair_of pairs.now) (drop size run.now) _pool.now }
     requires within { size ≤ length run.now }
-    ensures joined { take size run.now ++ run_bytes ctx (map pair_of pairs.now) (drop size run.now) _pool.now ≡ take result.0 run.now ++ run_bytes ctx (map pair_of result.1.now) (drop result.0 run.now) _pool.now }
+    ensures joined { take size run.now ++ run_bytes ctx (map pair_of pairs.now) (drop size run.now) _pool.now
+        ≡ take result.0 run.now ++ run_bytes ctx (map pair_of result.1.now) (drop result.0 run.now) _pool.now }
     ensures here { Here ctx (map pair_of result.1.now) (drop result.0 run.now) _pool.now }
     ensures within { result.0 ≤ length run.now }
     ensures fewer { length result.1.now ≤ length pairs.now }
@@ -193,8 +204,8 @@ fn front_within(b: &[u8], most: usize) -> &[u8]
     &b[..b.len().min(most)]
 }
 
-/// Puts the bytes of a pair's value behind those that were gathered, and gives what stands behind its head. None where there is
-/// no room for them.
+/// Puts the bytes of a pair's value behind those that were gathered, and gives what stands behind its head. None where
+/// there is no room for them.
 #[inline(always)]
 fn put_one<'a>(
     ctx: Ctx,
@@ -206,7 +217,8 @@ fn put_one<'a>(
 ) -> Option<&'a [u8]>
     requires context { IsContext ctx }
     requires first { First ctx (pair_of pair.now) heads.now pool.now }
-    ensures put { IfSome result (λ x. gathered.new.items ≡ gathered.old.items ++ first_bytes ctx (pair_of pair.now) heads.now pool.now) }
+    ensures put { IfSome result
+        (λ x. gathered.new.items ≡ gathered.old.items ++ first_bytes ctx (pair_of pair.now) heads.now pool.now) }
     ensures rest { IfSome result (λ x. x.now ≡ behind_first ctx (pair_of pair.now) heads.now pool.now) }
     ensures kept { Grown gathered.old.items gathered.new.items }
 {
@@ -224,7 +236,10 @@ fn put_one<'a>(
 /// is no room for them.
 #[inline(always)]
 fn put_content(front: &[u8], value: &Value<'_>, most: usize, gathered: &mut Gathered) -> Option<()>
-    ensures put { IfSome result (λ x. gathered.new.items ≡ gathered.old.items ++ (front.now ++ (content_of (value_of value.now) ++ tail_of (value_of value.now)))) }
+    ensures put { IfSome result
+        (λ x.
+        gathered.new.items
+        ≡ gathered.old.items ++ (front.now ++ (content_of (value_of value.now) ++ tail_of (value_of value.now)))) }
     ensures kept { Grown gathered.old.items gathered.new.items }
 {
     put_bytes(front, most, gathered)?;
@@ -263,8 +278,8 @@ fn put_both(code: u8, run: &[u8], gathered: &mut Gathered) -> bool
     gathered.try_extend_from_slice(run).is_ok()
 }
 
-/// The code of a row and the bytes of its values, where the code has one byte, and the forms of its values tell their sizes.
-/// Of a null they are none.
+/// The code of a row and the bytes of its values, where the code has one byte, and the forms of its values tell their
+/// sizes. Of a null they are none.
 #[inline(always)]
 fn plain_row<'a>(
     ctx: Ctx,
@@ -275,7 +290,8 @@ fn plain_row<'a>(
 ) -> Option<(u8, &'a [u8])>
     requires context { IsContext ctx }
     requires reads { RowReads ctx table.now heads.now pool.now row }
-    ensures { IfSome result (λ x. row_bytes ctx table.now (token_at ctx table.now heads.now pool.now row) ≡ x.0 ∷ x.1.now) }
+    ensures { IfSome result (λ x. row_bytes ctx table.now
+        (token_at ctx table.now heads.now pool.now row) ≡ x.0 ∷ x.1.now) }
 {
     if row.width != 1 {
         return None;
@@ -305,8 +321,8 @@ fn plain_run<'a>(ctx: Ctx, decl: &Decl, heads: &'a [u8], _pool: &[u8]) -> Option
     Some(front(heads, told))
 }
 
-/// How many bytes the first values of each entry of this declaration have, whose forms tell their sizes (section 7.5.6), and
-/// the pairs of the others.
+/// How many bytes the first values of each entry of this declaration have, whose forms tell their sizes (section
+/// 7.5.6), and the pairs of the others.
 #[inline(always)]
 fn told_front(ctx: Ctx, decl: &Decl) -> (usize, &[Pair])
     ensures { ToldFront ctx decl.now.pairs result.0 (map pair_of result.1.now) }

@@ -42,9 +42,9 @@ impl EntryTree {
         Entries { tree: self, at: 0 }
     }
 
-    /// The entries from the one on that begins exactly at this offset, counted from the unit's first byte, each before those
-    /// below it; none where no entry begins there (section 7.5.2). So a caller that keeps an entry's offset goes on from it.
-    /// No memory is taken.
+    /// The entries from the one on that begins exactly at this offset, counted from the unit's first byte, each before
+    /// those below it; none where no entry begins there (section 7.5.2). So a caller that keeps an entry's offset goes
+    /// on from it. No memory is taken.
     pub fn entries_from(&self, offset: u64) -> Entries<'_>
         ensures { result ≡ from_offset offset (entries_of self.now) }
     {

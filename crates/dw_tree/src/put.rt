@@ -28,8 +28,10 @@ impl EntryTree {
         requires { Takes (record { offset = offset; name = name; number = number }) self.old }
         ensures put { self.new ≡ put (record { offset = offset; name = name; number = number }) self.old }
         ensures fits { (unit_tree self.new.context self.new.table).Fits self.new.root }
-        ensures size { length ((unit_tree self.new.context self.new.table).spell self.new.root) ≡ length ((unit_tree self.old.context self.old.table).spell self.old.root) }
-        ensures offsets { map (λ (e : EntryAt). e.offset) (entries_of self.new) ≡ map (λ (e : EntryAt). e.offset) (entries_of self.old) }
+        ensures size { length ((unit_tree self.new.context self.new.table).spell self.new.root)
+            ≡ length ((unit_tree self.old.context self.old.table).spell self.old.root) }
+        ensures offsets { map (λ (e : EntryAt). e.offset) (entries_of self.new)
+            ≡ map (λ (e : EntryAt). e.offset) (entries_of self.old) }
     {
         let row = match row_at(&self.rows, offset) {
             Some(at) => self.rows[at],
@@ -70,7 +72,8 @@ fn patch_in(
 ) -> Option<Patch>
     requires context { IsContext ctx }
     requires here { Here ctx (map pair_of pairs.now) heads.now pool.now }
-    ensures { option_map (λ q. (q.at, q.bytes.items)) result ≡ patch_in ctx name number (map pair_of pairs.now) heads.now pool.now }
+    ensures { option_map (λ q. (q.at, q.bytes.items)) result
+        ≡ patch_in ctx name number (map pair_of pairs.now) heads.now pool.now }
 {
     let mut left = pairs;
     let mut at = 0;

@@ -63,7 +63,8 @@ impl EntryTree {
     /// content, and what finds the content among those of the tree. It keeps no others.
     pub fn heads(&self) -> &[u8]
         ensures exact { result.now ≡ rows_heads self.now.context self.now.table 0 (rows_of self.now.root) }
-        ensures short { length result.now ≤ 16 * length ((unit_tree self.now.context self.now.table).spell self.now.root) }
+        ensures short { length result.now ≤ 16 * length
+            ((unit_tree self.now.context self.now.table).spell self.now.root) }
     {
         &self.heads
     }

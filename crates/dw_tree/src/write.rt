@@ -29,7 +29,8 @@ impl EntryTree {
     /// Errors: `Io` with the kind of the writer's failure, `WriteZero` where it took no byte of some.
     pub fn write<W: Write>(&self, writer: &mut Watched<W>) -> Result<(), WriteError>
         requires { fault_of writer.old ≡ None }
-        ensures written { Wrote (W.contents (inner_of writer.old)) (W.contents (inner_of writer.new)) ((unit_tree self.now.context self.now.table).spell self.now.root) result }
+        ensures written { Wrote (W.contents (inner_of writer.old)) (W.contents (inner_of writer.new))
+            ((unit_tree self.now.context self.now.table).spell self.now.root) result }
         ensures fits { (unit_tree self.now.context self.now.table).Fits self.now.root }
         ensures fault { fault_of writer.new ≡ writer_fault result }
     {
@@ -74,7 +75,8 @@ fn write_row<W: Write>(
     requires reads { RowReads ctx table.now heads.now pool.now row }
     requires fits { TokenFits ctx table.now (token_at ctx table.now heads.now pool.now row) }
     requires clear { fault_of writer.old ≡ None }
-    ensures written { Wrote (W.contents (inner_of writer.old)) (W.contents (inner_of writer.new)) (row_bytes ctx table.now (token_at ctx table.now heads.now pool.now row)) result }
+    ensures written { Wrote (W.contents (inner_of writer.old)) (W.contents (inner_of writer.new))
+        (row_bytes ctx table.now (token_at ctx table.now heads.now pool.now row)) result }
     ensures fault { fault_of writer.new ≡ writer_fault result }
 {
     if let RowKind::Null = row.kind {
@@ -91,7 +93,8 @@ fn write_row<W: Write>(
 pub fn write_null<W: Write>(width: u8, writer: &mut Watched<W>) -> Result<(), WriteError>
     requires null { uleb.Fits (zero_of width) }
     requires clear { fault_of writer.old ≡ None }
-    ensures written { Wrote (W.contents (inner_of writer.old)) (W.contents (inner_of writer.new)) (uleb.spell (zero_of width)) result }
+    ensures written { Wrote (W.contents (inner_of writer.old)) (W.contents (inner_of writer.new))
+        (uleb.spell (zero_of width)) result }
     ensures fault { fault_of writer.new ≡ writer_fault result }
 {
     match Uleb::with_width(0, width) {
@@ -100,14 +103,16 @@ pub fn write_null<W: Write>(width: u8, writer: &mut Watched<W>) -> Result<(), Wr
     }
 }
 
-/// Where the value at `size` ends, if it has no content: its head is its spelling. Its form tells its size, or it is a LEB128
-/// number, which ends at its first byte without bit 7 (section 7.6). It ends there also where `run` is cut off behind it.
+/// Where the value at `size` ends, if it has no content: its head is its spelling. Its form tells its size, or it is a
+/// LEB128 number, which ends at its first byte without bit 7 (section 7.6). It ends there also where `run` is cut off
+/// behind it.
 #[inline(always)]
 pub(crate) fn whole_end(ctx: Ctx, form: u64, run: &[u8], size: usize) -> Option<usize>
     requires context { IsContext ctx }
     requires within { size ≤ length run.now }
     ensures whole { IfSome result (λ end. IsWhole ctx form (drop size run.now) (end - size)) }
-    ensures beyond { IfSome result (λ end. (more : List ℕ) → IsWhole ctx form (drop size run.now ++ more) (end - size)) }
+    ensures beyond { IfSome result (λ end. (more : List ℕ)
+        → IsWhole ctx form (drop size run.now ++ more) (end - size)) }
     ensures behind { IfSome result (λ end. size ≤ end) }
     ensures room { IfSome result (λ end. end ≤ length run.now) }
 {
@@ -204,7 +209,8 @@ fn write_values<W: Write>(
     requires context { IsContext ctx }
     requires here { Here ctx (map pair_of pairs.now) heads.now pool.now }
     requires clear { fault_of writer.old ≡ None }
-    ensures written { Wrote (W.contents (inner_of writer.old)) (W.contents (inner_of writer.new)) (run_bytes ctx (map pair_of pairs.now) heads.now pool.now) result }
+    ensures written { Wrote (W.contents (inner_of writer.old)) (W.contents (inner_of writer.new))
+        (run_bytes ctx (map pair_of pairs.now) heads.now pool.now) result }
     ensures fault { fault_of writer.new ≡ writer_fault result }
 {
     let mut left = pairs;
@@ -235,7 +241,8 @@ fn write_one<'a, W: Write>(
     requires context { IsContext ctx }
     requires clear { fault_of writer.old ≡ None }
     requires first { First ctx (pair_of pair.now) heads.now pool.now }
-    ensures written { Wrote (W.contents (inner_of writer.old)) (W.contents (inner_of writer.new)) (first_bytes ctx (pair_of pair.now) heads.now pool.now) result }
+    ensures written { Wrote (W.contents (inner_of writer.old)) (W.contents (inner_of writer.new))
+        (first_bytes ctx (pair_of pair.now) heads.now pool.now) result }
     ensures rest { IfOk result (λ x. x.now ≡ behind_first ctx (pair_of pair.now) heads.now pool.now) }
     ensures fault { fault_of writer.new ≡ writer_fault result }
 {

@@ -19,7 +19,8 @@ use Rattle.dw_unit.specs.Unit.{WholeUnit}
 use Rattle.dw_unit.specs.UnitView.{header_code}
 use Rattle.dw_unit.specs.Draft.{Drafted, finished, passes_limit}
 
--- a unit under construction: a header with its table, a tree with one open place, and the widths of the nulls behind the root
+-- a unit under construction: a header with its table, a tree with one open place, and the widths of the nulls behind
+-- the root
 pub record Building : Type 0 where
   pub header : Header
   pub table : Table
@@ -30,12 +31,17 @@ abbrev spot_code : Coded Spot
 spot_code = code_by Place place_code (λ s. record { spot = s; unfinished = None }) (λ p. p.spot) (λ _. refl)
 
 abbrev pub building_code : Coded Building
-building_code = code_by (Header × (Table × (Spot × List ℕ))) (coded× header_code (coded× table_code (coded× spot_code (coded_list coded_ℕ))))
-    (λ b. (b.header, (b.table, (b.spot, b.padding)))) (λ p. record { header = p.0; table = p.1.0; spot = p.1.1.0; padding = p.1.1.1 }) (λ _. refl)
+building_code =
+    code_by (Header × (Table × (Spot × List ℕ)))
+    (coded× header_code (coded× table_code (coded× spot_code (coded_list coded_ℕ))))
+    (λ b. (b.header, (b.table, (b.spot, b.padding))))
+    (λ p. record { header = p.0; table = p.1.0; spot = p.1.1.0; padding = p.1.1.1 }) (λ _. refl)
 
 -- as a draft whose entries all have their values
 abbrev pub draft_of : Building → Drafted
-draft_of b = record { header = b.header; table = b.table; place = record { spot = b.spot; unfinished = None }; padding = b.padding }
+draft_of b =
+    record
+    { header = b.header; table = b.table; place = record { spot = b.spot; unfinished = None }; padding = b.padding }
 
 abbrev pub building_of : Drafted → Building
 building_of d = record { header = d.header; table = d.table; spot = d.place.spot; padding = d.padding }
@@ -48,7 +54,13 @@ with_entry true code vs s = enter code vs s
 with_entry false code vs s = add (leaf code vs) s
 
 abbrev pub opened : Unsigned → List Attribute → Building → Building
-opened code vs b = record { header = b.header; table = b.table; spot = with_entry (declares_children (declared b.table code.value)) code vs b.spot; padding = b.padding }
+opened code vs b =
+    record {
+      header = b.header;
+      table = b.table;
+      spot = with_entry (declares_children (declared b.table code.value)) code vs b.spot;
+      padding = b.padding;
+    }
 
 abbrev pub closed : ℕ → Building → Building
 closed width b = record { header = b.header; table = b.table; spot = leave width b.spot; padding = b.padding }
@@ -92,7 +104,9 @@ pad_refusal b width = or_else (finish_refusal b) (null_refusal b width)
 
 -- one more entry: where it would stand
 abbrev pub place_refusal : Spot → Option Refusal
-place_refusal s = if is_open s then (if nat_le nesting (length s.above) then Some TooDeep else None) else if is_bare s then None else Some SecondRoot
+place_refusal s =
+    if is_open s then (if nat_le nesting (length s.above) then Some TooDeep else None) else if is_bare s then None
+    else Some SecondRoot
 
 -- the table declares entries of this code; none has the code of a null
 abbrev pub is_known : Table → Unsigned → Bool
@@ -113,7 +127,8 @@ abbrev pub values_refusal : Building → Unsigned → List Attribute → Bool �
 values_refusal b code vs fits = if fits then length_refusal b (entry_size b code vs) else Some WrongValues
 
 abbrev pub ValuesRefused : Building → Unsigned → List Attribute → Option Refusal → Type 0
-ValuesRefused b code vs refusal = (fits : Bool) × (IsTrue fits ↔ ValuesFit b code vs) × (refusal ≡ values_refusal b code vs fits)
+ValuesRefused b code vs refusal =
+    (fits : Bool) × (IsTrue fits ↔ ValuesFit b code vs) × (refusal ≡ values_refusal b code vs fits)
 
 -- a refusal, and where there is none what is judged next
 abbrev pub Then : Option Refusal → (Option Refusal → Type 0) → Option Refusal → Type 0

@@ -26,21 +26,26 @@ pub record Drafted : Type 0 where
   pub padding : List ℕ
 
 abbrev pub drafted_code : Coded Drafted
-drafted_code = code_by (Header × (Table × (Place × List ℕ))) (coded× header_code (coded× table_code (coded× place_code (coded_list coded_ℕ))))
-    (λ d. (d.header, (d.table, (d.place, d.padding)))) (λ p. record { header = p.0; table = p.1.0; place = p.1.1.0; padding = p.1.1.1 }) (λ _. refl)
+drafted_code =
+    code_by (Header × (Table × (Place × List ℕ)))
+    (coded× header_code (coded× table_code (coded× place_code (coded_list coded_ℕ))))
+    (λ d. (d.header, (d.table, (d.place, d.padding))))
+    (λ p. record { header = p.0; table = p.1.0; place = p.1.1.0; padding = p.1.1.1 }) (λ _. refl)
 
 -- its tree, whose root begins behind the header
 abbrev pub tree_in : Drafted → Growing
 tree_in d = record { context = context_of d.header; table = d.table; start = header_size d.header; place = d.place }
 
--- the count of its bytes: header, entries and nulls, and what the unfinished entry has so far; those of a partial value aside
+-- the count of its bytes: header, entries and nulls, and what the unfinished entry has so far; those of a partial value
+-- aside
 abbrev pub drafted_size : Drafted → ℕ
 drafted_size d = end_of (tree_in d) + length (nulls d.padding)
 
 -- ---- what the calls do
 
 abbrev pub empty : Header → Table → Drafted
-empty header table = record { header = header; table = table; place = record { spot = nowhere; unfinished = None }; padding = [] }
+empty header table =
+    record { header = header; table = table; place = record { spot = nowhere; unfinished = None }; padding = [] }
 
 -- its tree goes on at this place
 abbrev pub with_place : Place → Drafted → Drafted
@@ -85,11 +90,14 @@ undone d = with_place (undone_at (tree_in d)).place d
 
 -- the unit, where its root is closed
 abbrev pub finished : Drafted → Option WholeUnit
-finished d = option_map (λ (x : Tree). record { header = d.header; table = d.table; root = x; padding = d.padding }) (whole_tree d.place.spot.above d.place.spot.left d.place.unfinished)
+finished d =
+    option_map (λ (x : Tree). record { header = d.header; table = d.table; root = x; padding = d.padding })
+    (whole_tree d.place.spot.above d.place.spot.left d.place.unfinished)
 
 -- ---- what the caller has tested
 
--- the least count of bytes that no unit of the format has: its length would reach 0xfffffff0, or it would pass 2 ^ 63 - 1
+-- the least count of bytes that no unit of the format has: its length would reach 0xfffffff0, or it would pass 2 ^ 63 -
+-- 1
 abbrev pub size_limit : Format → ℕ
 size_limit Dwarf32 = 4 + 0xfffffff0
 size_limit Dwarf64 = 2 ^ 63
@@ -139,7 +147,8 @@ pub record IsUnfinished (k : Ctx) (t : Table) (s : Spot) (r : UnfinishedEntry) :
   pub only : IsOnlyRoot s
   pub prefix : FirstsFit k (declared_pairs (declared t r.code.value)) r.values
 
--- the tree and the count of the bytes of the padding's nulls are those of the unit, which has a spelling so far and isn't too long
+-- the tree and the count of the bytes of the padding's nulls are those of the unit, which has a spelling so far and
+-- isn't too long
 pub record IsDrafted (d : Drafted) (tree : Growing) (padded : ℕ) : Type 0 where
   pub header_fits : HeaderFits d.header
   pub tree_is : tree ≡ tree_in d

@@ -21,12 +21,14 @@ abbrev pub read_entries : Ctx → Table → Reader (Tree × List ℕ)
 read_entries k t bytes lim = ((read_tree k t (nesting - 1)) and_then λ _. read_padding (suc (length bytes))) bytes lim
 
 abbrev pub with_header : Header → Table → Outcome (Tree × List ℕ) → Outcome WholeUnit
-with_header h t (Found x size) = Found (record { header = h; table = t; root = x.0; padding = x.1 }) (header_size h + size)
+with_header h t (Found x size) =
+    Found (record { header = h; table = t; root = x.0; padding = x.1 }) (header_size h + size)
 with_header h t (Broken offset reason) = Broken (header_size h + offset) reason
 
 -- what stands behind a header and its unit_length
 abbrev pub read_body : Table → List ℕ → Heading → Outcome WholeUnit
-read_body t bytes x = with_header x.0 t (read_entries (context_of x.0) t (drop (header_size x.0) bytes) (left_behind x.0 x.1))
+read_body t bytes x =
+    with_header x.0 t (read_entries (context_of x.0) t (drop (header_size x.0) bytes) (left_behind x.0 x.1))
 
 -- ---- over a table that is handed in
 

@@ -15,7 +15,8 @@ use Rattle.dw_header.specs.HeaderPlace.{HeaderAtUnder, HeaderBreaksUnder, header
 use Rattle.dw_tree.specs.Tree.{Tree, tree, nulls, AreNulls, PaddingBreaks, unit_tree}
 use Rattle.dw_tree.specs.Steps.{TreeAt}
 
--- a header, the table of its entries' declarations, the root with all entries below it, and the widths of the nulls after it
+-- a header, the table of its entries' declarations, the root with all entries below it, and the widths of the nulls
+-- after it
 pub record WholeUnit : Type 0 where
   pub header : Header
   pub table : Table
@@ -24,7 +25,9 @@ pub record WholeUnit : Type 0 where
 
 -- what the initial length counts
 abbrev pub body_bytes : WholeUnit → List ℕ
-body_bytes u = (fields u.header.order u.header.format).spell (fields_of u.header) ++ ((unit_tree (context_of u.header) u.table).spell u.root ++ nulls u.padding)
+body_bytes u =
+    (fields u.header.order u.header.format).spell (fields_of u.header)
+    ++ ((unit_tree (context_of u.header) u.table).spell u.root ++ nulls u.padding)
 
 -- the one spelling of a unit: its length is computed from what follows it
 abbrev pub bytes_of : WholeUnit → List ℕ
@@ -44,7 +47,8 @@ tree_of u = record { context = context_of u.header; table = u.table; start = hea
 -- ---- over a table that is handed in; the versions that are accepted are told
 
 -- the unit, of so many bytes, stands at the front of the bytes
-pub record UnitFrontUnder (versions : Versions) (order : Order) (bytes : List ℕ) (u : WholeUnit) (size : ℕ) : Type 0 where
+pub record UnitFrontUnder (versions : Versions) (order : Order) (bytes : List ℕ) (u : WholeUnit) (size : ℕ)
+    : Type 0 where
   pub order_is : u.header.order ≡ order
   pub accepted : Accepts versions u.header.kind
   pub fits : UnitFits u
@@ -59,10 +63,12 @@ left_behind h n = length_size h.format + n - header_size h
 -- behind its header a unit breaks in its root, or behind a root that is spelled in its padding
 abbrev pub EntriesBreak : Ctx → Table → Breaks
 EntriesBreak k t bytes lim offset reason = (unit_tree k t).Break bytes lim offset reason
-    ⊎ ((root : Tree) × (unit_tree k t).Fits root × After ((unit_tree k t).spell root) PaddingBreaks bytes lim offset reason)
+    ⊎ ((root : Tree) × (unit_tree k t).Fits root
+    × After ((unit_tree k t).spell root) PaddingBreaks bytes lim offset reason)
 
 -- the entries break, behind a header that is spelled; the table is one that goes with the header's offset
-pub record BodyBreaksUnder (versions : Versions) (order : Order) (IsTable : ℕ → Table → Type 0) (bytes : List ℕ) (offset : ℕ) (reason : Reason) : Type 0 where
+pub record BodyBreaksUnder (versions : Versions) (order : Order) (IsTable : ℕ → Table → Type 0) (bytes : List ℕ)
+    (offset : ℕ) (reason : Reason) : Type 0 where
   pub header : Header
   pub count : ℕ
   pub stands : HeaderAtUnder versions order bytes header count
@@ -74,25 +80,34 @@ pub record BodyBreaksUnder (versions : Versions) (order : Order) (IsTable : ℕ 
 
 -- a unit with the table t breaks
 abbrev pub UnitBreaksUnder : Versions → Order → Table → List ℕ → ℕ → Reason → Type 0
-UnitBreaksUnder versions order t bytes offset reason = HeaderBreaksUnder versions order bytes offset reason ⊎ BodyBreaksUnder versions order (λ _ s. s ≡ t) bytes offset reason
+UnitBreaksUnder versions order t bytes offset reason =
+    HeaderBreaksUnder versions order bytes offset reason
+    ⊎ BodyBreaksUnder versions order (λ _ s. s ≡ t) bytes offset reason
 
 -- ---- over an abbreviation section
 
 -- the unit, of so many bytes, stands at the front of the bytes, and its table in the section at its header's offset
-pub record UnitAtUnder (versions : Versions) (abbreviations : List ℕ) (order : Order) (bytes : List ℕ) (u : WholeUnit) (size : ℕ) : Type 0 where
+pub record UnitAtUnder (versions : Versions) (abbreviations : List ℕ) (order : Order) (bytes : List ℕ) (u : WholeUnit)
+    (size : ℕ) : Type 0 where
   pub table_at : TableAt abbreviations u.header.abbrev_offset u.table
   pub front : UnitFrontUnder versions order bytes u size
 
 -- the one fault of a unit that can't be read: the header's, else the table's, else the body's
 abbrev pub FailsUnder : Versions → Order → List ℕ → List ℕ → SectionId → ℕ → Reason → Type 0
-FailsUnder versions order abbreviations bytes Info offset reason = HeaderBreaksUnder versions order bytes offset reason ⊎ BodyBreaksUnder versions order (TableAt abbreviations) bytes offset reason
-FailsUnder versions order abbreviations bytes Abbrev offset reason = (h : Header) × (n : ℕ) × HeaderAtUnder versions order bytes h n × TableBreaks abbreviations h.abbrev_offset offset reason
+FailsUnder versions order abbreviations bytes Info offset reason =
+    HeaderBreaksUnder versions order bytes offset reason
+    ⊎ BodyBreaksUnder versions order (TableAt abbreviations) bytes offset reason
+FailsUnder versions order abbreviations bytes Abbrev offset reason =
+    (h : Header) × (n : ℕ) × HeaderAtUnder versions order bytes h n
+    × TableBreaks abbreviations h.abbrev_offset offset reason
 
 -- These bytes are read as this unit: it stands at their front, no other unit does, and they have no fault.
-pub record ReadAsUnder (versions : Versions) (abbreviations : List ℕ) (order : Order) (bytes : List ℕ) (u : WholeUnit) (size : ℕ) : Type 0 where
+pub record ReadAsUnder (versions : Versions) (abbreviations : List ℕ) (order : Order) (bytes : List ℕ) (u : WholeUnit)
+    (size : ℕ) : Type 0 where
   pub there : UnitAtUnder versions abbreviations order bytes u size
   pub only : (v : WholeUnit) (n : ℕ) → UnitAtUnder versions abbreviations order bytes v n → (v ≡ u) × (n ≡ size)
-  pub no_fault : (s : SectionId) (offset : ℕ) (reason : Reason) → FailsUnder versions order abbreviations bytes s offset reason → ⊥
+  pub no_fault : (s : SectionId) (offset : ℕ) (reason : Reason)
+      → FailsUnder versions order abbreviations bytes s offset reason → ⊥
 
 -- ---- where version 5 alone is accepted
 

@@ -22,7 +22,8 @@ use Rattle.dw_unit.specs.Unit.{WholeUnit, bytes_of, tree_of, UnitFits, FailsUnde
 
 -- An error of reading a unit: a fault is the first one. A reading without a reader has no reader's error.
 abbrev pub IsUnitErrorUnder : Versions → List ℕ → Order → List ℕ → ReadError → Type 0
-IsUnitErrorUnder versions abbreviations order bytes (reads.Fault f) = FailsUnder versions order abbreviations bytes f.section f.offset f.reason
+IsUnitErrorUnder versions abbreviations order bytes (reads.Fault f) =
+    FailsUnder versions order abbreviations bytes f.section f.offset f.reason
 IsUnitErrorUnder versions abbreviations order bytes reads.NoMemory = Unit {0}
 IsUnitErrorUnder versions abbreviations order bytes (reads.Io kind) = ⊥
 
@@ -33,7 +34,8 @@ FaultWithin n reads.NoMemory = Unit {0}
 FaultWithin n (reads.Io kind) = Unit {0}
 
 -- a header stands at the front, and the offset of its table lies in the abbreviation section
-pub record NamesTableUnder (versions : Versions) (abbreviations : List ℕ) (order : Order) (bytes : List ℕ) : Type 0 where
+pub record NamesTableUnder (versions : Versions) (abbreviations : List ℕ) (order : Order) (bytes : List ℕ)
+    : Type 0 where
   pub header : Header
   pub count : ℕ
   pub stands : HeaderAtUnder versions order bytes header count
@@ -79,12 +81,21 @@ to_kind-from_kind (Skeleton id) = refl
 to_kind-from_kind Four = refl
 
 abbrev kind_code : Coded Kind
-kind_code = code_by KindParts (coded⊎ (coded_option coded_bool) (coded⊎ (coded× coded_ℕ coded_ℕ) coded_ℕ)) from_kind to_kind to_kind-from_kind
+kind_code =
+    code_by KindParts (coded⊎ (coded_option coded_bool) (coded⊎ (coded× coded_ℕ coded_ℕ) coded_ℕ)) from_kind to_kind
+    to_kind-from_kind
 
 abbrev pub header_code : Coded Header
-header_code = code_by (Order × (Format × (Kind × (ℕ × ℕ)))) (coded× order_code (coded× format_code (coded× kind_code (coded× coded_ℕ coded_ℕ))))
-    (λ h. (h.order, (h.format, (h.kind, (h.address_size, h.abbrev_offset))))) (λ p. record { order = p.0; format = p.1.0; kind = p.1.1.0; address_size = p.1.1.1.0; abbrev_offset = p.1.1.1.1 }) (λ _. refl)
+header_code =
+    code_by (Order × (Format × (Kind × (ℕ × ℕ))))
+    (coded× order_code (coded× format_code (coded× kind_code (coded× coded_ℕ coded_ℕ))))
+    (λ h. (h.order, (h.format, (h.kind, (h.address_size, h.abbrev_offset)))))
+    (λ p. record { order = p.0; format = p.1.0; kind = p.1.1.0; address_size = p.1.1.1.0; abbrev_offset = p.1.1.1.1 })
+    (λ _. refl)
 
 abbrev pub unit_code : Coded WholeUnit
-unit_code = code_by (Header × (Table × (Tree × List ℕ))) (coded× header_code (coded× table_code (coded× tree_code (coded_list coded_ℕ))))
-    (λ u. (u.header, (u.table, (u.root, u.padding)))) (λ p. record { header = p.0; table = p.1.0; root = p.1.1.0; padding = p.1.1.1 }) (λ _. refl)
+unit_code =
+    code_by (Header × (Table × (Tree × List ℕ)))
+    (coded× header_code (coded× table_code (coded× tree_code (coded_list coded_ℕ))))
+    (λ u. (u.header, (u.table, (u.root, u.padding))))
+    (λ p. record { header = p.0; table = p.1.0; root = p.1.1.0; padding = p.1.1.1 }) (λ _. refl)

@@ -61,8 +61,10 @@ impl UnitBuilder {
     pub fn open(&mut self, code: Uleb, values: &[AttrValue<'_>]) -> Result<(), Refusal>
         ensures opened { OnOk result (self.new ≡ opened (uleb_of code) (map attribute_of values.now) self.old) }
         ensures allowed { OnOk result (OpenRefused self.old (uleb_of code) (map attribute_of values.now) None) }
-        ensures refused { IfErr result (λ e. e ≢ NoMemory → OpenRefused self.old (uleb_of code) (map attribute_of values.now) (Some e)) }
-        ensures memory { IfErr result (λ e. e ≡ NoMemory → OpenRefused self.old (uleb_of code) (map attribute_of values.now) None) }
+        ensures refused { IfErr result
+            (λ e. e ≢ NoMemory → OpenRefused self.old (uleb_of code) (map attribute_of values.now) (Some e)) }
+        ensures memory { IfErr result (λ e. e ≡ NoMemory
+            → OpenRefused self.old (uleb_of code) (map attribute_of values.now) None) }
         ensures unchanged { OnErr result (self.new ≡ self.old) }
     {
         if let Some(refusal) = self.misplaced() {
@@ -155,9 +157,11 @@ impl UnitBuilder {
     fn judged(&self, code: Uleb, values: &[AttrValue<'_>]) -> Result<(), Refusal>
         ensures fits { OnOk result (ValuesFit self.now (uleb_of code) (map attribute_of values.now)) }
         ensures known { OnOk result (is_known self.now.table (uleb_of code) ≡ true) }
-        ensures short { OnOk result (is_too_long self.now (entry_bytes_of self.now (uleb_of code) (map attribute_of values.now)) ≡ false) }
+        ensures short { OnOk result
+            (is_too_long self.now (entry_bytes_of self.now (uleb_of code) (map attribute_of values.now)) ≡ false) }
         ensures allowed { OnOk result (EntryRefused self.now (uleb_of code) (map attribute_of values.now) None) }
-        ensures refused { IfErr result (λ e. (e ≢ NoMemory) × EntryRefused self.now (uleb_of code) (map attribute_of values.now) (Some e)) }
+        ensures refused { IfErr result
+            (λ e. (e ≢ NoMemory) × EntryRefused self.now (uleb_of code) (map attribute_of values.now) (Some e)) }
     {
         if code.value == 0 {
             return Err(Refusal::UnknownCode);

@@ -64,9 +64,17 @@ impl Model for Draft {
 
     ghost coded = { drafted_code };
 
-    ghost view = { λ a. record { header = a.header; table = a.tree.table; place = a.tree.place; padding = a.padding.items } };
+    ghost view = { λ a. record {
+      header = a.header;
+      table = a.tree.table;
+      place = a.tree.place;
+      padding = a.padding.items;
+    } };
 
-    ghost invariant = { λ a. IsDrafted (record { header = a.header; table = a.tree.table; place = a.tree.place; padding = a.padding.items }) a.tree a.padded };
+    ghost invariant = { λ a.
+        IsDrafted
+        (record { header = a.header; table = a.tree.table; place = a.tree.place; padding = a.padding.items }) a.tree
+        a.padded };
 }
 
 impl Draft {
@@ -101,12 +109,13 @@ impl Draft {
         self.tree.begin(code)
     }
 
-    /// An entry of this code begins, which `decl` declares, and is given its first values, `count` of them and none a text or
-    /// block, by the bytes that spell them one behind the other (sections 7.5.2 and 7.5.5): the first `size` of these, by a
-    /// caller that has read them. It is what `begin` and as many calls of `plain_value` do, and `true` is answered.
+    /// An entry of this code begins, which `decl` declares, and is given its first values, `count` of them and none a
+    /// text or block, by the bytes that spell them one behind the other (sections 7.5.2 and 7.5.5): the first `size` of
+    /// these, by a caller that has read them. It is what `begin` and as many calls of `plain_value` do, and `true` is
+    /// answered.
     ///
-    /// Where the growth by the values is refused, it is what `begin` does alone: the entry waits for all its values, and
-    /// `false` is answered. `AllocError` where a growth by one entry is refused, and nothing is changed.
+    /// Where the growth by the values is refused, it is what `begin` does alone: the entry waits for all its values,
+    /// and `false` is answered. `AllocError` where a growth by one entry is refused, and nothing is changed.
     #[inline(always)]
     pub fn begin_with(
         &mut self,
@@ -124,8 +133,11 @@ impl Draft {
         requires within { size ≤ length bytes.now }
         requires spelled { SpellsFirst (context_of self.old.header) decl.now.pairs count (take size bytes.now) }
         requires short { passes_limit self.old (code.width + size) ≡ false }
-        ensures ok { (vs : List Attribute) → length vs ≡ count → ArePlain (context_of self.old.header) decl.now.pairs vs (take size bytes.now) → IfOk result (λ all. self.new ≡ given_each (given_if all vs) (begun (uleb_of code) self.old)) }
-        ensures size { IfOk result (λ all. drafted_size self.new ≡ drafted_size self.old + (code.width + size_if all size)) }
+        ensures ok { (vs : List Attribute) → length vs ≡ count
+            → ArePlain (context_of self.old.header) decl.now.pairs vs (take size bytes.now)
+            → IfOk result (λ all. self.new ≡ given_each (given_if all vs) (begun (uleb_of code) self.old)) }
+        ensures size { IfOk result (λ all. drafted_size self.new
+            ≡ drafted_size self.old + (code.width + size_if all size)) }
         ensures err { OnErr result (self.new ≡ self.old) }
     {
         self.tree.begin_with(code, decl, bytes, size, count)
@@ -136,10 +148,12 @@ impl Draft {
     /// by the value is refused.
     pub fn value(&mut self, value: &AttrValue<'_>) -> Result<(), AllocError>
         requires between { partial_in self.old.place.unfinished ≡ None }
-        requires fits { NextFits (context_of self.old.header) self.old.table self.old.place.unfinished (attribute_of value.now) }
+        requires fits { NextFits (context_of self.old.header) self.old.table self.old.place.unfinished
+            (attribute_of value.now) }
         requires short { passes_limit self.old (length (value_bytes self.old (attribute_of value.now))) ≡ false }
         ensures ok { OnOk result (self.new ≡ given (attribute_of value.now) self.old) }
-        ensures size { OnOk result (drafted_size self.new ≡ drafted_size self.old + length (value_bytes self.old (attribute_of value.now))) }
+        ensures size { OnOk result
+            (drafted_size self.new ≡ drafted_size self.old + length (value_bytes self.old (attribute_of value.now))) }
         ensures err { OnErr result (self.new ≡ self.old) }
     {
         match self.next_pair() {
@@ -161,11 +175,13 @@ impl Draft {
         spelling: &[u8],
     ) -> Result<(), AllocError>
         requires between { partial_in self.old.place.unfinished ≡ None }
-        requires fits { NextFits (context_of self.old.header) self.old.table self.old.place.unfinished (attribute_of value.now) }
+        requires fits { NextFits (context_of self.old.header) self.old.table self.old.place.unfinished
+            (attribute_of value.now) }
         requires spelled { spelling.now ≡ value_bytes self.old (attribute_of value.now) }
         requires short { passes_limit self.old (length (value_bytes self.old (attribute_of value.now))) ≡ false }
         ensures ok { OnOk result (self.new ≡ given (attribute_of value.now) self.old) }
-        ensures size { OnOk result (drafted_size self.new ≡ drafted_size self.old + length (value_bytes self.old (attribute_of value.now))) }
+        ensures size { OnOk result
+            (drafted_size self.new ≡ drafted_size self.old + length (value_bytes self.old (attribute_of value.now))) }
         ensures err { OnErr result (self.new ≡ self.old) }
     {
         let front = &spelling[..front_len(value, spelling.len())];
@@ -177,9 +193,12 @@ impl Draft {
     #[inline(always)]
     pub fn plain_value(&mut self, spelling: &[u8]) -> Result<(), AllocError>
         requires between { partial_in self.old.place.unfinished ≡ None }
-        requires spelled { SpellsPlain (context_of self.old.header) self.old.table self.old.place.unfinished spelling.now }
+        requires spelled { SpellsPlain (context_of self.old.header) self.old.table
+            self.old.place.unfinished spelling.now }
         requires short { passes_limit self.old (length spelling.now) ≡ false }
-        ensures ok { (v : Attribute) → IsPlainNext (context_of self.old.header) self.old.table self.old.place.unfinished v spelling.now → OnOk result (self.new ≡ given v self.old) }
+        ensures ok { (v : Attribute)
+            → IsPlainNext (context_of self.old.header) self.old.table self.old.place.unfinished v spelling.now
+            → OnOk result (self.new ≡ given v self.old) }
         ensures size { OnOk result (drafted_size self.new ≡ drafted_size self.old + length spelling.now) }
         ensures err { OnErr result (self.new ≡ self.old) }
     {
@@ -195,12 +214,15 @@ impl Draft {
         size: u64,
     ) -> Result<(), AllocError>
         requires between { partial_in self.old.place.unfinished ≡ None }
-        requires fits { NextFits (context_of self.old.header) self.old.table self.old.place.unfinished (attribute_of value.now) }
-        requires front { front.now ≡ front_bytes (attribute_of value.now) (value_bytes self.old (attribute_of value.now)) }
+        requires fits { NextFits (context_of self.old.header) self.old.table self.old.place.unfinished
+            (attribute_of value.now) }
+        requires front { front.now ≡ front_bytes (attribute_of value.now)
+            (value_bytes self.old (attribute_of value.now)) }
         requires size { size ≡ length (value_bytes self.old (attribute_of value.now)) }
         requires short { passes_limit self.old (length (value_bytes self.old (attribute_of value.now))) ≡ false }
         ensures ok { OnOk result (self.new ≡ given (attribute_of value.now) self.old) }
-        ensures size { OnOk result (drafted_size self.new ≡ drafted_size self.old + length (value_bytes self.old (attribute_of value.now))) }
+        ensures size { OnOk result
+            (drafted_size self.new ≡ drafted_size self.old + length (value_bytes self.old (attribute_of value.now))) }
         ensures err { OnErr result (self.new ≡ self.old) }
     {
         self.tree.value(value, front, size)
@@ -236,7 +258,8 @@ impl Draft {
         requires fits { PartialFits self.old }
         requires short { PartialShort self.old }
         ensures ended { self.new ≡ ended self.old }
-        ensures size { IfSome (partial_of self.old) (λ v. drafted_size self.new ≡ drafted_size self.old + length (value_bytes self.old v)) }
+        ensures size { IfSome (partial_of self.old)
+            (λ v. drafted_size self.new ≡ drafted_size self.old + length (value_bytes self.old v)) }
     {
         if let Some((front, size)) = self.partial_size() {
             self.tree.end_value(front.as_slice(), size);
@@ -246,8 +269,10 @@ impl Draft {
     /// The bytes of the partial text or block that come before its own, and the count of all.
     fn partial_size(&self) -> Option<(ArrayVec<u8, 32>, u64)>
         requires { PartialFits self.now }
-        ensures front { option_map (λ x. x.0.items) result ≡ option_map (λ v. front_bytes v (value_bytes self.now v)) (partial_of self.now) }
-        ensures size { option_map (λ x. x.1) result ≡ option_map (λ v. length (value_bytes self.now v)) (partial_of self.now) }
+        ensures front { option_map (λ x. x.0.items) result
+            ≡ option_map (λ v. front_bytes v (value_bytes self.now v)) (partial_of self.now) }
+        ensures size { option_map (λ x. x.1) result
+            ≡ option_map (λ v. length (value_bytes self.now v)) (partial_of self.now) }
     {
         let partial = self.partial_value()?;
         match self.next_pair() {

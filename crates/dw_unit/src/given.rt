@@ -44,7 +44,8 @@ pub(crate) fn is_longer(
 ) -> bool
     requires context { IsContext ctx }
     requires fits { (value_parts ctx (map pair_of pairs.now)).Fits (map attribute_of values.now) }
-    ensures { IsTrue result ↔ room < code.width + length ((value_parts ctx (map pair_of pairs.now)).spell (map attribute_of values.now)) }
+    ensures { IsTrue result ↔ room
+        < code.width + length ((value_parts ctx (map pair_of pairs.now)).spell (map attribute_of values.now)) }
 {
     let mut size = code.width as u64;
     if size > room {
@@ -73,9 +74,15 @@ pub(crate) fn put_entry(
     requires free { draft.old.place.unfinished ≡ None }
     requires level { length draft.old.place.spot.above < nesting }
     requires only { IsOnlyRoot draft.old.place.spot }
-    requires fits { (value_parts (context_of draft.old.header) (declared_pairs (declared draft.old.table code.value))).Fits (map attribute_of values.now) }
-    requires short { passes_limit draft.old (code.width + length ((value_parts (context_of draft.old.header) (declared_pairs (declared draft.old.table code.value))).spell (map attribute_of values.now))) ≡ false }
-    ensures ok { OnOk result (draft.new ≡ with_place (settle draft.old.table draft.old.place.spot (uleb_of code) (map attribute_of values.now)) draft.old) }
+    requires fits { (value_parts (context_of draft.old.header) (declared_pairs (declared draft.old.table code.value))).Fits
+        (map attribute_of values.now) }
+    requires short { passes_limit draft.old (code.width + length
+        ((value_parts (context_of draft.old.header) (declared_pairs (declared draft.old.table code.value))).spell
+        (map attribute_of values.now))) ≡ false }
+    ensures ok { OnOk result
+        (draft.new
+        ≡ with_place (settle draft.old.table draft.old.place.spot (uleb_of code) (map attribute_of values.now))
+        draft.old) }
     ensures err { OnErr result (draft.new ≡ draft.old) }
 {
     draft.begin(code)?;

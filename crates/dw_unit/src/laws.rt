@@ -1,5 +1,5 @@
-//! Laws of the definitions of units; those of trees stand in `dw_tree`. They call nothing. A clause on units that names no versions
-//! speaks of version 5 alone, but for the round trip.
+//! Laws of the definitions of units; those of trees stand in `dw_tree`. They call nothing. A clause on units that names
+//! no versions speaks of version 5 alone, but for the round trip.
 ghost use Rattle.dw_header.specs.declared.versions.Versions.{Versions};
 ghost use Rattle.dw_unit.specs.Laws.{OneUnitOver, OneUnitOverUnder, OneBreak, OneBreakUnder, NotUnitAndBreak, NotUnitAndBreakUnder, UnitOrBreak, UnitOrBreakUnder, FrontsStay, FrontsStayUnder, BreaksStay, BreaksStayUnder, FrontsAreCut, FrontsAreCutUnder, UnitsOverSections, UnitsOverSectionsUnder, BreaksAreFaults, BreaksAreFaultsUnder, OneUnit, OneUnitUnder, OneFault, OneFaultUnder, NotBoth, NotBothUnder, SomeAnswer, SomeAnswerUnder, UnitsStay, UnitsStayUnder, FaultsStay, FaultsStayUnder, FrontsAreTruncated, FrontsAreTruncatedUnder, WrittenIsRead, WrittenIsReadUnder, ReadIsWritten, ReadIsWrittenUnder, UnitsAreAccepted, UnitsStandWhereAccepted, UnitsBreakWhereAccepted, UnitsFailWhereAccepted, LentAreSpelled};
 

@@ -18,7 +18,8 @@ impl Unit {
         ensures fits { UnitFits self.new }
         ensures size { length (body_bytes self.new) ≡ length (body_bytes self.old) }
         ensures whole { length (bytes_of self.new) ≡ length (bytes_of self.old) }
-        ensures offsets { map (λ (e : EntryAt). e.offset) (entries_of (tree_of self.new)) ≡ map (λ (e : EntryAt). e.offset) (entries_of (tree_of self.old)) }
+        ensures offsets { map (λ (e : EntryAt). e.offset) (entries_of (tree_of self.new))
+            ≡ map (λ (e : EntryAt). e.offset) (entries_of (tree_of self.old)) }
     {
         self.tree.put_number(offset, name, number)
     }

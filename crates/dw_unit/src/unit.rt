@@ -28,16 +28,26 @@ impl Model for Unit {
 
     ghost coded = { unit_code };
 
-    ghost view = { λ a. record { header = a.header; table = a.tree.table; root = a.tree.root; padding = a.padding.items } };
+    ghost view = { λ a. record {
+      header = a.header;
+      table = a.tree.table;
+      root = a.tree.root;
+      padding = a.padding.items;
+    } };
 
-    ghost invariant = { λ a. IsUnit (record { header = a.header; table = a.tree.table; root = a.tree.root; padding = a.padding.items }) a.tree a.size };
+    ghost invariant = { λ a.
+        IsUnit (record { header = a.header; table = a.tree.table; root = a.tree.root; padding = a.padding.items })
+        a.tree a.size };
 }
 
 impl Unit {
     /// A unit of these parts, of `size` bytes.
     pub(crate) fn of(header: Header, body: Body, size: u64) -> Unit
-        requires { IsUnit (record { header = header; table = body.tree.table; root = body.tree.root; padding = body.padding.items }) body.tree size }
-        ensures { result ≡ record { header = header; table = body.tree.table; root = body.tree.root; padding = body.padding.items } }
+        requires { IsUnit
+            (record { header = header; table = body.tree.table; root = body.tree.root; padding = body.padding.items })
+            body.tree size }
+        ensures { result
+            ≡ record { header = header; table = body.tree.table; root = body.tree.root; padding = body.padding.items } }
     {
         Unit {
             header,
@@ -82,7 +92,8 @@ impl Unit {
     pub fn entry_at(&self, offset: u64) -> Option<EntryRef<'_>>
         ensures first { result ≡ find_at offset (entries_of (tree_of self.now)) }
         ensures found { IfSome result (λ e. Contains (entries_of (tree_of self.now)) e × (e.offset ≡ offset)) }
-        ensures each { (e : EntryAt) → Contains (entries_of (tree_of self.now)) e → e.offset ≡ offset → result ≡ Some e }
+        ensures each { (e : EntryAt) → Contains (entries_of (tree_of self.now)) e → e.offset
+            ≡ offset → result ≡ Some e }
         ensures none { result ≡ None ↔ All (λ e. e.offset ≢ offset) (entries_of (tree_of self.now)) }
     {
         self.tree.entry_at(offset)
@@ -103,9 +114,9 @@ impl Unit {
         self.tree.entries()
     }
 
-    /// The entries from the one on that begins exactly at this offset, counted from the unit's first byte, each before those
-    /// below it; none where no entry begins there (section 7.5.2). So a caller that keeps an entry's offset goes on from it.
-    /// No memory is taken.
+    /// The entries from the one on that begins exactly at this offset, counted from the unit's first byte, each before
+    /// those below it; none where no entry begins there (section 7.5.2). So a caller that keeps an entry's offset goes
+    /// on from it. No memory is taken.
     pub fn entries_from(&self, offset: u64) -> Entries<'_>
         ensures { result ≡ from_offset offset (entries_of (tree_of self.now)) }
     {

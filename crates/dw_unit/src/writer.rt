@@ -22,13 +22,17 @@ use std::io::Write;
 /// Errors: `Io` with the kind of the writer's failure, `WriteZero` where it took no byte of some.
 pub fn write_unit<W: Write>(unit: &Unit, writer: &mut Watched<W>) -> Result<(), WriteError>
     requires { fault_of writer.old ≡ None }
-    ensures written { Wrote (W.contents (inner_of writer.old)) (W.contents (inner_of writer.new)) (bytes_of unit.now) result }
+    ensures written { Wrote (W.contents (inner_of writer.old)) (W.contents (inner_of writer.new))
+        (bytes_of unit.now) result }
     ensures fault { fault_of writer.new ≡ writer_fault result }
     ensures fits { UnitFits unit.now }
-    ensures read_back { (abbreviations rest : List ℕ) → TableAt abbreviations unit.now.header.abbrev_offset unit.now.table
+    ensures read_back { (abbreviations rest : List ℕ)
+        → TableAt abbreviations unit.now.header.abbrev_offset unit.now.table
         → ReadAs abbreviations unit.now.header.order (bytes_of unit.now ++ rest) unit.now (length (bytes_of unit.now)) }
-    ensures read_back_as { (abbreviations rest : List ℕ) → TableAt abbreviations unit.now.header.abbrev_offset unit.now.table
-        → ReadAsUnder FourAndFive abbreviations unit.now.header.order (bytes_of unit.now ++ rest) unit.now (length (bytes_of unit.now)) }
+    ensures read_back_as { (abbreviations rest : List ℕ)
+        → TableAt abbreviations unit.now.header.abbrev_offset unit.now.table
+        → ReadAsUnder FourAndFive abbreviations unit.now.header.order (bytes_of unit.now ++ rest) unit.now
+        (length (bytes_of unit.now)) }
 {
     let header = unit.header;
     let behind = unit.size - header.format().length_size() as u64;
@@ -41,7 +45,8 @@ pub fn write_unit<W: Write>(unit: &Unit, writer: &mut Watched<W>) -> Result<(), 
 fn write_nulls<W: Write>(widths: &[u8], writer: &mut Watched<W>) -> Result<(), WriteError>
     requires nulls { AreNulls widths.now }
     requires clear { fault_of writer.old ≡ None }
-    ensures written { Wrote (W.contents (inner_of writer.old)) (W.contents (inner_of writer.new)) (nulls widths.now) result }
+    ensures written { Wrote (W.contents (inner_of writer.old)) (W.contents (inner_of writer.new))
+        (nulls widths.now) result }
     ensures fault { fault_of writer.new ≡ writer_fault result }
 {
     let mut left = widths;

@@ -21,8 +21,8 @@ pub const TYPED: [u8; 15] = [
     0x01, 0x11, 1, 0x03, 0x08, 0, 0, 0x02, 0x24, 0, 0x0b, 0x0b, 0, 0, 0,
 ];
 
-/// Over it a compile unit of the name "a" with a base type of 4 bytes: a padded code, a padded null of the children, and
-/// nulls of 1 and 2 bytes behind it.
+/// Over it a compile unit of the name "a" with a base type of 4 bytes: a padded code, a padded null of the children,
+/// and nulls of 1 and 2 bytes behind it.
 pub const PADDED: [u8; 23] = [
     0x13, 0, 0, 0, 0x05, 0, 0x01, 0x08, 0, 0, 0, 0, 0x81, 0, 0x61, 0, 0x02, 0x04, 0x80, 0, 0, 0x80,
     0,

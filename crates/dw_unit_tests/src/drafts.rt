@@ -180,7 +180,8 @@ fn is_empty_of(rt: &impl Abort, draft: &Draft, size: u64) {
     assert!(rt; draft.is_empty() == true);
 }
 
-/// A table that is shared by few is shared once more: a draft that refused it would only be slower, which no clause excludes.
+/// A table that is shared by few is shared once more: a draft that refused it would only be slower, which no clause
+/// excludes.
 fn shares_its_table(rt: &impl Abort, draft: &Draft) {
     assert!(rt; draft.share_table().is_ok());
 }

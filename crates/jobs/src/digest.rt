@@ -1,4 +1,5 @@
-//! A digest of numbers, texts and bytes: it doesn't depend on how bytes are cut into pieces, and tells what stands beside what.
+//! A digest of numbers, texts and bytes: it doesn't depend on how bytes are cut into pieces, and tells what stands
+//! beside what.
 ghost use Rattle.std.specs.Prelude.{◌<◌};
 
 use std::io;

@@ -1,4 +1,5 @@
-//! Small units of generated code, each with a table of its own: built, put into a section, changed, written, and checked.
+//! Small units of generated code, each with a table of its own: built, put into a section, changed, written, and
+//! checked.
 use crate::digest::Digest;
 use crate::error::JobError;
 use crate::random::Random;
@@ -61,7 +62,8 @@ fn info_of(
     Ok(written(alloc, &section)?)
 }
 
-/// Adds a unit with a table of its own, which is written behind the others. No two units have the same constant in their tables.
+/// Adds a unit with a table of its own, which is written behind the others. No two units have the same constant in
+/// their tables.
 fn add_unit(
     alloc: Global,
     number: usize,

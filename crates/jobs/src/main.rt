@@ -1,13 +1,13 @@
 //! The jobs that a user of this library waits for, over sections of tens of megabytes.
 //!
-//! `jobs JOB SIZE SEED` does one job and prints a digest of all its results. Its sections are joined out of real units, which
-//! it reads from files in the folder that it runs in (`gcc/debug_info` and so on). SIZE says how often each unit is there; SEED gives the
-//! order of the units, and other numbers in the places of some of theirs. The jobs are `copy`, `check`, `show`,
-//! `questions`, `pieces` and `made`; `all` does each of them.
+//! `jobs JOB SIZE SEED` does one job and prints a digest of all its results. Its sections are joined out of real units,
+//! which it reads from files in the folder that it runs in (`gcc/debug_info` and so on). SIZE says how often each unit
+//! is there; SEED gives the order of the units, and other numbers in the places of some of theirs. The jobs are `copy`,
+//! `check`, `show`, `questions`, `pieces` and `made`; `all` does each of them.
 //!
-//! Others are over the section of the files `info` and `abbrev`, as `bench/inputs.py` makes them: `push` pushes its units in pieces of SIZE
-//! bytes, `ask` asks what `questions` does, and `look-one`, `look-four`, `look-near`, `look-along` and `look-any` look up SIZE entries by
-//! their offsets.
+//! Others are over the section of the files `info` and `abbrev`, as `bench/inputs.py` makes them: `push` pushes its
+//! units in pieces of SIZE bytes, `ask` asks what `questions` does, and `look-one`, `look-four`, `look-near`,
+//! `look-along` and `look-any` look up SIZE entries by their offsets.
 #![tactic(auto)]
 
 mod bytes;

@@ -78,7 +78,8 @@ fn each_unit(
     Ok(())
 }
 
-/// What was read: its header, how many bytes and rows it has, its values with their texts, its entries, and its padding.
+/// What was read: its header, how many bytes and rows it has, its values with their texts, its entries, and its
+/// padding.
 fn add_unit(unit: &Unit, digest: &mut Digest) {
     add_header(unit.header(), digest);
     digest.add_number(unit.size());

@@ -1,5 +1,5 @@
-//! A debugger's questions about the entries of a section that is read once: their names, what they refer to, the texts of
-//! their types, and which entry is at an offset.
+//! A debugger's questions about the entries of a section that is read once: their names, what they refer to, the texts
+//! of their types, and which entry is at an offset.
 ghost use Rattle.std.specs.Prelude.{IsSome};
 ghost use Rattle.dw_section.specs.Lookup.{unit_at};
 

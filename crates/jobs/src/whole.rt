@@ -10,7 +10,8 @@ use dw_tool::status::Status;
 use rothelduf::{Order, Strings, Versions, Watched};
 use std::alloc::Global;
 
-/// Over a section of a corpus, each of whose units is there so many times. Where it is checked, something is wrong in it.
+/// Over a section of a corpus, each of whose units is there so many times. Where it is checked, something is wrong in
+/// it.
 pub(crate) fn of_corpus(
     alloc: Global,
     corpus: &Corpus,

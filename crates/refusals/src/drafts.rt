@@ -50,8 +50,8 @@ fn tell_refused(
     }
 }
 
-/// A root whose name comes in pieces, with twenty children, one of them taken back first, and a null of padding. The last ten begin with their
-/// values.
+/// A root whose name comes in pieces, with twenty children, one of them taken back first, and a null of padding. The
+/// last ten begin with their values.
 pub(crate) fn tell(alloc: Global, text: &mut String) -> Result<(), ReadError> {
     let mut draft = Draft::new(alloc, header()?, table(alloc)?);
     fill(&mut draft, text)?;
@@ -201,7 +201,8 @@ fn give_fitting(
     text: &mut String,
 ) -> Result<(), AllocError>
     requires between { partial_in draft.old.place.unfinished ≡ None }
-    requires fits { NextFits (context_of draft.old.header) draft.old.table draft.old.place.unfinished (attribute_of value.now) }
+    requires fits { NextFits (context_of draft.old.header) draft.old.table draft.old.place.unfinished
+        (attribute_of value.now) }
     requires short { passes_limit draft.old (length (value_bytes draft.old (attribute_of value.now))) ≡ false }
 {
     let before = seen_of(draft);

@@ -1,10 +1,10 @@
 //! Scenarios for growths that are refused: one after the other, by `scripts/refusals.py`.
 //!
-//! `refusals SCENARIO` makes calls of the library over a small input, and tells what each answered. Where one answers that there is no
-//! memory, it tells that and what stands then, and makes the same call again: one growth is refused, not the next. So whichever it was, the
-//! lines without those on refusals are the same. `refusals SCENARIO COUNT`, of calls that take no memory, makes them so often: whatever the
-//! count is, as many growths are asked for. Where memory is refused to the scenario itself, the status is 4, and nothing is told. Without words
-//! each scenario is told.
+//! `refusals SCENARIO` makes calls of the library over a small input, and tells what each answered. Where one answers
+//! that there is no memory, it tells that and what stands then, and makes the same call again: one growth is refused,
+//! not the next. So whichever it was, the lines without those on refusals are the same. `refusals SCENARIO COUNT`, of
+//! calls that take no memory, makes them so often: whatever the count is, as many growths are asked for. Where memory
+//! is refused to the scenario itself, the status is 4, and nothing is told. Without words each scenario is told.
 #![tactic(auto)]
 
 mod builders;

@@ -5,8 +5,8 @@ use rothelduf::{
 use std::alloc::Global;
 use std::rc::Rc;
 
-/// Code 1, DW_TAG_compile_unit, children, DW_AT_name as DW_FORM_string; code 2, DW_TAG_base_type, no children, DW_AT_byte_size as
-/// DW_FORM_data1.
+/// Code 1, DW_TAG_compile_unit, children, DW_AT_name as DW_FORM_string; code 2, DW_TAG_base_type, no children,
+/// DW_AT_byte_size as DW_FORM_data1.
 pub(crate) const TYPED: [u8; 15] = [
     0x01, 0x11, 0x01, 0x03, 0x08, 0x00, 0x00, 0x02, 0x24, 0x00, 0x0b, 0x0b, 0x00, 0x00, 0x00,
 ];
@@ -17,8 +17,8 @@ pub(crate) const ROOT_AND_CHILD: [u8; 18] = [
     0x04, 0x00,
 ];
 
-/// The codes 1 to 9: a unit, a base type with a name, a function type, a parameter, parameters that aren't told, a pointer, an array, its
-/// bounds, and a variable with a name; types are named by DW_FORM_ref1.
+/// The codes 1 to 9: a unit, a base type with a name, a function type, a parameter, parameters that aren't told, a
+/// pointer, an array, its bounds, and a variable with a name; types are named by DW_FORM_ref1.
 pub(crate) const C_TYPES: [u8; 62] = [
     0x01, 0x11, 0x01, 0x00, 0x00, 0x02, 0x24, 0x00, 0x03, 0x08, 0x00, 0x00, 0x03, 0x15, 0x01, 0x49,
     0x11, 0x00, 0x00, 0x04, 0x05, 0x00, 0x49, 0x11, 0x00, 0x00, 0x05, 0x18, 0x00, 0x00, 0x00, 0x06,

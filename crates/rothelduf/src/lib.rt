@@ -16,10 +16,10 @@
 //! - `UnitBuilder` makes a unit entry by entry, over a table of `TableBuilder`;
 //! - `read_section` returns the whole section that a reader has left, item by item, or its first fault;
 //!   `read_section_as` also reads units of version 4;
-//! - `Section` holds the units of a whole section: looked up by item, `EntryId` and offset; `Section::resolve`
-//!   names the entry that a reference means, or says by `RefFault` why there is none; so does
-//!   `Section::resolve_among`, faster for many references of one unit, with the offsets of its entries in a `EntryOffsets`;
-//!   `Section::set_number` puts a number in the place of that of an attribute, or says by `SetRefusal` why it doesn't;
+//! - `Section` holds the units of a whole section: looked up by item, `EntryId` and offset; `Section::resolve` names
+//!   the entry that a reference means, or says by `RefFault` why there is none; so does `Section::resolve_among`,
+//!   faster for many references of one unit, with the offsets of its entries in a `EntryOffsets`; `Section::set_number`
+//!   puts a number in the place of that of an attribute, or says by `SetRefusal` why it doesn't;
 //! - `Strings` holds the sections of texts: `Strings::text` lends the text that an attribute names, or says by
 //!   `StrFault` why there is none;
 //! - `type_text` appends the type of an entry in C notation, or says by `TypeError` why it doesn't;

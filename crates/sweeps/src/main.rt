@@ -1,14 +1,15 @@
 //! Sweeps: every cut and every change of one byte of small sections, and what the library answers to each.
 //!
-//! `sweeps VECTOR..`: a VECTOR is a file of lines `let NAME = BYTES`, as `case_file` reads them, in which NAME is `info`,
-//! `abbrev`, `str`, `line-str` or `str-offsets`; a section that has no line is empty. Behind the file may stand `:v4`, by which
-//! units of version 4 are read too, and `:big`, by which the byte order is big-endian. The inputs are, of each of its sections,
-//! first its fronts of 0 bytes and more, but for the whole, and then it with each byte in the place of each other, while
-//! the other sections stay as they are.
+//! `sweeps VECTOR..`: a VECTOR is a file of lines `let NAME = BYTES`, as `case_file` reads them, in which NAME is
+//! `info`, `abbrev`, `str`, `line-str` or `str-offsets`; a section that has no line is empty. Behind the file may stand
+//! `:v4`, by which units of version 4 are read too, and `:big`, by which the byte order is big-endian. The inputs are,
+//! of each of its sections, first its fronts of 0 bytes and more, but for the whole, and then it with each byte in the
+//! place of each other, while the other sections stay as they are.
 //!
-//! Printed is, for each section of each vector, how many inputs there were, how many of them were read, how many broke what has to hold
-//! of all (`judge` says what that is), a checksum of all that was answered, the offset of each fault with it, and how often each reason came. `scripts/sweeps.py` prints what
-//! an independent reader answers to the same inputs, in the same words.
+//! Printed is, for each section of each vector, how many inputs there were, how many of them were read, how many broke
+//! what has to hold of all (`judge` says what that is), a checksum of all that was answered, the offset of each fault
+//! with it, and how often each reason came. `scripts/sweeps.py` prints what an independent reader answers to the same
+//! inputs, in the same words.
 #![tactic(auto)]
 
 mod agree;

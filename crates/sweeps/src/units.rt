@@ -1,4 +1,5 @@
-//! That the unit at the front of bytes is the same one, or has the same fault, as one piece, in pieces of one byte, and of a reader.
+//! That the unit at the front of bytes is the same one, or has the same fault, as one piece, in pieces of one byte, and
+//! of a reader.
 ghost use Rattle.std.specs.Prelude.{IfOk};
 ghost use Rattle.dw_header.specs.Laws.{HasHeaderBytes};
 

@@ -1,7 +1,7 @@
 //! Made units, each of which goes out by the calls that the rule says.
 //!
-//! A unit has a row before the one in question, that one twice, a null and a row of three bytes between. The row has its
-//! size on both sides of each bound, or 30 to 33 or 1,024 values, and a code of one byte, two or three.
+//! A unit has a row before the one in question, that one twice, a null and a row of three bytes between. The row has
+//! its size on both sides of each bound, or 30 to 33 or 1,024 values, and a code of one byte, two or three.
 use crate::calls::written_by;
 use crate::made::{append_table, append_unit};
 use crate::reading::{Input, read};
@@ -156,7 +156,8 @@ fn calls_of(alloc: Global, rows: &[MadeRow]) -> Result<Result<usize, usize>, All
     })
 }
 
-/// A writer that takes so many calls whole and fails at the next has as many bytes as the rule says, until it fails at none.
+/// A writer that takes so many calls whole and fails at the next has as many bytes as the rule says, until it fails at
+/// none.
 fn compared(alloc: Global, unit: &Unit, ends: &[usize]) -> Result<usize, usize> {
     let mut before = 0usize;
     let mut calls = 0usize;

@@ -1,5 +1,5 @@
-//! Units that are made of rows, with their tables, in the 32-bit format of version 5, little-endian. Each row has a declaration of its own,
-//! and the number of its place for a code.
+//! Units that are made of rows, with their tables, in the 32-bit format of version 5, little-endian. Each row has a
+//! declaration of its own, and the number of its place for a code.
 use crate::rule::{Kind, MadeRow, Values};
 use std::alloc::AllocError;
 

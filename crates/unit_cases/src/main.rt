@@ -1,7 +1,7 @@
 //! Cases of units: read from bytes, walked, changed in place, built, and pushed in pieces (section 7.5).
 //!
-//! A case is a line `INPUT -> ANSWER` of a file in `data/`; `ask`, `build` and `feeds` say what an input is. Each line that
-//! differs is printed, and for each file how many cases it has.
+//! A case is a line `INPUT -> ANSWER` of a file in `data/`; `ask`, `build` and `feeds` say what an input is. Each line
+//! that differs is printed, and for each file how many cases it has.
 #![tactic(auto)]
 
 mod agree;

@@ -117,8 +117,8 @@ fn has_its_header(input: Input<'_>, unit: &Unit) -> bool {
         && read_header_as(input.order, input.versions, alone) == want
 }
 
-/// Says where a header is refused for another reason than the unit, and where it is read, though the unit is refused for
-/// a field of it.
+/// Says where a header is refused for another reason than the unit, and where it is read, though the unit is refused
+/// for a field of it.
 fn append_head_fault(
     input: Input<'_>,
     error: ReadError,

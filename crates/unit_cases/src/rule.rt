@@ -1,9 +1,9 @@
 //! The rule by which rows go out, kept as it was before rows were gathered faster: which calls a writer gets.
 //!
 //! Rows are held, and written together, up to 512 bytes. A null of one byte joins them, and so does an entry whose code
-//! has one byte and whose forms all tell the sizes of its values. Any other entry joins them if it has no more than 128 bytes. What has
-//! no room, and a null of more bytes, goes out behind them by itself: a code, each run of values of told sizes, each LEB128
-//! number, each text, the zero behind it.
+//! has one byte and whose forms all tell the sizes of its values. Any other entry joins them if it has no more than 128
+//! bytes. What has no room, and a null of more bytes, goes out behind them by itself: a code, each run of values of
+//! told sizes, each LEB128 number, each text, the zero behind it.
 use std::alloc::AllocError;
 
 /// The most bytes that are held.
