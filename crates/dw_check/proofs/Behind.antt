@@ -9,45 +9,45 @@ use Rattle.dw_strings.specs.Text.{stored_forms, named_text, own_text, by_number,
 use Rattle.dw_tree.specs.Lent.{LentAttribute, EntryAt, attributes_of}
 use Rattle.dw_check.specs.declared.finding.Finding.{Finding}
 use Rattle.dw_check.specs.Findings.{UnitIn, is_named_among, is_unresolved, is_unreadable, findings_at, findings_behind, entry_findings}
-use Rattle.dw_check.specs.Marks.{AreMarked, IsPlain}
+use Rattle.dw_check.specs.Repeats.{AreRepeatsOf, IsPlain}
 
 -- what was found so far, and what is still to be found in the attributes that are left
-pub record FoundSoFar (u : UnitIn) (e : EntryAt) (old found : List Finding) (position : ℕ) (left : List LentAttribute) (marks all : List Bool) : Type 0 where
+pub record FoundSoFar (u : UnitIn) (e : EntryAt) (old found : List Finding) (position : ℕ) (left : List LentAttribute) (repeats all : List Bool) : Type 0 where
   pub before : List LentAttribute
   pub count : position ≡ length before
-  pub room : position + length marks ≡ length all
-  pub marked : AreMarked before left marks
+  pub room : position + length repeats ≡ length all
+  pub repeating : AreRepeatsOf before left repeats
   pub so_far : old ++ entry_findings u e ≡ found ++ findings_behind u e before left
 
-pub none_found : (u : UnitIn) (e : EntryAt) (old : List Finding) (all : List Bool) → AreMarked [] (attributes_of e) all → FoundSoFar u e old old 0 (attributes_of e) all all
-none_found u e old all h = record { before = []; count = refl; room = omega arith; marked = h; so_far = refl }
+pub none_found : (u : UnitIn) (e : EntryAt) (old : List Finding) (all : List Bool) → AreRepeatsOf [] (attributes_of e) all → FoundSoFar u e old old 0 (attributes_of e) all all
+none_found u e old all h = record { before = []; count = refl; room = omega arith; repeating = h; so_far = refl }
 
-pub one_found : (u : UnitIn) (e : EntryAt) (old found new : List Finding) (position : ℕ) (a : LentAttribute) (left : List LentAttribute) (m : Bool) (marks all : List Bool)
-    → FoundSoFar u e old found position (a ∷ left) (m ∷ marks) all → new ≡ found ++ findings_at u e (position + 1) a m → FoundSoFar u e old new (position + 1) left marks all
-one_found u e old found new position a left m marks all h is =
+pub one_found : (u : UnitIn) (e : EntryAt) (old found new : List Finding) (position : ℕ) (a : LentAttribute) (left : List LentAttribute) (m : Bool) (repeats all : List Bool)
+    → FoundSoFar u e old found position (a ∷ left) (m ∷ repeats) all → new ≡ found ++ findings_at u e (position + 1) a m → FoundSoFar u e old new (position + 1) left repeats all
+one_found u e old found new position a left m repeats all h is =
     let count : suc (length h.before) ≡ position + 1 = omega (arith, h.count) in
-    let here : findings_at u e (position + 1) a m ≡ findings_at u e (suc (length h.before)) a (is_named_among a.name h.before) = ap (λ (n : ℕ). findings_at u e n a m) (sym count) ∙ ap (λ (b : Bool). findings_at u e (suc (length h.before)) a b) h.marked.0 in
+    let here : findings_at u e (position + 1) a m ≡ findings_at u e (suc (length h.before)) a (is_named_among a.name h.before) = ap (λ (n : ℕ). findings_at u e n a m) (sym count) ∙ ap (λ (b : Bool). findings_at u e (suc (length h.before)) a b) h.repeating.0 in
     record {
       before = h.before ++ a ∷ [];
       count = omega (arith, h.count, length-append h.before (a ∷ []));
       room = omega (arith, h.room);
-      marked = h.marked.1;
+      repeating = h.repeating.1;
       so_far = h.so_far
           ∙ sym (append_assoc found (findings_at u e (suc (length h.before)) a (is_named_among a.name h.before)) (findings_behind u e (h.before ++ a ∷ []) left))
           ∙ ap (λ (f : List Finding). f ++ findings_behind u e (h.before ++ a ∷ []) left) (ap (λ (f : List Finding). found ++ f) (sym here) ∙ sym is);
     }
 
-pub all_found : (u : UnitIn) (e : EntryAt) (old found : List Finding) (position : ℕ) (marks all : List Bool) → FoundSoFar u e old found position [] marks all → found ≡ old ++ entry_findings u e
-all_found u e old found position marks all h = sym (append-nil found) ∙ sym h.so_far
+pub all_found : (u : UnitIn) (e : EntryAt) (old found : List Finding) (position : ℕ) (repeats all : List Bool) → FoundSoFar u e old found position [] repeats all → found ≡ old ++ entry_findings u e
+all_found u e old found position repeats all h = sym (append-nil found) ∙ sym h.so_far
 
--- the findings of the attribute that comes next, with the mark that comes next
-pub next_found : {u : UnitIn} {e : EntryAt} {old found new : List Finding} {position : ℕ} {a : LentAttribute} {attributes left : List LentAttribute} {m : Bool} {marks others all : List Bool}
-    → FoundSoFar u e old found position attributes marks all → attributes ≡ a ∷ left → marks ≡ m ∷ others → new ≡ found ++ findings_at u e (position + 1) a m → FoundSoFar u e old new (position + 1) left others all
-next_found {u} {e} {old} {found} {new} {position} {a} {attributes} {left} {m} {marks} {others} {all} h attribute mark is =
-    let there : FoundSoFar u e old found position (a ∷ left) marks all = subst (λ (xs : List LentAttribute). FoundSoFar u e old found position xs marks all) attribute h in
+-- the findings of the attribute that comes next, with the flag that comes next
+pub next_found : {u : UnitIn} {e : EntryAt} {old found new : List Finding} {position : ℕ} {a : LentAttribute} {attributes left : List LentAttribute} {m : Bool} {repeats others all : List Bool}
+    → FoundSoFar u e old found position attributes repeats all → attributes ≡ a ∷ left → repeats ≡ m ∷ others → new ≡ found ++ findings_at u e (position + 1) a m → FoundSoFar u e old new (position + 1) left others all
+next_found {u} {e} {old} {found} {new} {position} {a} {attributes} {left} {m} {repeats} {others} {all} h attribute mark is =
+    let there : FoundSoFar u e old found position (a ∷ left) repeats all = subst (λ (xs : List LentAttribute). FoundSoFar u e old found position xs repeats all) attribute h in
     one_found u e old found new position a left m others all (subst (λ (ms : List Bool). FoundSoFar u e old found position (a ∷ left) ms all) mark there) is
 
--- ---- what has no mark
+-- ---- what has no flag
 
 none_is : {X : Type 0} (o : Option X) → is_some o ≡ false → o ≡ None
 none_is None e = refl
@@ -74,18 +74,18 @@ no_stored_text u form v other = by (form == 0x08) (text_in v) (number_in v)
 plain_at : (u : UnitIn) (e : EntryAt) (n : ℕ) (a : LentAttribute) → IsPlain a → findings_at u e n a false ≡ []
 plain_at u e n a h = rw (h.0, no_reference u a.form a.attr.value h.1.0, no_stored_text u a.form a.attr.value h.1.1) refl
 
-plain_behind : (u : UnitIn) (e : EntryAt) (before left : List LentAttribute) → AreMarked before left [] → findings_behind u e before left ≡ []
+plain_behind : (u : UnitIn) (e : EntryAt) (before left : List LentAttribute) → AreRepeatsOf before left [] → findings_behind u e before left ≡ []
 plain_behind u e before [] h = refl
 plain_behind u e before (a ∷ left) h =
     rw (h.1.0, plain_at u e (suc (length before)) a h.0) (plain_behind u e (before ++ a ∷ []) left h.1.1)
 
--- the attributes that are left without a mark have no findings
-pub marks_end : (u : UnitIn) (e : EntryAt) (old found : List Finding) (position : ℕ) (left : List LentAttribute) (marks all : List Bool)
-    → FoundSoFar u e old found position left marks all → length marks ≡ 0 → found ≡ old ++ entry_findings u e
-marks_end u e old found position left [] all h none =
-    let rest : findings_behind u e h.before left ≡ [] = plain_behind u e h.before left h.marked in
+-- the attributes that are left without a flag have no findings
+pub repeats_end : (u : UnitIn) (e : EntryAt) (old found : List Finding) (position : ℕ) (left : List LentAttribute) (repeats all : List Bool)
+    → FoundSoFar u e old found position left repeats all → length repeats ≡ 0 → found ≡ old ++ entry_findings u e
+repeats_end u e old found position left [] all h none =
+    let rest : findings_behind u e h.before left ≡ [] = plain_behind u e h.before left h.repeating in
     sym (append-nil found) ∙ ap (λ (f : List Finding). found ++ f) (sym rest) ∙ sym h.so_far
-marks_end u e old found position left (m ∷ marks) all h none = absurd cc
+repeats_end u e old found position left (m ∷ repeats) all h none = absurd cc
 
 -- what stands behind findings, and what behind those
 pub regrouped : (old mid new a b : List Finding) → mid ≡ old ++ a → new ≡ mid ++ b → new ≡ old ++ (a ++ b)

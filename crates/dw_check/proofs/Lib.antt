@@ -4,7 +4,7 @@ mod FindingRows
 pub mod Items
 pub mod Kept
 pub mod LastZero
-pub mod Marking
+pub mod Repeating
 pub mod Stored
 pub mod Ordered
 pub mod Listed

@@ -12,7 +12,7 @@ use Rattle.dw_strings.specs.declared.fault.StrFault.TheVariants.{NotText, Supple
 use Rattle.dw_strings.specs.Text.{StringSections, Place, Placed, InStr, at_entry, by_index, by_number, stored, stored_forms, named_place, number_at, own_text}
 use Rattle.dw_leb.specs.Number.{offset_size}
 use Rattle.std.specs.Prelude.{◌+◌, ◌*◌}
-use Rattle.dw_check.proofs.Marking.{eqb_sym}
+use Rattle.dw_check.proofs.Repeating.{eqb_sym}
 
 either : {X : Type 0} (Q : Option X → Type 0) (b : Bool) (x y : Option X) → Q x → Q y → Q (if b then x else y)
 either Q true x y p q = p

@@ -1,7 +1,7 @@
 pub mod Ends
 pub mod Findings
 pub mod Kinds
-pub mod Marks
+pub mod Repeats
 pub mod Place
 pub mod Wrong
 pub mod Laws

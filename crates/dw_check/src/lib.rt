@@ -6,8 +6,8 @@ mod attribute;
 mod ends;
 mod finding;
 pub mod laws;
-mod marks;
 mod place;
+mod repeats;
 mod root;
 mod section;
 

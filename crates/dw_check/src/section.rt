@@ -6,14 +6,14 @@ ghost use Rattle.dw_section.specs.Lookup.{unit_at};
 ghost use Rattle.dw_strings.specs.TextView.{sections_of};
 ghost use Rattle.dw_tree.specs.Lent.{attributes_of};
 ghost use Rattle.dw_check.specs.Findings as definition;
-ghost use Rattle.dw_check.specs.Marks.{AreMarked, AreMarks, MarksItsEntries};
+ghost use Rattle.dw_check.specs.Repeats.{AreRepeatsOf, AreRepeats, RepeatsInItsEntries};
 ghost use Rattle.dw_check.specs.Place.{IsPlace, unit_in};
 
 use crate::attribute::{check_attribute, check_bare, check_number};
 use crate::ends::TextEnds;
 use crate::finding::Finding;
-use crate::marks::{Marks, kept_marks, mark, refers};
 use crate::place::Place;
+use crate::repeats::{Repeats, keep_repeats, kept_repeats, refers};
 use crate::root::check_root;
 use dw_section::{EntryOffsets, Item, Section};
 use dw_strings::Strings;
@@ -90,8 +90,8 @@ fn check_unit(
     let mut is_learnt = false;
     for entry in place.unit.entries() {
         let code = entry.code().value;
-        match kept_marks(&kept, code) {
-            Some(marks) => check_entry(found, place, &begins, &entry, marks)?,
+        match kept_repeats(&kept, code) {
+            Some(repeats) => check_entry(found, place, &begins, &entry, repeats)?,
             None => {
                 learn_for(code, &mut is_learnt, &mut begins, spare, place.unit);
                 check_first(alloc, found, place, &begins, &mut kept, &entry, code)?;
@@ -127,7 +127,7 @@ fn learn_for(
     }
 }
 
-/// Adds the findings of an entry that is the first of its code in the unit. The marks of the code are kept for those
+/// Adds the findings of an entry that is the first of its code in the unit. The repeats of the code are kept for those
 /// that follow.
 #[inline(never)]
 fn check_first(
@@ -135,29 +135,29 @@ fn check_first(
     found: &mut Vec<Finding>,
     place: &Place<'_>,
     begins: &EntryOffsets,
-    kept: &mut Marks,
+    kept: &mut Repeats,
     entry: &EntryRef<'_>,
     code: u64,
 ) -> Result<(), AllocError>
     requires place { IsPlace place.now }
     requires begins { AreEntryOffsets place.now.unit.now begins.now }
     requires near { place.now.start + entry.now.offset < 2 ^ 64 }
-    requires marked { MarksItsEntries place.now.unit.now.table code entry.now }
-    requires kept { AreMarks place.now.unit.now.table kept.old.entries }
+    requires repeating { RepeatsInItsEntries place.now.unit.now.table code entry.now }
+    requires kept { AreRepeats place.now.unit.now.table kept.old.entries }
     requires absent { get nat_eq kept.old code ≡ None }
-    ensures are { AreMarks place.now.unit.now.table kept.new.entries }
+    ensures are { AreRepeats place.now.unit.now.table kept.new.entries }
     ensures found { OnOk result (found.new.items ≡ found.old.items ++ definition.entry_findings
         (unit_in place.now) entry.now) }
 {
-    mark(alloc, kept, place.unit.tree().table(), code)?;
-    match kept_marks(kept, code) {
-        Some(marks) => check_entry(found, place, begins, entry, marks),
+    keep_repeats(alloc, kept, place.unit.tree().table(), code)?;
+    match kept_repeats(kept, code) {
+        Some(repeats) => check_entry(found, place, begins, entry, repeats),
         None => unreachable!(),
     }
 }
 
-/// Adds the findings of an entry. `marks` says of each of its attributes whether an earlier one has its name; those
-/// behind the last mark have no findings. Nearly every value is a number or has no bytes: these are judged where it is
+/// Adds the findings of an entry. `repeats` says of each of its attributes whether an earlier one has its name; those
+/// behind the last flag have no findings. Nearly every value is a number or has no bytes: these are judged where it is
 /// known that they are.
 #[inline(always)]
 fn check_entry(
@@ -165,18 +165,18 @@ fn check_entry(
     place: &Place<'_>,
     begins: &EntryOffsets,
     entry: &EntryRef<'_>,
-    marks: &[bool],
+    repeats: &[bool],
 ) -> Result<(), AllocError>
     requires place { IsPlace place.now }
     requires begins { AreEntryOffsets place.now.unit.now begins.now }
     requires near { place.now.start + entry.now.offset < 2 ^ 64 }
-    requires marked { AreMarked [] (attributes_of entry.now) marks.now }
+    requires repeating { AreRepeatsOf [] (attributes_of entry.now) repeats.now }
     ensures { OnOk result (found.new.items ≡ found.old.items ++ definition.entry_findings
         (unit_in place.now) entry.now) }
 {
     let mut position = 0;
     let mut attributes = entry.attrs();
-    let mut left = marks;
+    let mut left = repeats;
     while let Some((repeated, others)) = left.split_first() {
         position += 1;
         left = others;

@@ -8,8 +8,8 @@ use Rattle.dw_section.specs.Item.{Item}
 use Rattle.dw_section.specs.Lookup.{entry}
 use Rattle.dw_section.specs.declared.id.EntryId.{EntryId}
 use Rattle.dw_ctype.specs.declared.kind.Keyword.{Keyword}
-use Rattle.dw_ctype.specs.declared.kind.Mark.{Mark}
-use Rattle.dw_ctype.specs.declared.kind.Mark.TheVariants.{Pointer}
+use Rattle.dw_ctype.specs.declared.kind.PointerKind.{PointerKind}
+use Rattle.dw_ctype.specs.declared.kind.PointerKind.TheVariants.{Pointer}
 use Rattle.dw_ctype.specs.declared.kind.Qualifier.{Qualifier}
 use Rattle.dw_ctype.specs.declared.kind.Kind.{Kind}
 use Rattle.dw_ctype.specs.declared.kind.Kind.TheVariants.{Named, Tagged, Marked, Qualified, Other}
@@ -113,7 +113,7 @@ module _ (s : Source) (depth i : ℕ) (e : EntryAt) (t : Typed) (typed : t ≡ t
   at_type : IsChain s depth (type_of s.items i e)
   at_type = rw (← typed) h
 
-  pub marked_from : (m : Mark) → kind_of e ≡ Marked m → IsChainFrom s depth i e
+  pub marked_from : (m : PointerKind) → kind_of e ≡ Marked m → IsChainFrom s depth i e
   marked_from m is =
       let one = at_type in
       let few = one.few in
@@ -140,7 +140,7 @@ module _ (s : Source) (depth i : ℕ) (e : EntryAt) (t : Typed) (typed : t ≡ t
       }
 
   -- what stands before the declarator of a mark
-  pub marked_left : (m : Mark) (empty : Bool) (word : List ℕ) → word ≡ mark m → kind_of e ≡ Marked m → left s depth t false ++ word_before word true ≡ kind_left (left s depth) (cut s.items depth) s i e (kind_of e) empty
+  pub marked_left : (m : PointerKind) (empty : Bool) (word : List ℕ) → word ≡ mark m → kind_of e ≡ Marked m → left s depth t false ++ word_before word true ≡ kind_left (left s depth) (cut s.items depth) s i e (kind_of e) empty
   marked_left m empty word w is = let one = at_type in rw (w, typed, is, one.plain 64, one.whole) refl
 
 -- what is behind a qualifier is behind its type

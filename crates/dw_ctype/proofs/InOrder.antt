@@ -4,8 +4,8 @@ use Rattle.std.specs.Prelude.{codes, unwrap_or}
 use Rattle.std.proofs.lemmas.List.{append_assoc, append-nil}
 use Rattle.dw_tree.specs.Lent.{EntryAt, children_of}
 use Rattle.dw_section.specs.Lookup.{entry}
-use Rattle.dw_ctype.specs.declared.kind.Mark.{Mark}
-use Rattle.dw_ctype.specs.declared.kind.Mark.TheVariants.{Pointer, Reference, RvalueReference}
+use Rattle.dw_ctype.specs.declared.kind.PointerKind.{PointerKind}
+use Rattle.dw_ctype.specs.declared.kind.PointerKind.TheVariants.{Pointer, Reference, RvalueReference}
 use Rattle.dw_ctype.specs.declared.kind.Qualifier.{Qualifier}
 use Rattle.dw_ctype.specs.declared.kind.Qualifier.TheVariants.{Const, Volatile, Restrict, Atomic}
 use Rattle.dw_ctype.specs.declared.kind.Kind.{Kind}
@@ -35,13 +35,13 @@ unless_empty_some : (x l : List ℕ) → is_empty (x ++ unless_empty (codes "[]"
 unless_empty_some x [] = some_behind x 91 (93 ∷ [])
 unless_empty_some x (b ∷ bs) = some_behind x b bs
 
-marked_some : (m : Mark) (bracket : Bool) (x : List ℕ) → is_empty (bracketed bracket (mark m ++ x)) ≡ false
+marked_some : (m : PointerKind) (bracket : Bool) (x : List ℕ) → is_empty (bracketed bracket (mark m ++ x)) ≡ false
 marked_some m true x = refl
 marked_some Pointer false x = refl
 marked_some Reference false x = refl
 marked_some RvalueReference false x = refl
 
-bracketed_is : (m : Mark) (bracket : Bool) (x : List ℕ) → bracketed bracket (mark m ++ x) ≡ (when bracket (codes "(") ++ mark m) ++ (x ++ when bracket (codes ")"))
+bracketed_is : (m : PointerKind) (bracket : Bool) (x : List ℕ) → bracketed bracket (mark m ++ x) ≡ (when bracket (codes "(") ++ mark m) ++ (x ++ when bracket (codes ")"))
 bracketed_is m true x = ap (λ (l : List ℕ). codes "(" ++ l) (append_assoc (mark m) x (codes ")")) ∙ sym (append_assoc (codes "(") (mark m) (x ++ codes ")"))
 bracketed_is m false x = ap (λ (l : List ℕ). mark m ++ l) (sym (append-nil x))
 
@@ -52,7 +52,7 @@ module _ (s : Source) (depth : ℕ) (deeper : (t : Typed) (x : List ℕ) → say
       ∙ ap (λ (e : Bool). left s depth t e ++ unless_cut (cut s.items depth t) ((x ++ more) ++ right s depth t)) some
       ∙ ap (λ (l : List ℕ). left s depth t false ++ unless_cut (cut s.items depth t) l) (append_assoc x more (right s depth t))
 
-  pub around_mark : (t : Typed) (m : Mark) (b : Bool) (x : List ℕ) → say s depth t (bracketed b (mark m ++ x)) ≡ (left s depth t false ++ unless_cut (cut s.items depth t) (when b (codes "(") ++ mark m)) ++ unless_cut (cut s.items depth t) (x ++ (when b (codes ")") ++ right s depth t))
+  pub around_mark : (t : Typed) (m : PointerKind) (b : Bool) (x : List ℕ) → say s depth t (bracketed b (mark m ++ x)) ≡ (left s depth t false ++ unless_cut (cut s.items depth t) (when b (codes "(") ++ mark m)) ++ unless_cut (cut s.items depth t) (x ++ (when b (codes ")") ++ right s depth t))
   around_mark t m b x = deeper t (bracketed b (mark m ++ x))
       ∙ ap (λ (e : Bool). left s depth t e ++ unless_cut (cut s.items depth t) (bracketed b (mark m ++ x) ++ right s depth t)) (marked_some m b x)
       ∙ ap (λ (l : List ℕ). left s depth t false ++ unless_cut (cut s.items depth t) (l ++ right s depth t)) (bracketed_is m b x)

@@ -8,7 +8,7 @@ use Rattle.dw_leb.specs.ReadNumber.{before_zero}
 use Rattle.dw_strings.specs.declared.fault.StrFault.TheVariants.{PastSection}
 use Rattle.dw_strings.specs.LastZero.{none_from, up_to_zero}
 use Rattle.dw_strings.specs.Text.{text_at, unless_ended}
-use Rattle.dw_ctype.specs.Ended.{SameIn}
+use Rattle.dw_ctype.specs.SameTexts.{SameIn}
 use Rattle.dw_ctype.specs.Types.{readable}
 
 no_text : (xs : List ℕ) (offset : ℕ) → before_zero (drop offset xs) ≡ None → readable (text_at xs offset) ≡ None

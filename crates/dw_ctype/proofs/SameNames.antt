@@ -8,13 +8,13 @@ use Rattle.dw_section.specs.Item.{Item}
 use Rattle.dw_section.specs.Lookup.{unit_at, entry}
 use Rattle.dw_strings.specs.SamePlaces.{placed_same}
 use Rattle.dw_strings.specs.Text.{StringSections, Placed, Own, InStr, InLineStr, named_place, text_if_placed, named_text}
-use Rattle.dw_ctype.specs.declared.kind.Mark.TheVariants.{Pointer, Reference, RvalueReference}
+use Rattle.dw_ctype.specs.declared.kind.PointerKind.TheVariants.{Pointer, Reference, RvalueReference}
 use Rattle.dw_ctype.specs.declared.kind.Qualifier.{Qualifier}
 use Rattle.dw_ctype.specs.declared.kind.Kind.{Kind}
 use Rattle.dw_ctype.specs.declared.kind.Kind.TheVariants.{Named, Tagged, Marked, Qualified, Array, Function, Other}
 use Rattle.dw_ctype.specs.declared.typed.Typed.{Typed}
 use Rattle.dw_ctype.specs.declared.typed.Typed.TheVariants.{Missing, Bad, Entry}
-use Rattle.dw_ctype.specs.Ended.{SameTexts}
+use Rattle.dw_ctype.specs.SameTexts.{SameTexts}
 use Rattle.dw_ctype.specs.Names.{keyword, qualifier}
 use Rattle.dw_ctype.specs.Types.{Source, readable, named_by, name_of, first, tag, kind_of, type_of, worded, marked, under, under_type, dimensions, is_prototyped, joined, parameters, parameter_texts, qualified, say, say_kind, say_entry}
 

@@ -5,7 +5,7 @@ use Rattle.dw_leb.specs.Constants.{DW_TAG_formal_parameter, DW_TAG_unspecified_p
 use Rattle.dw_tree.specs.Lent.{EntryAt}
 use Rattle.dw_section.specs.Item.{Item}
 use Rattle.dw_section.specs.Lookup.{entry}
-use Rattle.dw_ctype.specs.declared.kind.Mark.TheVariants.{Pointer}
+use Rattle.dw_ctype.specs.declared.kind.PointerKind.TheVariants.{Pointer}
 use Rattle.dw_ctype.specs.declared.kind.Qualifier.{Qualifier}
 use Rattle.dw_ctype.specs.declared.kind.Kind.{Kind}
 use Rattle.dw_ctype.specs.declared.kind.Kind.TheVariants.{Named, Tagged, Marked, Qualified, Array, Function, Other}

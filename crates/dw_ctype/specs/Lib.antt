@@ -1,7 +1,7 @@
 pub mod Answer
 pub mod Append
 pub mod Chain
-pub mod Ended
+pub mod SameTexts
 pub mod InOrder
 pub mod Names
 pub mod Parts

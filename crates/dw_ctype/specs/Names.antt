@@ -8,8 +8,8 @@ use Rattle.dw_leb.specs.Constants.{DW_TAG_union_type, DW_TAG_unspecified_type, D
 use Rattle.dw_form.specs.Form.{at_number}
 use Rattle.dw_ctype.specs.declared.kind.Keyword.{Keyword}
 use Rattle.dw_ctype.specs.declared.kind.Keyword.TheVariants.{Struct, Union, Enum, Class}
-use Rattle.dw_ctype.specs.declared.kind.Mark.{Mark}
-use Rattle.dw_ctype.specs.declared.kind.Mark.TheVariants.{Pointer, Reference, RvalueReference}
+use Rattle.dw_ctype.specs.declared.kind.PointerKind.{PointerKind}
+use Rattle.dw_ctype.specs.declared.kind.PointerKind.TheVariants.{Pointer, Reference, RvalueReference}
 use Rattle.dw_ctype.specs.declared.kind.Qualifier.{Qualifier}
 use Rattle.dw_ctype.specs.declared.kind.Qualifier.TheVariants.{Const, Volatile, Restrict, Atomic}
 use Rattle.dw_ctype.specs.declared.kind.Kind.{Kind}
@@ -49,7 +49,7 @@ keyword Union = codes "union "
 keyword Enum = codes "enum "
 keyword Class = codes "class "
 
-abbrev pub mark : Mark → List ℕ
+abbrev pub mark : PointerKind → List ℕ
 mark Pointer = codes "*"
 mark Reference = codes "&"
 mark RvalueReference = codes "&&"

@@ -14,8 +14,8 @@ use Rattle.dw_section.specs.Lookup.{unit_at, entry}
 use Rattle.dw_section.specs.Reference.{Target, named}
 use Rattle.dw_section.specs.declared.id.EntryId.{EntryId}
 use Rattle.dw_strings.specs.Text as texts
-use Rattle.dw_ctype.specs.declared.kind.Mark.{Mark}
-use Rattle.dw_ctype.specs.declared.kind.Mark.TheVariants.{Pointer}
+use Rattle.dw_ctype.specs.declared.kind.PointerKind.{PointerKind}
+use Rattle.dw_ctype.specs.declared.kind.PointerKind.TheVariants.{Pointer}
 use Rattle.dw_ctype.specs.declared.kind.Qualifier.{Qualifier}
 use Rattle.dw_ctype.specs.declared.kind.Kind.{Kind}
 use Rattle.dw_ctype.specs.declared.kind.Kind.TheVariants.{Named, Tagged, Marked, Qualified, Array, Function, Other}
@@ -106,7 +106,7 @@ abbrev pub bracketed : Bool → List ℕ → List ℕ
 bracketed true y = codes "(" ++ (y ++ codes ")")
 bracketed false y = y
 
-abbrev pub marked : Mark → Option Kind → List ℕ → List ℕ
+abbrev pub marked : PointerKind → Option Kind → List ℕ → List ℕ
 marked m k x = bracketed (is_bracketed k) (mark m ++ x)
 
 -- ---- dimensions

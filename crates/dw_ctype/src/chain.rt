@@ -11,7 +11,7 @@ ghost use Rattle.dw_ctype.specs.Types.{kind_of as kind_there, say as said, under
 ghost use Rattle.dw_ctype.specs.View.{source_of};
 
 use crate::append::{push, push_word};
-use crate::kind::{Kind, Mark, Qualifier};
+use crate::kind::{Kind, PointerKind, Qualifier};
 use crate::left::{left_of_name, left_of_tagged, left_of_word};
 use crate::typed::{Typed, kind_of, name_of, type_of};
 use dw_section::{EntryId, Section};
@@ -185,7 +185,7 @@ fn qualified_entry<'a>(
             empty,
             out,
         ),
-        Kind::Marked(Mark::Pointer) => {
+        Kind::Marked(PointerKind::Pointer) => {
             let typed = Typed::Entry(id);
             chain_and_word(section, strings, typed, depth, qualifier.text(), empty, out)
         }

@@ -8,7 +8,7 @@ ghost use Rattle.dw_ctype.specs.Append.{Puts};
 ghost use Rattle.dw_ctype.specs.Types as definition;
 
 use crate::append::push;
-use crate::parts::Kept;
+use crate::parts::TypeCache;
 use dw_form::Value;
 use dw_leb::constants::attribute::{DW_AT_COUNT, DW_AT_UPPER_BOUND};
 use dw_leb::constants::form::*;
@@ -20,7 +20,7 @@ use std::alloc::AllocError;
 
 /// Appends the dimensions of an array: of each subrange, or empty brackets where it has none.
 pub(crate) fn push_dimensions(
-    kept: &Kept<'_>,
+    kept: &TypeCache<'_>,
     id: EntryId,
     array: &EntryRef<'_>,
     out: &mut Vec<u8>,
@@ -39,7 +39,7 @@ pub(crate) fn push_dimensions(
 
 /// Appends the dimension of each subrange, by the array's parts where they are kept.
 fn push_each_dimension(
-    kept: &Kept<'_>,
+    kept: &TypeCache<'_>,
     id: EntryId,
     array: &EntryRef<'_>,
     out: &mut Vec<u8>,

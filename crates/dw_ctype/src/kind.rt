@@ -16,7 +16,7 @@ pub(crate) enum Keyword {
 
 /// What a declarator gets for a type that refers to another one.
 #[derive(Clone, Copy, PartialEq, Eq)]
-pub(crate) enum Mark {
+pub(crate) enum PointerKind {
     Pointer,
     Reference,
     RvalueReference,
@@ -39,7 +39,7 @@ pub(crate) enum Kind {
     /// By a keyword and its name.
     Tagged(Keyword),
     /// By a mark before the declarator.
-    Marked(Mark),
+    Marked(PointerKind),
     /// By a qualifier.
     Qualified(Qualifier),
     /// By dimensions behind the declarator.
@@ -61,9 +61,9 @@ impl Kind {
             DW_TAG_UNION_TYPE => Kind::Tagged(Keyword::Union),
             DW_TAG_ENUMERATION_TYPE => Kind::Tagged(Keyword::Enum),
             DW_TAG_CLASS_TYPE => Kind::Tagged(Keyword::Class),
-            DW_TAG_POINTER_TYPE => Kind::Marked(Mark::Pointer),
-            DW_TAG_REFERENCE_TYPE => Kind::Marked(Mark::Reference),
-            DW_TAG_RVALUE_REFERENCE_TYPE => Kind::Marked(Mark::RvalueReference),
+            DW_TAG_POINTER_TYPE => Kind::Marked(PointerKind::Pointer),
+            DW_TAG_REFERENCE_TYPE => Kind::Marked(PointerKind::Reference),
+            DW_TAG_RVALUE_REFERENCE_TYPE => Kind::Marked(PointerKind::RvalueReference),
             DW_TAG_CONST_TYPE => Kind::Qualified(Qualifier::Const),
             DW_TAG_VOLATILE_TYPE => Kind::Qualified(Qualifier::Volatile),
             DW_TAG_RESTRICT_TYPE => Kind::Qualified(Qualifier::Restrict),
@@ -89,15 +89,15 @@ impl Keyword {
     }
 }
 
-impl Mark {
+impl PointerKind {
     /// The mark.
     pub(crate) fn text(self) -> &'static [u8]
         ensures { result.now ≡ definition.mark self }
     {
         match self {
-            Mark::Pointer => b"*",
-            Mark::Reference => b"&",
-            Mark::RvalueReference => b"&&",
+            PointerKind::Pointer => b"*",
+            PointerKind::Reference => b"&",
+            PointerKind::RvalueReference => b"&&",
         }
     }
 }

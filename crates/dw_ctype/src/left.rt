@@ -11,7 +11,7 @@ ghost use Rattle.dw_ctype.specs.View.{source_of};
 
 use crate::append::{push, push_if, push_word};
 use crate::chain::last_word;
-use crate::kind::{Keyword, Kind, Mark, Qualifier};
+use crate::kind::{Keyword, Kind, PointerKind, Qualifier};
 use crate::typed::{MOST_STEPS, Typed, is_bracketed, kind_of, type_of, under_typed};
 use dw_section::Section;
 use dw_strings::Strings;
@@ -126,7 +126,7 @@ fn left_of_marked<'a>(
     strings: &Strings<'a>,
     typed: Typed,
     depth: u8,
-    mark: Mark,
+    mark: PointerKind,
     out: &mut Vec<u8>,
 ) -> Result<Before, AllocError>
     ensures text { Puts out.old out.new (there.left (source_of section.now strings.now) depth typed false ++
@@ -177,7 +177,7 @@ fn left_of_qualified<'a>(
         → IsChain (source_of section.now strings.now) depth typed) }
 {
     match under_typed(section, typed, MOST_STEPS - 1) {
-        Some(Kind::Marked(Mark::Pointer)) => {
+        Some(Kind::Marked(PointerKind::Pointer)) => {
             left_and_word(section, strings, typed, depth, qualifier.text(), empty, out)
         }
         _ => word_and_left(section, strings, typed, depth, qualifier.text(), empty, out),

@@ -4,13 +4,13 @@
 mod append;
 mod chain;
 mod dimension;
-mod ended;
 mod fault;
 mod kind;
 mod left;
 mod parts;
 mod right;
 mod text;
+mod trimmed;
 mod typed;
 mod visits;
 

@@ -31,13 +31,13 @@ pub(crate) struct Parts<'a> {
 
 /// The parts of entries of a section.
 #[derive(Drop)]
-pub(crate) struct Kept<'a> {
+pub(crate) struct TypeCache<'a> {
     alloc: Global,
     section: &'a Section,
     parts: IndexMap<EntryId, Rc<Parts<'a>>>,
 }
 
-impl<'a> Model for Kept<'a> {
+impl<'a> Model for TypeCache<'a> {
     ghost use Rattle.std.specs.List.{AllByRecursion};
     ghost use Rattle.dw_section.specs.ItemView.{section_code};
     ghost use Rattle.dw_section.specs.Lookup.{entry};
@@ -55,12 +55,12 @@ impl<'a> Model for Kept<'a> {
         k.parts.entries };
 }
 
-impl<'a> Kept<'a> {
+impl<'a> TypeCache<'a> {
     /// The parts of no entry. No memory is taken.
-    pub(crate) fn nothing(alloc: Global, section: &'a Section) -> Kept<'a>
+    pub(crate) fn nothing(alloc: Global, section: &'a Section) -> TypeCache<'a>
         ensures { result ≡ section.now }
     {
-        Kept {
+        TypeCache {
             alloc,
             section,
             parts: IndexMap::new(alloc),

@@ -12,7 +12,7 @@ use crate::append::{push, push_if};
 use crate::dimension::push_dimensions;
 use crate::kind::Kind;
 use crate::left::left;
-use crate::parts::Kept;
+use crate::parts::TypeCache;
 use crate::typed::{Typed, is_bracketed, kind_of, type_of};
 use dw_form::Value;
 use dw_leb::constants::attribute::DW_AT_PROTOTYPED;
@@ -28,7 +28,7 @@ use std::alloc::AllocError;
 pub(crate) fn say<'a>(
     section: &'a Section,
     strings: &Strings<'a>,
-    kept: &Kept<'a>,
+    kept: &TypeCache<'a>,
     typed: Typed,
     depth: u8,
     declarator: &[u8],
@@ -54,7 +54,7 @@ pub(crate) fn say<'a>(
 fn right<'a>(
     section: &'a Section,
     strings: &Strings<'a>,
-    kept: &Kept<'a>,
+    kept: &TypeCache<'a>,
     typed: Typed,
     depth: u8,
     out: &mut Vec<u8>,
@@ -79,7 +79,7 @@ fn right<'a>(
 fn right_of_entry<'a>(
     section: &'a Section,
     strings: &Strings<'a>,
-    kept: &Kept<'a>,
+    kept: &TypeCache<'a>,
     id: EntryId,
     entry: &EntryRef<'a>,
     depth: u8,
@@ -111,7 +111,7 @@ fn right_of_entry<'a>(
 fn push_parameters<'a>(
     section: &'a Section,
     strings: &Strings<'a>,
-    kept: &Kept<'a>,
+    kept: &TypeCache<'a>,
     id: EntryId,
     function: &EntryRef<'a>,
     depth: u8,
@@ -136,7 +136,7 @@ fn push_parameters<'a>(
 fn push_each_parameter<'a>(
     section: &'a Section,
     strings: &Strings<'a>,
-    kept: &Kept<'a>,
+    kept: &TypeCache<'a>,
     id: EntryId,
     function: &EntryRef<'a>,
     depth: u8,
@@ -173,7 +173,7 @@ fn push_each_parameter<'a>(
 fn push_parameters_of<'a>(
     section: &'a Section,
     strings: &Strings<'a>,
-    kept: &Kept<'a>,
+    kept: &TypeCache<'a>,
     item: usize,
     shown: &[EntryRef<'a>],
     prototyped: bool,
@@ -199,7 +199,7 @@ fn push_parameters_of<'a>(
 fn push_parameters_among<'a>(
     section: &'a Section,
     strings: &Strings<'a>,
-    kept: &Kept<'a>,
+    kept: &TypeCache<'a>,
     item: usize,
     function: &EntryRef<'a>,
     prototyped: bool,
@@ -226,7 +226,7 @@ fn push_parameters_among<'a>(
 fn push_parameter<'a>(
     section: &'a Section,
     strings: &Strings<'a>,
-    kept: &Kept<'a>,
+    kept: &TypeCache<'a>,
     item: usize,
     child: &EntryRef<'a>,
     depth: u8,

@@ -8,10 +8,10 @@ ghost use Rattle.dw_ctype.specs.Types as definition;
 ghost use Rattle.dw_ctype.specs.View.{source_of};
 
 use crate::chain::say_chain;
-use crate::ended::ended;
 use crate::fault::TypeError;
-use crate::parts::Kept;
+use crate::parts::TypeCache;
 use crate::right::say;
+use crate::trimmed::trimmed;
 use crate::typed::{Typed, type_of};
 use crate::visits::count;
 use dw_leb::constants::tag::{DW_TAG_FORMAL_PARAMETER, DW_TAG_MEMBER, DW_TAG_VARIABLE};
@@ -87,7 +87,7 @@ fn say_counted<'a>(
     ensures unchanged { OnErr result (out.new.items ≡ out.old.items) }
 {
     let start = out.len();
-    let mut kept = Kept::nothing(alloc, section);
+    let mut kept = TypeCache::nothing(alloc, section);
     if count(section, &mut kept, typed, MOST_LEVELS, MOST_VISITS).is_none() {
         return Err(TypeError::TypeTooBig);
     }
@@ -103,7 +103,7 @@ fn say_counted<'a>(
 fn append<'a>(
     section: &'a Section,
     strings: &Strings<'a>,
-    kept: &Kept<'a>,
+    kept: &TypeCache<'a>,
     typed: Typed,
     name: &[u8],
     out: &mut Vec<u8>,
@@ -111,7 +111,7 @@ fn append<'a>(
     requires { kept.now ≡ section.now }
     ensures { Puts out.old out.new (definition.say (source_of section.now strings.now) 64 typed name.now) result }
 {
-    let texts = ended(strings);
+    let texts = trimmed(strings);
     say(section, &texts, kept, typed, MOST_LEVELS, name, out)
 }
 

@@ -7,7 +7,7 @@ ghost use Rattle.dw_ctype.specs.Types.{kind_of as kind_there, type_of as type_th
 ghost use Rattle.dw_ctype.specs.Visits.{less, visits, type_visits, kind_visits, parameter_visits};
 
 use crate::kind::Kind;
-use crate::parts::Kept;
+use crate::parts::TypeCache;
 use crate::typed::{Typed, kind_of, type_of};
 use dw_leb::constants::tag::DW_TAG_FORMAL_PARAMETER;
 use dw_section::{EntryId, Section};
@@ -23,7 +23,7 @@ const KEPT_FROM: u16 = 960;
 #[cycle(visits)]
 pub(crate) fn count<'a>(
     section: &'a Section,
-    kept: &mut Kept<'a>,
+    kept: &mut TypeCache<'a>,
     typed: Typed,
     depth: u8,
     left: u16,
@@ -44,7 +44,7 @@ pub(crate) fn count<'a>(
 #[cycle(visits)]
 fn count_type<'a>(
     section: &'a Section,
-    kept: &mut Kept<'a>,
+    kept: &mut TypeCache<'a>,
     typed: Typed,
     depth: u8,
     left: u16,
@@ -71,7 +71,7 @@ fn count_type<'a>(
 #[cycle(visits)]
 fn count_entry<'a>(
     section: &'a Section,
-    kept: &mut Kept<'a>,
+    kept: &mut TypeCache<'a>,
     id: EntryId,
     entry: &EntryRef<'a>,
     depth: u8,
@@ -97,7 +97,7 @@ fn count_entry<'a>(
 #[cycle(visits)]
 fn count_kind<'a>(
     section: &'a Section,
-    kept: &mut Kept<'a>,
+    kept: &mut TypeCache<'a>,
     item: usize,
     entry: &EntryRef<'a>,
     depth: u8,
@@ -128,7 +128,7 @@ fn count_kind<'a>(
 #[cycle(visits)]
 fn count_each<'a>(
     section: &'a Section,
-    kept: &mut Kept<'a>,
+    kept: &mut TypeCache<'a>,
     types: &[Typed],
     depth: u8,
     left: u16,
@@ -148,7 +148,7 @@ fn count_each<'a>(
 #[cycle(visits)]
 fn count_parameters<'a>(
     section: &'a Section,
-    kept: &mut Kept<'a>,
+    kept: &mut TypeCache<'a>,
     item: usize,
     function: &EntryRef<'a>,
     depth: u8,

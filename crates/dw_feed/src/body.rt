@@ -9,10 +9,10 @@ ghost use Rattle.dw_feed.specs.BodyFeedView.{IsBodyFeed};
 ghost use Rattle.dw_feed.specs.HeldView.{held_of, HeldWithin, padding_of, taken_by};
 
 use crate::code::is_cut;
-use crate::coming::Coming;
 use crate::held::Held;
 use crate::progress::Progress;
 use crate::step::Taken;
+use crate::unit_in_parts::UnitInParts;
 use dw_abbrev::Table;
 use dw_leb::Fault;
 use dw_unit::{Header, Unit};
@@ -26,7 +26,7 @@ use std::rc::Rc;
 /// sixteen bytes.
 #[derive(Debug, Drop)]
 pub struct BodyFeed {
-    coming: Option<Coming>,
+    coming: Option<UnitInParts>,
     fault: Option<Fault>,
 }
 
@@ -53,7 +53,7 @@ impl BodyFeed {
         ensures { result ≡ Reading (started header length table.value) }
     {
         BodyFeed {
-            coming: Some(Coming::new(alloc, header, length, table)),
+            coming: Some(UnitInParts::new(alloc, header, length, table)),
             fault: None,
         }
     }

@@ -16,14 +16,14 @@ ghost use Rattle.dw_feed.specs.Openings.{OpensHere, with_byte};
 ghost use Rattle.dw_feed.specs.LengthFields.{HasLength, HasNoLength};
 ghost use Rattle.dw_feed.specs.ContentSteps.{room_of_text, HasNoZero, ZeroIn};
 
-use crate::coming::Coming;
 use crate::step::Step;
+use crate::unit_in_parts::UnitInParts;
 use bstr::ByteSlice;
 use dw_abbrev::Pair;
 use dw_form::{Shape, Value};
 use dw_leb::{Order, Reason, Uleb, read_fixed};
 
-impl Coming {
+impl UnitInParts {
     /// The text or block that begins here, where what comes before its content is whole: a block's width
     /// and count of bytes. The input cuts the value off.
     pub(crate) fn opening(&self, pair: &Pair) -> Option<(Option<u8>, u64)>

@@ -13,14 +13,14 @@ ghost use Rattle.dw_feed.specs.EntrySteps.{NoneKept, NextSays, TakesOn, EntrySay
 ghost use Rattle.dw_feed.specs.PlainValues.{PlainAt};
 
 use crate::code::number;
-use crate::coming::Coming;
+use crate::unit_in_parts::UnitInParts;
 use crate::value::{PlainSize, first_values, plain_size, value_at};
 use dw_abbrev::{Decl, Pair, Table};
 use dw_form::Ctx;
 use dw_leb::Uleb;
 use std::alloc::AllocError;
 
-impl Coming {
+impl UnitInParts {
     /// The fields that stand whole in the piece, where the table is at hand. The result is what is left of
     /// the piece. `AllocError` where a growth by an entry or by a null was refused.
     pub(crate) fn fields_at_once<'a>(

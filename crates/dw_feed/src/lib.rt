@@ -8,7 +8,6 @@
 mod body;
 mod bytes;
 mod code;
-mod coming;
 mod content;
 mod entry;
 mod head;
@@ -18,6 +17,7 @@ mod progress;
 mod reader;
 mod step;
 mod unit;
+mod unit_in_parts;
 mod value;
 
 pub use body::BodyFeed;

@@ -36,7 +36,7 @@ use Rattle.dw_feed.specs.Feed.{Had, behind, StartsWith, Takes, InField, InUnit, 
 use Rattle.dw_feed.specs.HeadFeed.{HeadFeed, HeadState, Reading, Refused, Finished, IsHeader, Answers, FeedsHead}
 use Rattle.dw_feed.specs.Taking.{left_of, left_at_end, takes_of, behind_taken, field_longer}
 use Rattle.dw_feed.specs.Cut.{field_never_truncated, field_size, same_length}
-use Rattle.dw_section.specs.Item.{Item, Known, Other, item_bytes, least_length, marks_with, marks, ShowsKind, HasInitialLength, ItemFits, IsKnown, ItemFails}
+use Rattle.dw_section.specs.Item.{Item, Known, Other, item_bytes, least_length, version_and_type_if, version_and_type, ShowsKind, HasInitialLength, ItemFits, IsKnown, ItemFails}
 use Rattle.dw_section.specs.ItemPlace.{fits_alone, length_some, shows_more, known_there, other_there}
 use Rattle.dw_section.specs.Streamed.{length_fault, kind_fault, other_cut}
 use Rattle.dw_section.specs.FedItems.{fault_there}
@@ -146,8 +146,8 @@ rest_failed versions order abbreviations start old new taken most e h format n r
 -- ---- what shows the kind
 
 -- where all bytes of it are there, it doesn't break
-pub marks_whole : (versions : Versions) (order : Order) (n : ℕ) (bytes : List ℕ) (offset : ℕ) (reason : Reason) → (n ≤ length bytes) ⊎ (3 ≤ length bytes) → (marks versions order n).Break bytes n offset reason → ⊥
-marks_whole versions order n bytes offset reason enough = by (nat_le (least_length versions) n) (nat_le 3 n) refl refl
+pub version_and_type_whole : (versions : Versions) (order : Order) (n : ℕ) (bytes : List ℕ) (offset : ℕ) (reason : Reason) → (n ≤ length bytes) ⊎ (3 ≤ length bytes) → (version_and_type versions order n).Break bytes n offset reason → ⊥
+version_and_type_whole versions order n bytes offset reason enough = by (nat_le (least_length versions) n) (nat_le 3 n) refl refl
   where
     least : (v : Versions) → 2 ≤ least_length v
     least Five = omega arith
@@ -168,7 +168,7 @@ marks_whole versions order n bytes offset reason enough = by (nat_le (least_leng
     many : (m : ℕ) → m ≤ n → m ≤ 3 → m ≤ length bytes
     many m le three = elim enough [ inl a ↦ omega (arith, le, a) | inr b ↦ omega (arith, three, b) ]
 
-    by : (v w : Bool) → nat_le (least_length versions) n ≡ v → nat_le 3 n ≡ w → (marks_with order v w).Break bytes n offset reason → ⊥
+    by : (v w : Bool) → nat_le (least_length versions) n ≡ v → nat_le 3 n ≡ w → (version_and_type_if order v w).Break bytes n offset reason → ⊥
     by false w e f h = h
     by true w e f (inl one) =
         let two : 2 ≤ n = omega (arith, leb-true (least_length versions) n e, least versions) in
@@ -183,9 +183,9 @@ marks_whole versions order n bytes offset reason enough = by (nat_le (least_leng
 
 -- the input ends before it shows the kind
 pub kind_cut : (versions : Versions) (order : Order) (abbreviations : List ℕ) (start n field : ℕ) (old new : Option (List ℕ)) (bytes got : List ℕ) (begun : HasLength order start n bytes) → field ≡ length bytes → length got ≤ n
-    → Consumes old new got → ((n ≤ length got) ⊎ (3 ≤ length got)) ⊎ IsAtEnd new → (own : ℕ) (reason : Reason) → (marks versions order n).Break got n own reason
+    → Consumes old new got → ((n ≤ length got) ⊎ (3 ≤ length got)) ⊎ IsAtEnd new → (own : ℕ) (reason : Reason) → (version_and_type versions order n).Break got n own reason
     → TakesNoItem versions order abbreviations start (behind bytes old) new (fault_at (start + field + own) reason)
-kind_cut versions order abbreviations start n field old new bytes got begun field_is inside took (inl whole) own reason breaks = absurd (marks_whole versions order n got own reason whole breaks)
+kind_cut versions order abbreviations start n field old new bytes got begun field_is inside took (inl whole) own reason breaks = absurd (version_and_type_whole versions order n got own reason whole breaks)
 kind_cut versions order abbreviations start n field old new bytes got begun field_is inside took (inr end) own reason breaks =
     let f : Format = begun.format in
     let all : List ℕ = (bytes ++ got) ++ left_of new in

@@ -20,8 +20,8 @@ use Rattle.dw_header.specs.Header.{bad_version_under, bad_type, five_part, field
 use Rattle.dw_header.specs.HeaderPlace.{HeaderBreaksUnder}
 use Rattle.dw_unit.specs.Unit.{left_behind}
 use Rattle.dw_header.specs.Header.{context_of}
-use Rattle.dw_section.specs.Item.{Marks, marks_with, least_length, is_type, is_four, is_known, ShowsKind, IsKnown, ItemFails}
-use Rattle.dw_section.specs.ItemPlace.{fits_alone, marks_cut}
+use Rattle.dw_section.specs.Item.{VersionAndType, version_and_type_if, least_length, is_type, is_four, is_known, ShowsKind, IsKnown, ItemFails}
+use Rattle.dw_section.specs.ItemPlace.{fits_alone, version_and_type_cut}
 use Rattle.dw_section.specs.Laws.{NoKindFaults}
 use Rattle.dw_section.proofs.NeverKind.{refuses_kind, NotKind, same_reason, After_never_kind, Short_never_kind, initial_length_never_kind, behind_type, behind_type_never_kind, four_never_kind, entries_never_kind, table_is_none}
 
@@ -56,7 +56,7 @@ module _ (versions : Versions) (order : Order) (bytes : List ℕ) (n size : ℕ)
         split = split ∙ append_assoc (fixed_bytes order 2 version) (fixed_bytes order 1 type) more ∙ ap (λ (m : ℕ). fixed_bytes order 2 m ++ (fixed_bytes order 1 type ++ more)) is;
       }
 
-  version_begins : (type : Option ℕ) → Taken (marks_with order true room) bytes n (Some (version, type)) size → (four : Bool) → is_four versions version ≡ four → (if four then true else is_type type) ≡ true
+  version_begins : (type : Option ℕ) → Taken (version_and_type_if order true room) bytes n (Some (version, type)) size → (four : Bool) → is_four versions version ≡ four → (if four then true else is_type type) ≡ true
       → BeginsFour versions order bytes ⊎ BeginsFive order bytes
   version_begins type t true e known =
       let is = four_is versions version e in
@@ -70,14 +70,14 @@ module _ (versions : Versions) (order : Order) (bytes : List ℕ) (n size : ℕ)
       )
   version_begins type t false e known = inr (five_begins type (version == 5 && room) refl t.fits.1 known t.rest t.split)
 
-marks_begin : (versions : Versions) (order : Order) (bytes : List ℕ) (n size : ℕ) (v room : Bool) (seen : Option Marks) → Taken (marks_with order v room) bytes n seen size → is_known versions seen ≡ true
+version_and_type_begin : (versions : Versions) (order : Order) (bytes : List ℕ) (n size : ℕ) (v room : Bool) (seen : Option VersionAndType) → Taken (version_and_type_if order v room) bytes n seen size → is_known versions seen ≡ true
     → BeginsFour versions order bytes ⊎ BeginsFive order bytes
-marks_begin versions order bytes n size v room None t known = absurd cc
-marks_begin versions order bytes n size false room (Some (version, type)) t known = absurd t.fits
-marks_begin versions order bytes n size true room (Some (version, type)) t known = version_begins versions order bytes n size room version type t (is_four versions version) refl known
+version_and_type_begin versions order bytes n size v room None t known = absurd cc
+version_and_type_begin versions order bytes n size false room (Some (version, type)) t known = absurd t.fits
+version_and_type_begin versions order bytes n size true room (Some (version, type)) t known = version_begins versions order bytes n size room version type t (is_four versions version) refl known
 
 known_begins : (versions : Versions) (order : Order) (n : ℕ) (bytes : List ℕ) → ShowsKind versions order n bytes true → BeginsFour versions order bytes ⊎ BeginsFive order bytes
-known_begins versions order n bytes h = marks_begin versions order bytes n h.size (nat_le (least_length versions) n) (nat_le 3 n) h.seen h.taken h.is
+known_begins versions order n bytes h = version_and_type_begin versions order bytes n h.size (nat_le (least_length versions) n) (nat_le 3 n) h.seen h.taken h.is
 
 -- ---- its fields
 
@@ -143,7 +143,7 @@ header_breaks versions order start bytes (format, n, rest, begins, shows) offset
 
 item_fails : (versions : Versions) (order : Order) (abbreviations : List ℕ) (start : ℕ) (bytes : List ℕ) (s : SectionId) (offset : ℕ) (reason : Reason) → ItemFails versions order abbreviations start bytes s offset reason → NotKind reason
 item_fails versions order abbreviations start bytes Info offset reason (inl (own, sum, breaks)) = initial_length_never_kind order start bytes length_limit own reason breaks
-item_fails versions order abbreviations start bytes Info offset reason (inr (inl (format, n, rest, own, begins, sum, breaks))) = same_reason reason Truncated (marks_cut versions order n rest own reason breaks) refl
+item_fails versions order abbreviations start bytes Info offset reason (inr (inl (format, n, rest, own, begins, sum, breaks))) = same_reason reason Truncated (version_and_type_cut versions order n rest own reason breaks) refl
 item_fails versions order abbreviations start bytes Info offset reason (inr (inr (inl (format, n, rest, begins, shows, cut, sum, why)))) = same_reason reason Truncated why refl
 item_fails versions order abbreviations start bytes Info offset reason (inr (inr (inr (known, (own, sum, inl header))))) = header_breaks versions order start bytes known own reason header
 item_fails versions order abbreviations start bytes Info offset reason (inr (inr (inr (known, (own, sum, inr body))))) =

@@ -21,21 +21,21 @@ use Rattle.dw_header.specs.declared.versions.Versions.{Versions}
 use Rattle.dw_unit.specs.Unit.{WholeUnit, body_bytes, bytes_of}
 use Rattle.dw_unit.specs.ReadUnit.{Answer, Unit, Fault, read_unit_under}
 use Rattle.dw_unit.specs.DecideUnit.{AnswerSays, unit_take, unit_fault, unit_says, fault_stays}
-use Rattle.dw_section.specs.Item.{Item, Known, Other, item_bytes, Marks, least_length, marks, is_known, ShowsKind, HasInitialLength, OtherFits, KnownFits, ItemFits, HoldsTable, IsKnown, ItemFails}
+use Rattle.dw_section.specs.Item.{Item, Known, Other, item_bytes, VersionAndType, least_length, version_and_type, is_known, ShowsKind, HasInitialLength, OtherFits, KnownFits, ItemFits, HoldsTable, IsKnown, ItemFails}
 use Rattle.dw_section.specs.ItemPlace.{shows_more, unit_shows, known_there, other_there}
-use Rattle.dw_section.specs.ReadSection.{read_marks, ItemAnswer, IsItem, IsFault, answer_known, answer_other, answer_kind, answer_marks, answer_begin, read_item}
+use Rattle.dw_section.specs.ReadSection.{read_version_and_type, ItemAnswer, IsItem, IsFault, answer_known, answer_other, answer_kind, answer_version_and_type, answer_begin, read_item}
 
 -- ---- what shows the kind
 
-pub marks_decides : (versions : Versions) (order : Order) (n : ℕ)
-    → Decides (marks versions order n) (read_marks versions order n)
-marks_decides versions order n =
+pub version_and_type_decides : (versions : Versions) (order : Order) (n : ℕ)
+    → Decides (version_and_type versions order n) (read_version_and_type versions order n)
+version_and_type_decides versions order n =
     optional_decides (nat_le (least_length versions) n) _ _
     (then_decides _ _ _ _ (fixed_decides order 2)
     (λ version. optional_decides (version == 5 && nat_le 3 n) (fixed order 1) _ (fixed_decides order 1)))
 
-pub marks_stay : (versions : Versions) (order : Order) (n : ℕ) → Stays (marks versions order n).Break
-marks_stay versions order n =
+pub version_and_type_stay : (versions : Versions) (order : Order) (n : ℕ) → Stays (version_and_type versions order n).Break
+version_and_type_stay versions order n =
     optional_stays (nat_le (least_length versions) n)
     (fixed order 2 then λ version. optional (version == 5 && nat_le 3 n) (fixed order 1))
     (then_stays (fixed order 2) (λ version. optional (version == 5 && nat_le 3 n) (fixed order 1)) (Short_stays 2)
@@ -49,7 +49,7 @@ len_bytes order format n = (length_field order).spell (format, n)
 module _ (versions : Versions) (order : Order) (abbreviations : List ℕ) (start : ℕ) (bytes : List ℕ) (format : Format)
     (n : ℕ) (rest : List ℕ) (begins : HasInitialLength order start bytes format n rest) where
   begin_at : read_item versions order abbreviations start bytes
-      ≡ answer_marks versions order abbreviations start bytes format n (read_marks versions order n rest n)
+      ≡ answer_version_and_type versions order abbreviations start bytes format n (read_version_and_type versions order n rest n)
   unfolding read_item
   begin_at =
       let s : List ℕ = len_bytes order format n in
@@ -60,7 +60,7 @@ module _ (versions : Versions) (order : Order) (abbreviations : List ℕ) (start
       (initial_within order start format n))
       ∙ ap
       (λ (b : List ℕ).
-      answer_marks versions order abbreviations start bytes format n (read_marks versions order n b n))
+      answer_version_and_type versions order abbreviations start bytes format n (read_version_and_type versions order n b n))
       d
 
   kind_at : (known : Bool) → ShowsKind versions order n rest known
@@ -70,10 +70,10 @@ module _ (versions : Versions) (order : Order) (abbreviations : List ℕ) (start
       begin_at
       ∙ ap
       (λ (b : List ℕ).
-      answer_marks versions order abbreviations start bytes format n (read_marks versions order n b n))
+      answer_version_and_type versions order abbreviations start bytes format n (read_version_and_type versions order n b n))
       t.taken.split
-      ∙ ap (answer_marks versions order abbreviations start bytes format n)
-      ((marks_decides versions order n).takes t.seen t.taken.rest n t.taken.fits
+      ∙ ap (answer_version_and_type versions order abbreviations start bytes format n)
+      ((version_and_type_decides versions order n).takes t.seen t.taken.rest n t.taken.fits
       (omega (arith, t.taken.is_size, t.taken.within)))
       ∙ ap (answer_kind versions order abbreviations start bytes format n) t.is
 
@@ -146,8 +146,8 @@ item_fault versions order abbreviations start bytes Info offset reason (inl (own
 item_fault versions order abbreviations start bytes Info offset reason
     (inr (inl (format, n, rest, own, begins, sum, breaks))) =
     begin_at versions order abbreviations start bytes format n rest begins
-    ∙ ap (answer_marks versions order abbreviations start bytes format n)
-    ((marks_decides versions order n).faults rest n own reason breaks)
+    ∙ ap (answer_version_and_type versions order abbreviations start bytes format n)
+    ((version_and_type_decides versions order n).faults rest n own reason breaks)
     ∙ ap (λ (m : ℕ). IsFault Info m reason) (sym sum)
 item_fault versions order abbreviations start bytes Info offset reason
     (inr (inr (inl (format, n, rest, begins, shows, cut, sum, why)))) =
@@ -210,12 +210,12 @@ module _ (versions : Versions) (order : Order) (abbreviations : List ℕ) (start
             (drop m bytes, sym (take-append-drop m bytes), length-take-le m bytes le),
           )
 
-  marks_say : AreBytes abbreviations → AreBytes bytes → (o : Outcome (Option Marks))
-      → Says (marks versions order n) rest n o
+  version_and_type_say : AreBytes abbreviations → AreBytes bytes → (o : Outcome (Option VersionAndType))
+      → Says (version_and_type versions order n) rest n o
       → ItemSays versions order abbreviations start bytes
-      (answer_marks versions order abbreviations start bytes format n o)
-  marks_say fit_s fit (Broken own reason) h = inr (inl (format, n, rest, own, begins, refl, h))
-  marks_say fit_s fit (Found m size) h = by (is_known versions m) refl
+      (answer_version_and_type versions order abbreviations start bytes format n o)
+  version_and_type_say fit_s fit (Broken own reason) h = inr (inl (format, n, rest, own, begins, refl, h))
+  version_and_type_say fit_s fit (Found m size) h = by (is_known versions m) refl
     where
       by : (v : Bool) → is_known versions m ≡ v
           → ItemSays versions order abbreviations start bytes
@@ -236,9 +236,9 @@ begin_says versions order abbreviations start bytes fit_s fit (Found x size) h =
     let d : drop size bytes ≡ h.rest = ap (λ (t : List ℕ). drop size t) h.split ∙ drop_at s h.rest size h.is_size in
     let begins : HasInitialLength order start bytes x.0 x.1 h.rest = record { fits = h.fits; split = h.split } in
     rw d
-    (marks_say versions order abbreviations start bytes x.0 x.1 h.rest begins fit_s fit
-    (read_marks versions order x.1 h.rest x.1)
-    ((marks_decides versions order x.1).says h.rest x.1 (AreBytes-behind s h.rest (rw h.split at fit))))
+    (version_and_type_say versions order abbreviations start bytes x.0 x.1 h.rest begins fit_s fit
+    (read_version_and_type versions order x.1 h.rest x.1)
+    ((version_and_type_decides versions order x.1).says h.rest x.1 (AreBytes-behind s h.rest (rw h.split at fit))))
 
 -- the reader's answer is always right
 pub item_says : (versions : Versions) (order : Order) (abbreviations : List ℕ) (start : ℕ) (bytes : List ℕ)
@@ -287,7 +287,7 @@ item_stays versions order abbreviations start bytes more Info offset reason ne
       own,
       begins_stay order start bytes more format n rest begins,
       sum,
-      marks_stay versions order n rest more n own reason (ne refl) breaks,
+      version_and_type_stay versions order n rest more n own reason (ne refl) breaks,
     ))
 item_stays versions order abbreviations start bytes more Info offset reason ne
     (inr (inr (inl (format, n, rest, begins, shows, cut, sum, why)))) =

@@ -28,8 +28,8 @@ item_bytes (Other bytes) = bytes
 -- ---- of which kind an item is
 
 -- a version, and a unit type where the version is 5
-abbrev pub Marks : Type 0
-Marks = ℕ × Option ℕ
+abbrev pub VersionAndType : Type 0
+VersionAndType = ℕ × Option ℕ
 
 -- the least unit_length that an item of a known kind may have
 abbrev pub least_length : Versions → ℕ
@@ -38,13 +38,13 @@ least_length FourAndFive = 2
 
 -- a version, and a unit type where the version is 5 and there is room for one; nothing where there is none for a
 -- version
-abbrev pub marks_with : Order → Bool → Bool → Part (Option Marks)
-marks_with order room room_for_type =
+abbrev pub version_and_type_if : Order → Bool → Bool → Part (Option VersionAndType)
+version_and_type_if order room room_for_type =
     optional room (fixed order 2 then λ version. optional (version == 5 && room_for_type) (fixed order 1))
 
 -- what shows the kind of an item with n bytes behind its length field
-abbrev pub marks : Versions → Order → ℕ → Part (Option Marks)
-marks versions order n = marks_with order (nat_le (least_length versions) n) (nat_le 3 n)
+abbrev pub version_and_type : Versions → Order → ℕ → Part (Option VersionAndType)
+version_and_type versions order n = version_and_type_if order (nat_le (least_length versions) n) (nat_le 3 n)
 
 -- the unit types of the standard that are no split units'
 abbrev pub is_type : Option ℕ → Bool
@@ -55,15 +55,15 @@ abbrev pub is_four : Versions → ℕ → Bool
 is_four Five version = false
 is_four FourAndFive version = version == 4
 
-abbrev pub is_known : Versions → Option Marks → Bool
+abbrev pub is_known : Versions → Option VersionAndType → Bool
 is_known versions None = false
 is_known versions (Some m) = if is_four versions m.0 then true else is_type m.1
 
 -- behind a length n the bytes show whether the item is of a known kind
 pub record ShowsKind (versions : Versions) (order : Order) (n : ℕ) (bytes : List ℕ) (known : Bool) : Type 0 where
-  pub seen : Option Marks
+  pub seen : Option VersionAndType
   pub size : ℕ
-  pub taken : Taken (marks versions order n) bytes n seen size
+  pub taken : Taken (version_and_type versions order n) bytes n seen size
   pub is : is_known versions seen ≡ known
 
 -- ---- which items fit at a start
@@ -109,7 +109,7 @@ LengthBreaks order start bytes offset reason =
 abbrev pub KindBreaks : Versions → Order → ℕ → List ℕ → ℕ → Reason → Type 0
 KindBreaks versions order start bytes offset reason =
     (format : Format) × (n : ℕ) × (rest : List ℕ) × (own : ℕ) × HasInitialLength order start bytes format n rest
-    × (offset ≡ start + length_size format + own) × (marks versions order n).Break rest n own reason
+    × (offset ≡ start + length_size format + own) × (version_and_type versions order n).Break rest n own reason
 
 -- the bytes of an item of no known kind are cut: one field, at its first byte
 abbrev pub OtherCut : Versions → Order → ℕ → List ℕ → ℕ → Reason → Type 0

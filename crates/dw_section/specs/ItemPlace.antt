@@ -23,7 +23,7 @@ use Rattle.dw_header.specs.declared.versions.Versions.TheVariants.{Five, FourAnd
 use Rattle.dw_header.specs.Header.{Accepts, fields, context_of}
 use Rattle.dw_tree.specs.Tree.{nulls, unit_tree}
 use Rattle.dw_unit.specs.Unit.{WholeUnit, UnitFrontUnder, body_bytes}
-use Rattle.dw_section.specs.Item.{Item, Known, Other, item_bytes, least_length, marks_with, marks, is_type, is_known, ShowsKind, HasInitialLength, ItemFits}
+use Rattle.dw_section.specs.Item.{Item, Known, Other, item_bytes, least_length, version_and_type_if, version_and_type, is_type, is_known, ShowsKind, HasInitialLength, ItemFits}
 
 -- ---- a length at a start
 
@@ -56,7 +56,7 @@ shows_more versions order n bytes more known t = record {
     fits = t.taken.fits;
     split =
         ap (λ (b : List ℕ). b ++ more) t.taken.split
-        ∙ append_assoc ((marks versions order n).spell t.seen) t.taken.rest more;
+        ∙ append_assoc ((version_and_type versions order n).spell t.seen) t.taken.rest more;
     is_size = t.taken.is_size;
     within = t.taken.within;
   };
@@ -67,7 +67,7 @@ shows_more versions order n bytes more known t = record {
 pub shows_less : (versions : Versions) (order : Order) (n : ℕ) (bytes : List ℕ) (known : Bool) → n ≤ length bytes
     → ShowsKind versions order n bytes known → ShowsKind versions order n (take n bytes) known
 shows_less versions order n bytes known le t =
-    let s : List ℕ = (marks versions order n).spell t.seen in
+    let s : List ℕ = (version_and_type versions order n).spell t.seen in
     let n_is : n ≡ length s + (n - length s) = omega (arith, t.taken.is_size, t.taken.within) in
     record {
       seen = t.seen;
@@ -92,9 +92,9 @@ shows_five versions order n type rest low small known = record {
   seen = Some (5, Some type);
   size = 3;
   taken =
-      subst (λ (b : Bool). Taken (marks_with order b (nat_le 3 n)) bytes n (Some (5, Some type)) 3)
+      subst (λ (b : Bool). Taken (version_and_type_if order b (nat_le 3 n)) bytes n (Some (5, Some type)) 3)
       (sym (le-leb (least_length versions) n (room versions)))
-      (subst (λ (b : Bool). Taken (marks_with order true b) bytes n (Some (5, Some type)) 3) (sym (le-leb 3 n low))
+      (subst (λ (b : Bool). Taken (version_and_type_if order true b) bytes n (Some (5, Some type)) 3) (sym (le-leb 3 n low))
       there);
   is = five versions;
 }
@@ -110,7 +110,7 @@ shows_five versions order n type rest low small known = record {
     five Five = known
     five FourAndFive = known
 
-    there : Taken (marks_with order true true) bytes n (Some (5, Some type)) 3
+    there : Taken (version_and_type_if order true true) bytes n (Some (5, Some type)) 3
     there = record {
       rest = rest;
       fits = (omega arith, small);
@@ -129,12 +129,12 @@ shows_four order n rest low = record {
   seen = Some (4, None);
   size = 2;
   taken =
-      subst (λ (b : Bool). Taken (marks_with order b (nat_le 3 n)) (fixed_bytes order 2 4 ++ rest) n (Some (4, None)) 2)
+      subst (λ (b : Bool). Taken (version_and_type_if order b (nat_le 3 n)) (fixed_bytes order 2 4 ++ rest) n (Some (4, None)) 2)
       (sym (le-leb 2 n low)) there;
   is = refl;
 }
   where
-    there : Taken (marks_with order true (nat_le 3 n)) (fixed_bytes order 2 4 ++ rest) n (Some (4, None)) 2
+    there : Taken (version_and_type_if order true (nat_le 3 n)) (fixed_bytes order 2 4 ++ rest) n (Some (4, None)) 2
     there = record {
       rest = rest;
       fits = (omega arith, tt);
@@ -207,9 +207,9 @@ unit_shows versions u more ok =
     (rest_of_unit u) more ok
 
 -- what shows the kind is never past the item's end: it breaks for want of bytes alone
-pub marks_cut : (versions : Versions) (order : Order) (n : ℕ) (bytes : List ℕ) (offset : ℕ) (reason : Reason)
-    → (marks versions order n).Break bytes n offset reason → reason ≡ Truncated
-marks_cut versions order n bytes offset reason = by (nat_le (least_length versions) n) (nat_le 3 n) refl refl
+pub version_and_type_cut : (versions : Versions) (order : Order) (n : ℕ) (bytes : List ℕ) (offset : ℕ) (reason : Reason)
+    → (version_and_type versions order n).Break bytes n offset reason → reason ≡ Truncated
+version_and_type_cut versions order n bytes offset reason = by (nat_le (least_length versions) n) (nat_le 3 n) refl refl
   where
     least : (v : Versions) → 2 ≤ least_length v
     least Five = omega arith
@@ -229,7 +229,7 @@ marks_cut versions order n bytes offset reason = by (nat_le (least_length versio
     room_of false w e = absurd cc
 
     by : (v w : Bool) → nat_le (least_length versions) n ≡ v → nat_le 3 n ≡ w
-        → (marks_with order v w).Break bytes n offset reason → reason ≡ Truncated
+        → (version_and_type_if order v w).Break bytes n offset reason → reason ≡ Truncated
     by false w e f h = absurd h
     by true w e f (inl one) =
         of_short 2 n bytes offset (omega (arith, leb-true (least_length versions) n e, least versions)) one

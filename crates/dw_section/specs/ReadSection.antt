@@ -11,10 +11,10 @@ use Rattle.dw_leb.specs.Reader.{Outcome, Found, Broken, Reader, ◌and_then◌, 
 use Rattle.dw_leb.specs.ReadNumber.{read_fixed, read_length}
 use Rattle.dw_header.specs.declared.versions.Versions.{Versions}
 use Rattle.dw_unit.specs.ReadUnit.{Answer, Unit, Fault, read_unit_under}
-use Rattle.dw_section.specs.Item.{Item, Known, Other, Marks, least_length, is_known}
+use Rattle.dw_section.specs.Item.{Item, Known, Other, VersionAndType, least_length, is_known}
 
-abbrev pub read_marks : Versions → Order → ℕ → Reader (Option Marks)
-read_marks versions order n =
+abbrev pub read_version_and_type : Versions → Order → ℕ → Reader (Option VersionAndType)
+read_version_and_type versions order n =
     read_optional (nat_le (least_length versions) n)
     (read_fixed order 2 and_then λ version. read_optional (version == 5 && nat_le 3 n) (read_fixed order 1))
 
@@ -43,15 +43,15 @@ answer_kind versions order abbreviations start bytes format n true =
     answer_known start (read_unit_under versions order abbreviations bytes)
 answer_kind versions order abbreviations start bytes format n false = answer_other start bytes (length_size format) n
 
-abbrev pub answer_marks : Versions → Order → List ℕ → ℕ → List ℕ → Format → ℕ → Outcome (Option Marks) → ItemAnswer
-answer_marks versions order abbreviations start bytes format n (Found m size) =
+abbrev pub answer_version_and_type : Versions → Order → List ℕ → ℕ → List ℕ → Format → ℕ → Outcome (Option VersionAndType) → ItemAnswer
+answer_version_and_type versions order abbreviations start bytes format n (Found m size) =
     answer_kind versions order abbreviations start bytes format n (is_known versions m)
-answer_marks versions order abbreviations start bytes format n (Broken own reason) =
+answer_version_and_type versions order abbreviations start bytes format n (Broken own reason) =
     IsFault Info (start + length_size format + own) reason
 
 abbrev pub answer_begin : Versions → Order → List ℕ → ℕ → List ℕ → Outcome (Format × ℕ) → ItemAnswer
 answer_begin versions order abbreviations start bytes (Found x field) =
-    answer_marks versions order abbreviations start bytes x.0 x.1 (read_marks versions order x.1 (drop field bytes) x.1)
+    answer_version_and_type versions order abbreviations start bytes x.0 x.1 (read_version_and_type versions order x.1 (drop field bytes) x.1)
 answer_begin versions order abbreviations start bytes (Broken own reason) = IsFault Info (start + own) reason
 
 unfoldable pub read_item : Versions → Order → List ℕ → ℕ → List ℕ → ItemAnswer

@@ -10,7 +10,7 @@ use Rattle.dw_leb.specs.declared.order.Order.{Order}
 use Rattle.dw_leb.specs.declared.order.Format.{Format}
 use Rattle.dw_header.specs.declared.versions.Versions.{Versions}
 use Rattle.dw_leb.specs.Number.{initial_length, length_limit, length_size}
-use Rattle.dw_section.specs.Item.{Item, item_bytes, marks, ShowsKind, HasInitialLength, ItemFits, HoldsTable, ItemFails}
+use Rattle.dw_section.specs.Item.{Item, item_bytes, version_and_type, ShowsKind, HasInitialLength, ItemFits, HoldsTable, ItemFails}
 use Rattle.dw_section.specs.Section.{items_bytes, ItemsFit, HoldsTables, SectionIs, SectionFails}
 
 -- of all the bytes these items are read, and those are left
@@ -91,7 +91,7 @@ length_fault versions order abbreviations start left own reason breaks = inl (ow
 pub kind_fault : (versions : Versions) (order : Order) (abbreviations : List ℕ) (start : ℕ) (left : List ℕ)
     (format : Format) (n : ℕ) (rest : List ℕ) (own : ℕ) (reason : Reason)
     → HasInitialLength order start left format n rest
-    → (marks versions order n).Break rest n own reason
+    → (version_and_type versions order n).Break rest n own reason
     → ItemFails versions order abbreviations start left Info (start + length_size format + own) reason
 kind_fault versions order abbreviations start left format n rest own reason begins breaks =
     inr (inl (format, n, rest, own, begins, refl, breaks))

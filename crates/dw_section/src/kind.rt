@@ -3,8 +3,8 @@ ghost use Rattle.std.specs.Prelude.{◌≡◌, ◌≤◌, length, IfOk, IfErr};
 ghost use Rattle.dw_leb.specs.Reader.{made};
 ghost use Rattle.dw_leb.specs.ReadNumber.{read_fixed as fixed_reader};
 ghost use Rattle.dw_leb.specs.Outcomes.{outcome_from};
-ghost use Rattle.dw_section.specs.Item.{least_length, marks, is_four, is_known, ShowsKind};
-ghost use Rattle.dw_section.specs.ReadSection.{read_marks};
+ghost use Rattle.dw_section.specs.Item.{least_length, version_and_type, is_four, is_known, ShowsKind};
+ghost use Rattle.dw_section.specs.ReadSection.{read_version_and_type};
 
 use dw_leb::{Bad, Order, read_fixed};
 use dw_unit::Versions;
@@ -15,7 +15,7 @@ use dw_unit::Versions;
 /// An error is `Truncated`, where the input ends before the version or the unit type.
 pub(crate) fn shows_known(versions: Versions, order: Order, n: u64, b: &[u8]) -> Result<bool, Bad>
     ensures found { IfOk result (λ known. ShowsKind versions order n b.now known) }
-    ensures broken { IfErr result (λ e. (marks versions order n).Break b.now n e.offset e.reason) }
+    ensures broken { IfErr result (λ e. (version_and_type versions order n).Break b.now n e.offset e.reason) }
     ensures near { IfErr result (λ e. e.offset ≤ 2) }
 {
     match marked(versions, order, n, b) {
@@ -26,7 +26,7 @@ pub(crate) fn shows_known(versions: Versions, order: Order, n: u64, b: &[u8]) ->
 
 /// The same, and how many bytes show it.
 fn marked(versions: Versions, order: Order, n: u64, b: &[u8]) -> Result<(bool, usize), Bad>
-    ensures exact { made (is_known versions) (read_marks versions order n) b.now n ≡ outcome_from (λ x. x) result }
+    ensures exact { made (is_known versions) (read_version_and_type versions order n) b.now n ≡ outcome_from (λ x. x) result }
     ensures near { IfErr result (λ e. e.offset ≤ 2) }
 {
     if n < least_length(versions) {

@@ -1,6 +1,6 @@
 use Rattle.std.proofs.Common.{◌∙◌, refl, sym}
 use Rattle.dw_check.specs.Place.{unit_in}
-use Rattle.dw_check.proofs.Behind.{next_found, marks_end}
+use Rattle.dw_check.proofs.Behind.{next_found, repeats_end}
 use Rattle.dw_check.proofs.section.check_entry.Goals as goal
 
 pub loop-repeated-preserved-in-Some-next_number : goal.loop-repeated-preserved-in-Some-next_number
@@ -19,5 +19,5 @@ loop-repeated-preserved c =
 
 pub returns : goal.returns
 returns c =
-    marks_end (unit_in c.args.place.now) c.args.entry.now c.args.found.now.items c.loop-repeated.found.items c.loop-repeated.position c.loop-repeated.attributes c.loop-repeated.left.now c.args.marks.now
+    repeats_end (unit_in c.args.place.now) c.args.entry.now c.args.found.now.items c.loop-repeated.found.items c.loop-repeated.position c.loop-repeated.attributes c.loop-repeated.left.now c.args.repeats.now
     c.loop-repeated.invariant c.in_default.ensures.cases

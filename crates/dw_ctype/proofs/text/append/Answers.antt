@@ -5,4 +5,4 @@ use Rattle.dw_ctype.proofs.SameNames.{said_same}
 use Rattle.dw_ctype.proofs.text.append.Goals as goal
 
 pub returns : goal.returns
-returns c = puts_text (sym (said_same c.args.section.now.items (sections_of c.args.strings.now) (sections_of c.ended-texts.result) c.ended-texts.ensures 64 c.args.typed c.args.name.now)) c.say.ensures
+returns c = puts_text (sym (said_same c.args.section.now.items (sections_of c.args.strings.now) (sections_of c.trimmed-texts.result) c.trimmed-texts.ensures 64 c.args.typed c.args.name.now)) c.say.ensures

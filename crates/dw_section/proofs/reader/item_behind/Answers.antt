@@ -6,7 +6,7 @@ use Rattle.dw_leb.specs.declared.errors.ReadError.{ReadError}
 use Rattle.dw_feed.specs.Feed.{behind}
 use Rattle.dw_feed.specs.Taking.{behind_taken, kept_more}
 use Rattle.dw_section.specs.declared.item.Item.{Item as TheItem}
-use Rattle.dw_section.specs.Item.{marks, ShowsKind}
+use Rattle.dw_section.specs.Item.{version_and_type, ShowsKind}
 use Rattle.dw_section.specs.ItemView.{item_of}
 use Rattle.dw_section.specs.Reads.{HasKind, TakesNoItem}
 use Rattle.dw_section.proofs.ItemReads.{behind_field, both_taken, enough, item_from, kept_from, kind_cut, kind_taken, no_item_from, rest_failed}
@@ -108,7 +108,7 @@ returns-in-Err-clause-broken g c =
     let mid = g.R.Read.remaining (inner_of c.read_up_to.new.reader) in
     let field : length c.as_slice-field.result.now ≡ length bytes = ap length c.as_slice-field.ensures.value in
     let marked = behind_field bytes h.0 c.as_slice.result.now (length c.as_slice-field.result.now) field (c.as_slice.ensures.value ∙ h.1) in
-    let breaks = subst (λ (b : List ℕ). (marks c.args.start.versions c.args.start.order c.args.n).Break b c.args.n c.in-Err.e.offset c.in-Err.e.reason) marked c.in-Err.ensures.broken in
+    let breaks = subst (λ (b : List ℕ). (version_and_type c.args.start.versions c.args.start.order c.args.n).Break b c.args.n c.in-Err.e.offset c.in-Err.e.reason) marked c.in-Err.ensures.broken in
     let whole : ((c.args.n ≤ length h.0) ⊎ (3 ≤ length h.0)) ⊎ IsAtEnd mid = elim h.4 [ inl all ↦ inl (enough c.args.n (length h.0) c.min.result all c.min.ensures) | inr end ↦ inr end ] in
     subst (λ (e : ReadError). TakesNoItem c.args.start.versions c.args.start.order c.args.tables.now c.args.start.offset (behind bytes old) mid e) (sym c.fault_at.ensures)
     (kind_cut c.args.start.versions c.args.start.order c.args.tables.now c.args.start.offset c.args.n (length c.as_slice-field.result.now) old mid bytes h.0 c.requires.begun field (omega (arith, h.2, c.min.ensures)) h.3 whole c.in-Err.e.offset c.in-Err.e.reason breaks)

@@ -1,5 +1,0 @@
-use Rattle.dw_feed.specs.FieldSteps.{waits_fronts}
-use Rattle.dw_feed.proofs.coming.Coming.step.Goals as goal
-
-pub code-requires-clause-waits : goal.code-requires-clause-waits
-code-requires-clause-waits c = waits_fronts c.args.self.now c.requires.waits
