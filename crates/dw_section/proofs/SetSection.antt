@@ -213,7 +213,7 @@ module _ (items : List TheItem) {order : Order} {versions : Versions} {starts : 
     {types : List (ℕ × EntryId)} {end : ℕ}
     (is : IsSection (record { order = order; versions = versions; items = map item_of items }) starts bases types end)
     {s : WholeSection} (view : record { order = order; versions = versions; items = map item_of items } ≡ s)
-    {id : EntryId} {name : ℕ} {x n : ℤ} (same : n ≡ x) {o : Option SetRefusal} (says : o ≡ set_refusal s id name n)
+    (id : EntryId) (name : ℕ) {x n : ℤ} (same : n ≡ x) {o : Option SetRefusal} (says : o ≡ set_refusal s id name n)
     (none : o ≡ None) where
   pub not_now_refused : set_refusal s id name x ≡ None
   not_now_refused = ap (λ (y : ℤ). set_refusal s id name y) (sym same) ∙ (sym says ∙ none)
@@ -224,7 +224,7 @@ module _ (items : List TheItem) {order : Order} {versions : Versions} {starts : 
   there : slice_get (map item_of items) id.item ≡ Some (Known taken.unit)
   there =
       known_there (map item_of items) id.item taken.unit
-        (subst (λ (w : WholeSection). unit_at w.items id.item ≡ Some taken.unit) (sym view) taken.there)
+      (subst (λ (w : WholeSection). unit_at w.items id.item ≡ Some taken.unit) (sym view) taken.there)
 
   pub item_within : id.item < length items
   item_within = item_bound items id.item (Known taken.unit) there
@@ -232,7 +232,7 @@ module _ (items : List TheItem) {order : Order} {versions : Versions} {starts : 
   pub base_within : id.item < length bases
   base_within =
       omega
-        (arith, item_within, ap length is.bases_are, length-map (map item_of items) base_in, length-map items item_of)
+      (arith, item_within, ap length is.bases_are, length-map (map item_of items) base_in, length-map items item_of)
 
   module _ {old : TheItem} (old_there : old ≡ get_or items id.item old) where
     old_is : item_of old ≡ Known taken.unit
@@ -242,7 +242,7 @@ module _ (items : List TheItem) {order : Order} {versions : Versions} {starts : 
     unit_takes =
         (taken.unit, old_is, subst (λ (y : ℤ). Takes (edit_of id name y) (tree_of taken.unit)) (sym same) taken.takes)
 
-    module _ {new : TheItem} (put_is : item_of new ≡ put_in_item (edit_of id name n) (item_of old))
+    module _ (new : TheItem) (put_is : item_of new ≡ put_in_item (edit_of id name n) (item_of old))
         (keeps : ItemKept (item_of old) (item_of new)) where
       put_here : item_of new ≡ put_in_item (edit_of id name x) (item_of old)
       put_here = put_is ∙ ap (λ (y : ℤ). put_in_item (edit_of id name y) (item_of old)) same
@@ -253,12 +253,12 @@ module _ (items : List TheItem) {order : Order} {versions : Versions} {starts : 
       kept : ItemKept (Known taken.unit) (put_in_item (edit_of id name x) (Known taken.unit))
       kept =
           subst (λ (z : Item). ItemKept (Known taken.unit) z) new_is
-            (subst (λ (z : Item). ItemKept z (item_of new)) old_is keeps)
+          (subst (λ (z : Item). ItemKept z (item_of new)) old_is keeps)
 
       items_are : map item_of (set items id.item new) ≡ put_at id.item (edit_of id name x) (map item_of items)
       items_are =
           items_put (edit_of id name x) items id.item old new item_within
-            (put_here ∙ ap (λ (z : TheItem). put_in_item (edit_of id name x) (item_of z)) old_there)
+          (put_here ∙ ap (λ (z : TheItem). put_in_item (edit_of id name x) (item_of z)) old_there)
 
       pub is_edited : record { order = order; versions = versions; items = map item_of (set items id.item new) }
           ≡ edited s id name x
@@ -270,26 +270,26 @@ module _ (items : List TheItem) {order : Order} {versions : Versions} {starts : 
       size_stays =
           ap (λ (ys : List Item). length (items_bytes ys)) items_are
           ∙ (bytes_put (edit_of id name x) (map item_of items) id.item (Known taken.unit) there kept
-            ∙ ap (λ (w : WholeSection). length (section_bytes w)) view)
+          ∙ ap (λ (w : WholeSection). length (section_bytes w)) view)
 
       pub offsets_stay : KeepsOffsets s.items (map item_of (set items id.item new))
       offsets_stay =
           let stays : KeepsOffsets (map item_of items) (map item_of (set items id.item new)) =
-                subst (KeepsOffsets (map item_of items)) (sym items_are)
-                  (offsets_put (edit_of id name x) (map item_of items) id.item (Known taken.unit) there kept) in
+          subst (KeepsOffsets (map item_of items)) (sym items_are)
+          (offsets_put (edit_of id name x) (map item_of items) id.item (Known taken.unit) there kept) in
           subst (λ (w : WholeSection). KeepsOffsets w.items (map item_of (set items id.item new))) view stays
 
       pub tables_stay : (abbreviations : List ℕ) → HoldsTables abbreviations s.items
           → HoldsTables abbreviations (map item_of (set items id.item new))
       tables_stay abbreviations tables =
           subst (HoldsTables abbreviations) (sym items_are)
-            (tables_put (edit_of id name x) abbreviations (map item_of items) id.item
-               (subst (λ (w : WholeSection). HoldsTables abbreviations w.items) (sym view) tables))
+          (tables_put (edit_of id name x) abbreviations (map item_of items) id.item
+          (subst (λ (w : WholeSection). HoldsTables abbreviations w.items) (sym view) tables))
 
       pub is_still : {base : Option ℕ} → base ≡ base_in (item_of new)
           → IsSection (record { order = order; versions = versions; items = map item_of (set items id.item new) }) starts
-              (set bases id.item base) types end
+          (set bases id.item base) types end
       is_still base_is =
           still_section (record { order = order; versions = versions; items = map item_of items }) starts bases types end is
-            (edit_of id name x) id.item (Known taken.unit) there kept _ _ items_are
-            (ap (λ (b : Option ℕ). set bases id.item b) (base_is ∙ ap base_in new_is))
+          (edit_of id name x) id.item (Known taken.unit) there kept _ _ items_are
+          (ap (λ (b : Option ℕ). set bases id.item b) (base_is ∙ ap base_in new_is))

@@ -1,5 +1,5 @@
 use mir.Syntax.{w128}
-use Rattle.std.proofs.Common.{◌≡◌, ℕ, ℤ, refl, sym, ap, subst, ◌∙◌, rules, to_z, of_z}
+use Rattle.std.proofs.Common.{◌≡◌, ℕ, ℤ, refl, sym, ap, subst, ◌∙◌, arith, rules, to_z, of_z}
 use Rattle.std.proofs.lemmas.Int.{to_z-of_z}
 use Rattle.dw_section.specs.Section.{SectionFits}
 use Rattle.dw_section.specs.SectionLaws.{written_is_read}
@@ -22,56 +22,58 @@ returns-in-Some-clause-read_back c abbreviations tables =
 
 pub index_mut-requires : goal.index_mut-requires
 index_mut-requires c =
-    item_within c.self.inside.items.items c.self.invariant c.self.view_is
-      (to_z-of_z w128 c.args.number c.ranges.number) c.refuse_number.ensures (search rules)
+    let w = item_within c.self.inside.items.items c.self.invariant c.self.view_is c.args.id c.args.name
+    (to_z-of_z w128 c.args.number c.ranges.number) c.refuse_number.ensures (search rules) in
+    omega (arith, w)
 
 pub put_in_item-base-requires : goal.put_in_item-base-requires
 put_in_item-base-requires c =
-    unit_takes c.self.inside.items.items c.self.invariant c.self.view_is
-      (to_z-of_z w128 c.args.number c.ranges.number) c.refuse_number.ensures (search rules) c.index_mut.ensures.value
+    unit_takes c.self.inside.items.items c.self.invariant c.self.view_is c.args.id c.args.name
+    (to_z-of_z w128 c.args.number c.ranges.number) c.refuse_number.ensures (search rules) c.index_mut.ensures.value
 
 pub index_mut-requires-2 : goal.index_mut-requires-2
 index_mut-requires-2 c =
-    base_within c.self.inside.items.items c.self.invariant c.self.view_is
-      (to_z-of_z w128 c.args.number c.ranges.number) c.refuse_number.ensures (search rules)
+    let w = base_within c.self.inside.items.items c.self.invariant c.self.view_is c.args.id c.args.name
+    (to_z-of_z w128 c.args.number c.ranges.number) c.refuse_number.ensures (search rules) in
+    omega (arith, w)
 
 pub invariant_of-self : goal.invariant_of-self
 invariant_of-self c =
-    is_still c.self.inside.items.items c.self.invariant c.self.view_is
-      (to_z-of_z w128 c.args.number c.ranges.number) c.refuse_number.ensures (search rules) c.index_mut.ensures.value
-      c.put_in_item-base.ensures.put c.put_in_item-base.ensures.keeps
-      c.put_in_item-base.ensures.base
+    is_still c.self.inside.items.items c.self.invariant c.self.view_is c.args.id c.args.name
+    (to_z-of_z w128 c.args.number c.ranges.number) c.refuse_number.ensures (search rules) c.index_mut.ensures.value
+    c.put_in_item-base.new.item c.put_in_item-base.ensures.put c.put_in_item-base.ensures.keeps
+    c.put_in_item-base.ensures.base
 
 pub returns-clause-set : goal.returns-clause-set
 returns-clause-set c =
-    is_edited c.self.inside.items.items c.self.invariant c.self.view_is
-      (to_z-of_z w128 c.args.number c.ranges.number) c.refuse_number.ensures (search rules) c.index_mut.ensures.value
-      c.put_in_item-base.ensures.put c.put_in_item-base.ensures.keeps
+    is_edited c.self.inside.items.items c.self.invariant c.self.view_is c.args.id c.args.name
+    (to_z-of_z w128 c.args.number c.ranges.number) c.refuse_number.ensures (search rules) c.index_mut.ensures.value
+    c.put_in_item-base.new.item c.put_in_item-base.ensures.put c.put_in_item-base.ensures.keeps
 
 pub returns-clause-allowed : goal.returns-clause-allowed
 returns-clause-allowed c =
-    not_now_refused c.self.inside.items.items c.self.invariant c.self.view_is
-      (to_z-of_z w128 c.args.number c.ranges.number) c.refuse_number.ensures (search rules)
+    not_now_refused c.self.inside.items.items c.self.invariant c.self.view_is c.args.id c.args.name
+    (to_z-of_z w128 c.args.number c.ranges.number) c.refuse_number.ensures (search rules)
 
 pub returns-clause-size : goal.returns-clause-size
 returns-clause-size c =
-    size_stays c.self.inside.items.items c.self.invariant c.self.view_is
-      (to_z-of_z w128 c.args.number c.ranges.number) c.refuse_number.ensures (search rules) c.index_mut.ensures.value
-      c.put_in_item-base.ensures.put c.put_in_item-base.ensures.keeps
+    size_stays c.self.inside.items.items c.self.invariant c.self.view_is c.args.id c.args.name
+    (to_z-of_z w128 c.args.number c.ranges.number) c.refuse_number.ensures (search rules) c.index_mut.ensures.value
+    c.put_in_item-base.new.item c.put_in_item-base.ensures.put c.put_in_item-base.ensures.keeps
 
 pub returns-clause-offsets : goal.returns-clause-offsets
 returns-clause-offsets c =
-    offsets_stay c.self.inside.items.items c.self.invariant c.self.view_is
-      (to_z-of_z w128 c.args.number c.ranges.number) c.refuse_number.ensures (search rules) c.index_mut.ensures.value
-      c.put_in_item-base.ensures.put c.put_in_item-base.ensures.keeps
+    offsets_stay c.self.inside.items.items c.self.invariant c.self.view_is c.args.id c.args.name
+    (to_z-of_z w128 c.args.number c.ranges.number) c.refuse_number.ensures (search rules) c.index_mut.ensures.value
+    c.put_in_item-base.new.item c.put_in_item-base.ensures.put c.put_in_item-base.ensures.keeps
 
 pub returns-clause-read_back : goal.returns-clause-read_back
 returns-clause-read_back c abbreviations tables =
-    let still = is_still c.self.inside.items.items c.self.invariant c.self.view_is
-          (to_z-of_z w128 c.args.number c.ranges.number) c.refuse_number.ensures (search rules) c.index_mut.ensures.value
-          c.put_in_item-base.ensures.put c.put_in_item-base.ensures.keeps
-          c.put_in_item-base.ensures.base in
-    let held = tables_stay c.self.inside.items.items c.self.invariant c.self.view_is
-          (to_z-of_z w128 c.args.number c.ranges.number) c.refuse_number.ensures (search rules) c.index_mut.ensures.value
-          c.put_in_item-base.ensures.put c.put_in_item-base.ensures.keeps abbreviations tables in
+    let still = is_still c.self.inside.items.items c.self.invariant c.self.view_is c.args.id c.args.name
+    (to_z-of_z w128 c.args.number c.ranges.number) c.refuse_number.ensures (search rules) c.index_mut.ensures.value
+    c.put_in_item-base.new.item c.put_in_item-base.ensures.put c.put_in_item-base.ensures.keeps
+    c.put_in_item-base.ensures.base in
+    let held = tables_stay c.self.inside.items.items c.self.invariant c.self.view_is c.args.id c.args.name
+    (to_z-of_z w128 c.args.number c.ranges.number) c.refuse_number.ensures (search rules) c.index_mut.ensures.value
+    c.put_in_item-base.new.item c.put_in_item-base.ensures.put c.put_in_item-base.ensures.keeps abbreviations tables in
     written_is_read abbreviations _ still.fits held
