@@ -1,9 +1,15 @@
-"""The sections of debugging entries of a linked ELF file."""
+"""The sections of debugging entries of a linked ELF file.
+
+Usage: scripts/elf_sections.py FILE DIR
+
+Writes them to files in DIR, as scripts/sections.sh says. Other scripts use it as a module.
+"""
 
 import os
 import re
 import shutil
 import subprocess
+import sys
 import zlib
 
 # The sections, and the options by which the program is given their files.
@@ -140,3 +146,16 @@ def words_of(folder, big, four):
     """The options of the program over these sections."""
     words = [word for name, option in OPTIONS.items() for word in (option, os.path.join(folder, name))]
     return words + ["--big"] * big + ["--v4"] * four
+
+
+def main(words):
+    if len(words) != 2:
+        sys.exit("usage: elf_sections.py FILE DIR")
+    try:
+        extract(*words)
+    except Unreadable as why:
+        sys.exit(f"sections.sh: {words[0]} {why}")
+
+
+if __name__ == "__main__":
+    main(sys.argv[1:])

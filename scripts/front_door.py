@@ -1,18 +1,22 @@
 #!/usr/bin/env python3
-"""Looks whether what users are told fits the program: its manual page, its completions, and the links of the documents.
+"""Looks whether what users are told fits the program: its manual page, its completions, the commands of the README, and the links of the documents.
 
 Usage: scripts/front_door.py PROGRAM
 
 PROGRAM is the built `dwarf` (crates/dwarf/out/dwarf). What `--help` says of it and of each command decides which commands and options there are; the manual page
-(docs/dwarf.1) and the completions (scripts/completions) have to name each of them and no other, and tell of a command in the same words where they do. Each link of a document to
-a file has to lead to one, and to a heading that it has. The last line is `N passed, M failed`, and the status is 0 where none failed.
+(docs/dwarf.1) and the completions (scripts/completions) have to name each of them and no other, and tell of a command in the same words where they do. The commands of the README are run as
+they stand there, but for `.ci/run`, which runs this, and `rt run`, in whose place PROGRAM runs; FILE is a small C program that the C compiler of the machine makes, and FOLDER where it is. The program is installed into
+an empty folder and taken away again. Each link of a document to a file has to lead to one, to a heading that it has, and to the line where what it names is declared. The last line is
+`N passed, M failed`, and the status is 0 where none failed.
 """
 
 import glob
 import os
 import re
+import shutil
 import subprocess
 import sys
+import tempfile
 
 TOP = os.path.dirname(os.path.dirname(os.path.abspath(__file__)))
 
@@ -100,6 +104,74 @@ def judge_fish(judged, commands, options):
     judged.judge(told == every, f"the completions of fish tell of other options than --help: {told}")
 
 
+# ---- the commands of the README
+
+# A program of a user's own.
+SOURCE = "struct point { int x; int y; }; struct point origin; int main(void) { return origin.x; }\n"
+
+# How each command of the README ends over it, and what it writes at the least.
+SHOWN = {"show": (0, "DW_TAG_structure_type"), "find main": (0, "DW_TAG_subprogram"), "check": (0, "")}
+
+
+def judge_readme(judged, program, folder):
+    """Runs the commands of the README, where they stand in it."""
+    own = own_program(folder)
+    for block, output in re.findall(r"^```sh\n(.*?)^```$(?:\n\n```\n(.*?)^```$)?", text_of("README.md"), re.MULTILINE | re.DOTALL):
+        for line in block.strip().split("\n"):
+            judge_command(judged, program, line, output, own, folder)
+
+
+def own_program(folder):
+    """The program of a user's own, or nothing where the machine has no C compiler or no binutils."""
+    if not shutil.which("cc") or not shutil.which("objcopy"):
+        print("front_door.py: there is no C compiler or no objcopy here, so nothing is run over a linked file")
+        return None
+    with open(f"{folder}/own.c", "w", encoding="utf-8") as file:
+        file.write(SOURCE)
+    subprocess.run(["cc", "-g", "-gdwarf-5", "-o", f"{folder}/own", f"{folder}/own.c"], check=True)
+    return f"{folder}/own"
+
+
+def judge_command(judged, program, line, output, own, folder):
+    said = re.fullmatch(r"\(cd (\S+) && rt (try|run) .*?-- (.*)\)", line)
+    if line == ".ci/run":
+        return
+    if said and said[2] == "try":
+        ran = subprocess.run(line, shell=True, cwd=TOP, capture_output=True, text=True, check=False)
+        judged.judge(ran.returncode == 0 and ran.stdout.startswith(output) and output, f"README.md: {line}: {ran.stdout}{ran.stderr}")
+    elif said:
+        ran = subprocess.run([program, *said[3].split()], cwd=f"{TOP}/{said[1]}", capture_output=True, text=True, check=False)
+        judged.judge(ran.returncode == 0 and ran.stdout, f"README.md: {line}: {ran.stdout}{ran.stderr}")
+    elif line.startswith("scripts/dwarf FILE "):
+        judge_own(judged, program, line, own)
+    elif line == "scripts/audit FOLDER":
+        judge_audit(judged, program, own, folder)
+    else:
+        judged.judge(False, f"README.md: {line}: this script doesn't know how it ends")
+
+
+def judge_own(judged, program, line, own):
+    if own:
+        words = line.removeprefix("scripts/dwarf FILE ")
+        ran = subprocess.run(["scripts/dwarf", own, *words.split()], cwd=TOP, env={**os.environ, "DWARF": program}, capture_output=True, text=True, check=False)
+        status, least = SHOWN.get(words, (0, ""))
+        judged.judge(ran.returncode == status and least in ran.stdout and bool(least) == bool(ran.stdout), f"README.md: {line}: {ran.stdout}{ran.stderr}")
+
+
+def judge_audit(judged, program, own, folder):
+    if own:
+        ran = subprocess.run(["scripts/audit", folder], cwd=TOP, env={**os.environ, "DWARF": program}, capture_output=True, text=True, check=False)
+        judged.judge(ran.returncode == 0 and re.search(rf"(?m)^{re.escape(own)},\d+,sound,0,", ran.stdout), f"README.md: scripts/audit: {ran.stdout}{ran.stderr}")
+
+
+def judge_install(judged, folder):
+    prefix = f"{folder}/prefix"
+    for words, wanted in (([], 5), (["--uninstall"], 0)):
+        ran = subprocess.run(["scripts/install.sh", prefix, *words], cwd=TOP, capture_output=True, text=True, check=False)
+        found = [it for it in glob.glob(f"{prefix}/**", recursive=True) if os.path.isfile(it)]
+        judged.judge(ran.returncode == 0 and len(found) == wanted, f"scripts/install.sh {words}: {found} {ran.stderr}")
+
+
 # ---- the documents
 
 
@@ -118,8 +190,17 @@ def judge_links(judged, document):
         there = os.path.normpath(os.path.join(os.path.dirname(document), path)) if path else document
         if not os.path.exists(os.path.join(TOP, there)):
             judged.judge(False, f"{document}: {target} leads nowhere")
+        elif re.fullmatch(r"L\d+", anchor):
+            judged.judge(is_declared(text, target, there, int(anchor[1:])), f"{document}: {target}: what it names isn't declared in that line")
         else:
             judged.judge(not anchor or anchor in anchors_of(text_of(there)), f"{document}: {target}: no such heading")
+
+
+def is_declared(text, target, there, line):
+    """Whether the last word of a link's text is declared in that line of a source."""
+    name = re.search(rf"(\w+)`?\]\({re.escape(target)}\)", text)
+    lines = text_of(there).split("\n")
+    return bool(name) and 0 < line <= len(lines) and bool(re.search(rf"\b(?:fn|struct|enum|mod) {name[1]}\b", lines[line - 1]))
 
 
 def main(program):
@@ -130,6 +211,9 @@ def main(program):
     judge_manual(judged, commands, every)
     for judge in (judge_bash, judge_zsh, judge_fish):
         judge(judged, commands, options)
+    with tempfile.TemporaryDirectory(prefix="front-door-") as folder:
+        judge_readme(judged, program, folder)
+        judge_install(judged, folder)
     for document in sorted(os.path.relpath(it, TOP) for it in [*glob.glob(f"{TOP}/*.md"), *glob.glob(f"{TOP}/docs/**/*.md", recursive=True), *glob.glob(f"{TOP}/examples/*/*.md")]):
         judge_links(judged, document)
     print(f"{judged.passed} passed, {judged.failed} failed")

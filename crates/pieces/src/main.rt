@@ -5,11 +5,8 @@
 //! says how many bytes it has; with 0 by the call that takes the bytes at hand.
 #![tactic(auto)]
 
-ghost use Rattle.std.specs.Prelude.{IfOk};
-ghost use Rattle.dw_header.specs.Laws.{HasHeaderBytes};
-
 use rothelduf::{
-    BodyFeed, Fault, HeadFeed, Header, Order, Progress, ReadError, Tables, Unit, Versions, Watched,
+    BodyFeed, Fault, HeadFeed, Order, Progress, ReadError, Tables, Unit, Versions, Watched,
     WriteError, read_unit_as, write_unit,
 };
 use std::alloc::{AllocError, Global};
@@ -108,25 +105,38 @@ fn at_hand(alloc: Global, tables: &mut Tables<'_>, bytes: &[u8]) -> Result<Unit,
     Ok(unit)
 }
 
-/// The unit at the front of the bytes, which are pushed in pieces of so many.
+/// The unit at the front of the bytes, which are pushed in pieces of so many: first its header, and then the rest.
 fn pushed(
     alloc: Global,
     tables: &mut Tables<'_>,
     bytes: &[u8],
     size: usize,
 ) -> Result<Unit, PiecesError> {
-    let (header, unit_length, rest) = match head(bytes, size) {
-        Ok(head) => head,
-        Err(end) => return ended(end),
-    };
-    let table = tables.get(header.abbrev_offset())?;
-    let mut feed = BodyFeed::new(alloc, header, unit_length, table);
-    let mut left = rest;
-    for _ in 0..rest.len() {
+    let mut feed = HeadFeed::new_as(Order::Little, Versions::FourAndFive);
+    let mut left = bytes;
+    for _ in 0..bytes.len() {
+        let (count, answer) = feed.feed(&left[..left.len().min(size)]);
+        left = &left[count..];
+        match answer {
+            Progress::Done((header, unit_length)) => {
+                let table = tables.get(header.abbrev_offset())?;
+                let mut body = BodyFeed::new(alloc, header, unit_length, table);
+                return pushed_behind(&mut body, left, size);
+            }
+            Progress::Fault(fault) => return Err(PiecesError::Read(ReadError::Fault(fault))),
+            _ => {}
+        }
+    }
+    ended(feed.end())
+}
+
+/// The rest of the unit, behind its header.
+fn pushed_behind(feed: &mut BodyFeed, bytes: &[u8], size: usize) -> Result<Unit, PiecesError> {
+    let mut left = bytes;
+    for _ in 0..bytes.len() {
         let (piece, behind) = left.split_at(left.len().min(size));
         left = behind;
-        let (_, answer) = feed.feed(piece);
-        match answer {
+        match feed.feed(piece).1 {
             Progress::More => {}
             Progress::Done(unit) => return Ok(unit),
             Progress::Fault(fault) => return Err(PiecesError::Read(ReadError::Fault(fault))),
@@ -136,25 +146,6 @@ fn pushed(
         }
     }
     ended(feed.end())
-}
-
-/// The header at the front of the bytes, which are pushed in pieces of so many, its unit_length, and the bytes
-/// behind it; or the fault at their end.
-fn head(bytes: &[u8], size: usize) -> Result<(Header, u64, &[u8]), Option<Fault>>
-    ensures { IfOk result (λ x. HasHeaderBytes x.0 x.1) }
-{
-    let mut feed = HeadFeed::new_as(Order::Little, Versions::FourAndFive);
-    let mut left = bytes;
-    for _ in 0..bytes.len() {
-        let (count, answer) = feed.feed(&left[..left.len().min(size)]);
-        left = &left[count..];
-        match answer {
-            Progress::Done((header, unit_length)) => return Ok((header, unit_length, left)),
-            Progress::Fault(fault) => return Err(Some(fault)),
-            _ => {}
-        }
-    }
-    Err(feed.end())
 }
 
 fn ended<T>(end: Option<Fault>) -> Result<T, PiecesError> {

@@ -1,13 +1,15 @@
 //! An example of a program over the library: reads a unit from two files, walks its entries, looks one
-//! up, builds the same unit again, and writes it.
+//! up, builds the same unit again, and writes it; then prints the names and types of a whole section.
 #![tactic(auto)]
+
+mod names;
 
 use rothelduf::constants::attribute::{DW_AT_BYTE_SIZE, DW_AT_NAME};
 use rothelduf::constants::form::{DW_FORM_DATA1, DW_FORM_STRING};
 use rothelduf::constants::tag::{DW_TAG_BASE_TYPE, DW_TAG_COMPILE_UNIT};
 use rothelduf::{
     AttrValue, Decl, EntryRef, Order, ReadError, Refusal, Table, TableBuilder, TableRefusal,
-    Tables, Uleb, Unit, UnitBuilder, Value, Watched, WriteError, read_unit, write_unit,
+    Tables, TypeError, Uleb, Unit, UnitBuilder, Value, Watched, WriteError, read_unit, write_unit,
 };
 use std::alloc::{AllocError, Global};
 use std::rc::Rc;
@@ -28,6 +30,8 @@ enum WalkError {
     Table(#[from] TableRefusal),
     #[error("unit: {0}")]
     Unit(#[from] Refusal),
+    #[error("type: {0}")]
+    Type(#[from] TypeError),
     #[error("memory")]
     Memory(#[from] AllocError),
 }
@@ -36,7 +40,8 @@ fn main(rt: HostRuntime) -> Result<(), WalkError> {
     let unit = read(&rt)?;
     walk(&rt, &unit)?;
     let built = build(rt.alloc(), &unit)?;
-    compare(&rt, &unit, &built)
+    compare(&rt, &unit, &built)?;
+    names::print_linked(&rt)
 }
 
 /// The unit at the front of `debug_info`, over its table in `debug_abbrev`.

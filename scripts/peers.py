@@ -1,0 +1,76 @@
+#!/usr/bin/env python3
+"""Measures `dwarf` beside other readers over the debugging entries of a linked file.
+
+Usage: scripts/peers.py PROGRAM FILE [--gimli WALK] [--turns N] [--csv OUT]
+
+PROGRAM is the built `dwarf` (crates/dwarf/out/dwarf), and FILE a linked ELF file of version 5. The peers are `readelf` and `llvm-dwarfdump`, where they are
+there, and with --gimli a program that walks (`raw`), checks and shows such sections by gimli, called `WALK JOB DIR` over a folder of files `info`, `abbrev`, `str`,
+`line_str` and `str_offsets`. They take turns, N of them (by default nine), and the middle one counts. What is told of each job and reader are the seconds of
+processor and the megabytes of .debug_info a second, as a table, and with --csv as lines `job,reader,seconds,megabytes_a_second`, of which
+scripts/chart.py draws a chart.
+"""
+
+import argparse
+import csv
+import os
+import shutil
+import statistics
+import subprocess
+import tempfile
+
+import elf_sections
+
+NAMES = {"debug_info": "info", "debug_abbrev": "abbrev", "debug_str": "str", "debug_line_str": "line_str", "debug_str_offsets": "str_offsets"}
+
+
+def seconds_of(words):
+    """The seconds of processor of a command whose output is thrown away, or nothing where it fails."""
+    ran = subprocess.Popen(words, stdin=subprocess.DEVNULL, stdout=subprocess.DEVNULL, stderr=subprocess.DEVNULL)
+    _, status, used = os.wait4(ran.pid, 0)
+    ran.returncode = os.waitstatus_to_exitcode(status)
+    return used.ru_utime + used.ru_stime if ran.returncode in (0, 1) else None
+
+
+def commands(given, folder):
+    """The commands by their jobs and readers."""
+    files = [word for name, option in elf_sections.OPTIONS.items() for word in (option, f"{folder}/{NAMES[name]}")]
+    found = {("walk", "dwarf copy"): [given.program, "copy", *files[:4]], ("check", "dwarf check"): [given.program, "check", *files], ("text", "dwarf show"): [given.program, "show", *files]}
+    if given.gimli:
+        for job, word in (("walk", "raw"), ("check", "check"), ("text", "show")):
+            found[job, "gimli"] = [given.gimli, word, folder]
+    if shutil.which("readelf"):
+        found["text", "readelf"] = ["readelf", "--debug-dump=info", given.file]
+    if shutil.which("llvm-dwarfdump"):
+        found["text", "llvm-dwarfdump"] = ["llvm-dwarfdump", "--debug-info", given.file]
+    return found
+
+
+def main():
+    ask = argparse.ArgumentParser(description=__doc__, formatter_class=argparse.RawDescriptionHelpFormatter)
+    ask.add_argument("program", type=os.path.abspath)
+    ask.add_argument("file")
+    ask.add_argument("--gimli")
+    ask.add_argument("--turns", type=int, default=9)
+    ask.add_argument("--csv")
+    given = ask.parse_args()
+    with tempfile.TemporaryDirectory(prefix="peers-") as folder:
+        elf_sections.extract(given.file, folder)
+        for name, short in NAMES.items():
+            os.rename(f"{folder}/{name}", f"{folder}/{short}")
+        size = os.path.getsize(f"{folder}/info") / 1e6
+        of_each = commands(given, folder)
+        taken = {key: [] for key in of_each}
+        for _ in range(given.turns):
+            for key, words in of_each.items():
+                taken[key].append(seconds_of(words))
+    rows = [(*key, statistics.median(all_of), size / statistics.median(all_of)) for key, all_of in taken.items() if None not in all_of]
+    print(f"{size:.1f} MB of .debug_info; the middle one of {given.turns} turns\n\n| Job | Reader | Seconds | MB a second |\n|---|---|--:|--:|")
+    for job, reader, seconds, speed in rows:
+        print(f"| {job} | {reader} | {seconds:.3f} | {speed:.1f} |")
+    if given.csv:
+        with open(given.csv, "w", encoding="utf-8", newline="") as out:
+            csv.writer(out, lineterminator="\n").writerows([("job", "reader", "seconds", "megabytes_a_second"), *((j, r, f"{s:.3f}", f"{m:.1f}") for j, r, s, m in rows)])
+
+
+if __name__ == "__main__":
+    main()
