@@ -5,7 +5,7 @@ use rothelduf::{Fault, ReadError, Section, Watched, read_section_as, write_secti
 use std::alloc::Global;
 
 /// Whether a reader that gives one byte a call gives a section that is written as it was, or this fault.
-pub fn reads_as(alloc: Global, input: &Input<'_>, outcome: Result<(), Fault>) -> bool {
+pub(crate) fn reads_as(alloc: Global, input: &Input<'_>, outcome: Result<(), Fault>) -> bool {
     let mut reader = Watched::new(Stepped::new(input.info, 1));
     let read = read_section_as(
         alloc,
@@ -22,7 +22,7 @@ pub fn reads_as(alloc: Global, input: &Input<'_>, outcome: Result<(), Fault>) ->
 }
 
 /// Whether the section is written as these bytes.
-pub fn is_written_as(alloc: Global, section: &Section, bytes: &[u8]) -> bool {
+pub(crate) fn is_written_as(alloc: Global, section: &Section, bytes: &[u8]) -> bool {
     let mut writer = Watched::new(Vec::new(alloc));
     write_section(section, &mut writer).is_ok() && writer.into_inner().as_slice() == bytes
 }

@@ -5,14 +5,14 @@ const BASE: u32 = 65_521;
 
 /// The checksum Adler-32 (RFC 1950, section 8.2) of the bytes so far.
 #[derive(Clone, Copy)]
-pub struct Checksum {
+pub(crate) struct Checksum {
     sum: u32,
     sum_of_sums: u32,
 }
 
 impl Checksum {
     /// That of no bytes.
-    pub fn new() -> Checksum {
+    pub(crate) fn new() -> Checksum {
         Checksum {
             sum: 1,
             sum_of_sums: 0,
@@ -20,14 +20,14 @@ impl Checksum {
     }
 
     /// Goes on over these bytes.
-    pub fn add(&mut self, bytes: &[u8]) {
+    pub(crate) fn add(&mut self, bytes: &[u8]) {
         for byte in bytes {
             self.sum = self.sum.wrapping_add(*byte as u32) % BASE;
             self.sum_of_sums = self.sum_of_sums.wrapping_add(self.sum) % BASE;
         }
     }
 
-    pub fn value(&self) -> u32 {
+    pub(crate) fn value(&self) -> u32 {
         self.sum_of_sums.wrapping_shl(16) | self.sum
     }
 }

@@ -5,7 +5,7 @@ use std::io;
 use thiserror::Error;
 
 #[derive(Debug, Drop, Error)]
-pub enum SweepError {
+pub(crate) enum SweepError {
     /// A vector couldn't be read, or an answer not be printed.
     #[error("{0}")]
     Io(#[from] io::Error),

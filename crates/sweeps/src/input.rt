@@ -5,7 +5,7 @@ use std::alloc::AllocError;
 
 /// Which of the sections is meant.
 #[derive(Clone, Copy, PartialEq, Eq)]
-pub enum SectionName {
+pub(crate) enum SectionName {
     Info,
     Abbrev,
     Str,
@@ -15,7 +15,7 @@ pub enum SectionName {
 
 impl SectionName {
     /// The word by which a vector names it.
-    pub fn word(self) -> &'static str {
+    pub(crate) fn word(self) -> &'static str {
         match self {
             SectionName::Info => "info",
             SectionName::Abbrev => "abbrev",
@@ -28,20 +28,20 @@ impl SectionName {
 
 /// The sections that are read, lent, and how they are read.
 #[derive(Clone, Copy)]
-pub struct Input<'a> {
-    pub order: Order,
-    pub versions: Versions,
+pub(crate) struct Input<'a> {
+    pub(crate) order: Order,
+    pub(crate) versions: Versions,
     /// The bytes of `.debug_info`.
-    pub info: &'a [u8],
+    pub(crate) info: &'a [u8],
     /// The bytes of `.debug_abbrev`.
-    pub abbrev: &'a [u8],
+    pub(crate) abbrev: &'a [u8],
     /// The sections of texts.
-    pub strings: Strings<'a>,
+    pub(crate) strings: Strings<'a>,
 }
 
 impl<'a> Input<'a> {
     /// The bytes of the section of this name.
-    pub fn section(&self, name: SectionName) -> &'a [u8] {
+    pub(crate) fn section(&self, name: SectionName) -> &'a [u8] {
         match name {
             SectionName::Info => self.info,
             SectionName::Abbrev => self.abbrev,
@@ -52,7 +52,7 @@ impl<'a> Input<'a> {
     }
 
     /// The same sections, but for that of this name, which has these bytes.
-    pub fn with<'b>(&self, name: SectionName, bytes: &'b [u8]) -> Input<'b>
+    pub(crate) fn with<'b>(&self, name: SectionName, bytes: &'b [u8]) -> Input<'b>
     where
         'a: 'b,
     {
@@ -77,7 +77,7 @@ fn either<'a>(is_first: bool, first: &'a [u8], second: &'a [u8]) -> &'a [u8] {
 
 /// Where each section of a vector ends, one behind the other.
 #[derive(Clone, Copy)]
-pub struct Ends {
+pub(crate) struct Ends {
     info: usize,
     abbrev: usize,
     str: usize,
@@ -85,7 +85,7 @@ pub struct Ends {
 }
 
 /// Appends the sections of a vector's text, one behind the other.
-pub fn append_sections(text: &str, bytes: &mut Vec<u8>) -> Result<Ends, AllocError> {
+pub(crate) fn append_sections(text: &str, bytes: &mut Vec<u8>) -> Result<Ends, AllocError> {
     append_named(text, SectionName::Info.word(), bytes)?;
     let info = bytes.len();
     append_named(text, SectionName::Abbrev.word(), bytes)?;
@@ -104,7 +104,7 @@ pub fn append_sections(text: &str, bytes: &mut Vec<u8>) -> Result<Ends, AllocErr
 }
 
 /// The sections that end there, read as the word of the vector says.
-pub fn input_of<'a>(word: &str, bytes: &'a [u8], ends: Ends) -> Input<'a> {
+pub(crate) fn input_of<'a>(word: &str, bytes: &'a [u8], ends: Ends) -> Input<'a> {
     Input {
         order: order_of(word),
         versions: versions_of(word),

@@ -12,15 +12,23 @@ use crate::units::are_units_alike;
 use dw_tool::command::Command;
 use dw_tool::run::{Inputs, run};
 use rothelduf::{
-    EntryId, ReadError, Section, TypeError, Unit, Watched, read_section_as, type_text,
+    EntryId, Fault, ReadError, Reason, Section, SectionId, TypeError, Unit, Watched,
+    read_section_as, type_text,
 };
 use std::alloc::Global;
 
 /// The name with which types are told.
 const NAME: &[u8] = b"x";
 
+/// A fault that no input has.
+const WRONG: Fault = Fault {
+    section: SectionId::Abbrev,
+    offset: u64::MAX,
+    reason: Reason::BadVersion,
+};
+
 /// Judges an input, and counts what is answered to it.
-pub fn judge(alloc: Global, input: &Input<'_>, tally: &mut Tally) -> Result<(), SweepError> {
+pub(crate) fn judge(alloc: Global, input: &Input<'_>, tally: &mut Tally) -> Result<(), SweepError> {
     match read(alloc, input) {
         Ok(section) => judge_section(alloc, input, &section, tally)?,
         Err(ReadError::Fault(fault)) => {
@@ -31,6 +39,18 @@ pub fn judge(alloc: Global, input: &Input<'_>, tally: &mut Tally) -> Result<(), 
     }
     tally.expect(are_units_alike(alloc, input));
     Ok(())
+}
+
+/// Judges of an input what doesn't hold of it, which has to be counted as broken: that it is answered otherwise than it
+/// is, and where it is read that it is written as no bytes.
+pub(crate) fn judge_wrongly(alloc: Global, input: &Input<'_>, tally: &mut Tally) {
+    match read(alloc, input) {
+        Ok(section) => {
+            tally.expect(reads_as(alloc, input, Err(WRONG)));
+            tally.expect(is_written_as(alloc, &section, &[]));
+        }
+        Err(_) => tally.expect(reads_as(alloc, input, Ok(()))),
+    }
 }
 
 fn read(alloc: Global, input: &Input<'_>) -> Result<Section, ReadError> {

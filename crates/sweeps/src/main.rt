@@ -6,10 +6,10 @@
 //! of each of its sections, first its fronts of 0 bytes and more, but for the whole, and then it with each byte in the
 //! place of each other, while the other sections stay as they are.
 //!
-//! Printed is, for each section of each vector, how many inputs there were, how many of them were read, how many broke
-//! what has to hold of all (`judge` says what that is), a checksum of all that was answered, the offset of each fault
-//! with it, and how often each reason came. `scripts/sweeps.py` prints what an independent reader answers to the same
-//! inputs, in the same words.
+//! Printed is, for each vector, how much of what doesn't hold of it is counted as broken (`judge_wrongly`). For each of its
+//! sections it is how many inputs there were, how many of them were read, how many broke what has to hold of all (`judge`
+//! says what that is), a checksum of all that was answered, the offset of each fault with it, and how often each reason
+//! came. `scripts/sweeps.py` prints what an independent reader answers to the same inputs, in the same words.
 #![tactic(auto)]
 
 mod agree;
@@ -22,7 +22,7 @@ mod units;
 
 use crate::error::SweepError;
 use crate::input::{Input, SectionName, append_sections, input_of};
-use crate::judge::judge;
+use crate::judge::{judge, judge_wrongly};
 use crate::tally::Tally;
 use std::alloc::Global;
 use std::rt::{Env, Files};
@@ -70,12 +70,24 @@ fn sweep_sections(
     word: &str,
     input: &Input<'_>,
 ) -> Result<(), SweepError> {
+    control(rt, word, input)?;
     for name in SECTIONS {
         if !input.section(name).is_empty() {
             sweep_section(rt, word, input, name)?;
         }
     }
     Ok(())
+}
+
+/// Prints how much is counted as broken that is.
+fn control(
+    rt: &(impl AllocGlobal + Print),
+    word: &str,
+    input: &Input<'_>,
+) -> Result<(), SweepError> {
+    let mut tally = Tally::new(rt.alloc());
+    judge_wrongly(rt.alloc(), input, &mut tally);
+    Ok(println!(rt; "{word}: {} counted as broken", tally.broken())?)
 }
 
 fn sweep_section(

@@ -6,7 +6,7 @@ use std::io;
 
 /// Counts of answers.
 #[derive(Drop)]
-pub struct Tally {
+pub(crate) struct Tally {
     inputs: u64,
     sections: u64,
     broken: u64,
@@ -26,7 +26,7 @@ struct FaultCount {
 }
 
 impl Tally {
-    pub fn new(alloc: Global) -> Tally {
+    pub(crate) fn new(alloc: Global) -> Tally {
         Tally {
             inputs: 0,
             sections: 0,
@@ -38,13 +38,13 @@ impl Tally {
     }
 
     /// An input was read.
-    pub fn count_section(&mut self) {
+    pub(crate) fn count_section(&mut self) {
         self.inputs = self.inputs.saturating_add(1);
         self.sections = self.sections.saturating_add(1);
     }
 
     /// An input had this fault.
-    pub fn count_fault(&mut self, fault: Fault) -> Result<(), AllocError> {
+    pub(crate) fn count_fault(&mut self, fault: Fault) -> Result<(), AllocError> {
         self.inputs = self.inputs.saturating_add(1);
         self.line.clear();
         write!(self.line, "{fault}\n")?;
@@ -73,18 +73,23 @@ impl Tally {
     }
 
     /// Something that has to hold of an input is judged.
-    pub fn expect(&mut self, holds: bool) {
+    pub(crate) fn expect(&mut self, holds: bool) {
         if !holds {
             self.broken = self.broken.saturating_add(1);
         }
     }
 
+    /// How much was broken.
+    pub(crate) fn broken(&self) -> u64 {
+        self.broken
+    }
+
     /// This was answered too.
-    pub fn add(&mut self, text: &[u8]) {
+    pub(crate) fn add(&mut self, text: &[u8]) {
         self.checksum.add(text);
     }
 
-    pub fn print(&self, rt: &impl Print, vector: &str, section: &str) -> io::Result<()> {
+    pub(crate) fn print(&self, rt: &impl Print, vector: &str, section: &str) -> io::Result<()> {
         println!(rt;
             "{vector} {section}: {} inputs, {} read, {} broken, checksum {:08x}",
             self.inputs,

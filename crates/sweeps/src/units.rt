@@ -16,7 +16,7 @@ use std::alloc::Global;
 type Outcome = Result<usize, ReadError>;
 
 /// Whether this holds at the beginning of each item of the section, also of items that are no unit.
-pub fn are_units_alike(alloc: Global, input: &Input<'_>) -> bool {
+pub(crate) fn are_units_alike(alloc: Global, input: &Input<'_>) -> bool {
     let mut rest = input.info;
     for _ in 0..input.info.len() {
         if !is_unit_alike(alloc, input, rest) {
