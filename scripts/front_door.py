@@ -203,6 +203,22 @@ def is_declared(text, target, there, line):
     return bool(name) and 0 < line <= len(lines) and bool(re.search(rf"\b(?:fn|struct|enum|mod) {name[1]}\b", lines[line - 1]))
 
 
+def judge_modules(judged):
+    """Each module and each file of definitions of a library is told of on its first page."""
+    for library in sorted(set(glob.glob(f"{TOP}/crates/dw_*/src/lib.rt")) - set(glob.glob(f"{TOP}/crates/*_tests/src/lib.rt"))):
+        crate = library.split("/")[-3]
+        page = text_of(library)
+        told = "".join(re.findall(r"^//!.*\n", page, re.MULTILINE))
+        wanted = re.findall(r"^(?:pub )?mod (\w+);$", page, re.MULTILINE)
+        judged.judge(all(f"`{it}`" in told for it in wanted), f"{library}: nothing is told of {[it for it in wanted if f'`{it}`' not in told]}")
+        specs = f"crates/{crate}/specs/Lib.antt"
+        if os.path.exists(os.path.join(TOP, specs)):
+            page = text_of(specs)
+            told = set(re.findall(r"\w+", "".join(re.findall(r"^--.*\n", page, re.MULTILINE))))
+            wanted = re.findall(r"^pub mod (\w+)$", page, re.MULTILINE)
+            judged.judge(told.issuperset(wanted), f"{specs}: nothing is told of {sorted(set(wanted) - told)}")
+
+
 def main(program):
     judged = Judged()
     commands = commands_of(program)
@@ -214,6 +230,7 @@ def main(program):
     with tempfile.TemporaryDirectory(prefix="front-door-") as folder:
         judge_readme(judged, program, folder)
         judge_install(judged, folder)
+    judge_modules(judged)
     for document in sorted(os.path.relpath(it, TOP) for it in [*glob.glob(f"{TOP}/*.md"), *glob.glob(f"{TOP}/docs/**/*.md", recursive=True), *glob.glob(f"{TOP}/examples/*/*.md")]):
         judge_links(judged, document)
     print(f"{judged.passed} passed, {judged.failed} failed")

@@ -13,6 +13,22 @@
 //! otherwise the reason why not.
 //!
 //! Sections that the comments name are those of the DWARF 5 standard.
+//!
+//! What its modules have:
+//!
+//! - `shape`: `Ctx`, `Shape`, `Shape::of`: the form table
+//! - `size`: `FormSize`: how many bytes the values of a form have, where the form alone tells, in any unit
+//! - `value`: `Value`, `AttrValue`: borrowed values
+//! - `lend`: `lend_value`: a value at the front of bytes, borrowed from them
+//! - `via`, `span`: the form that an indirect value names, and a part of a pool, as a stored value holds them
+//! - `stored`: `Stored`: a value over a pool of bytes, in 24 bytes; `keep`, `of_end`, `lend`
+//! - `read`: `read_value`: a value at the front of bytes, stored
+//! - `fit`: `fits`: whether a value has a spelling under a form
+//! - `head`, `put`: the head of a value: what of its spelling is no content, and what finds the content in a pool;
+//!   `lend_head`, `lend_number`, `lend_bare`, `put_head`, `put_found`, `value_front`, `front_len`, `size_by_head`
+//! - `renumber`: `renumbered`: a value with another number in the place of its own, in as many bytes
+//! - `write`: `write_value`, `size_of`
+//! - `laws`: one spelling, one outcome, stable outcomes, for values; that a stored value stays
 #![tactic(auto)]
 
 mod fit;

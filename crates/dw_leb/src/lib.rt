@@ -9,6 +9,20 @@
 //! within `lim`, and otherwise the reason why not.
 //!
 //! Sections that the comments name are those of the DWARF 5 standard.
+//!
+//! What its modules have:
+//!
+//! - `constants`: the numbers of tags, attributes and forms by the names of the standard
+//! - `errors`: `Reason`, `Bad`, `SectionId`, `Fault`, `ReadError`, `WriteError`; the texts of reasons and faults
+//! - `order`: `Order`, `Format` with the sizes of its lengths and offsets
+//! - `unsigned`, `signed`: `Uleb`, `Sleb`: `read`, `bytes`, `least`, `with_width`
+//! - `groups`: what both use: the last byte of a number, its groups as a number, the bytes of a number
+//! - `fixed`: `read_fixed`, `write_fixed`, for 1 to 16 bytes
+//! - `initial`: `read_length`, `write_length`
+//! - `watch`: `Watched`: a reader or writer that keeps its first fault
+//! - `transfer`: `write_all` over a watched writer
+//! - `devices`: `Stepped`, for tests: few bytes a call, an error at a set call
+//! - `laws`: one spelling, one outcome, stable outcomes, for numbers and lengths
 #![tactic(auto)]
 
 pub mod constants;

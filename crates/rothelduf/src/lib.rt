@@ -39,16 +39,16 @@
 //!   `read_section_as` also reads units of version 4;
 //! - `Section` holds the units of a whole section: looked up by item, `EntryId` and offset; `Section::resolve` names
 //!   the entry that a reference means, or says by `RefFault` why there is none; so does `Section::resolve_among`,
-//!   faster for many references of one unit, with the offsets of its entries in an `EntryOffsets`; `Section::set_number`
-//!   puts a number in the place of that of an attribute, or says by `SetRefusal` why it doesn't;
+//!   faster for many references of one unit, with the offsets of its entries in an `EntryOffsets`;
+//!   `Section::set_number` puts a number in the place of that of an attribute, or says by `SetRefusal` why it doesn't;
 //! - `Strings` holds the sections of texts: `Strings::text` lends the text that an attribute names, or says by
 //!   `StrFault` why there is none;
 //! - `type_text` appends the type of an entry in C notation, or says by `TypeError` why it doesn't;
 //! - `check` lists what is wrong in a section that was read, as `Finding`s, each with its place and its `FindingKind`;
 //! - `write_unit` and `write_section` write what was read or built, each number in its own width.
 //!
-//! `constants` has the numbers of the standard by name; `tag_name`, `attribute_name` and `attribute_named` have the names
-//! as text.
+//! `constants` has the numbers of the standard by name; `tag_name`, `attribute_name` and `attribute_named` have the
+//! names as text.
 #![tactic(auto)]
 
 pub use dw_abbrev::{Decl, FixedPrefix, Pair, Table, TableBuilder, TableRefusal, Tables};
