@@ -24,10 +24,10 @@ pub(crate) fn print_linked(rt: &(impl AllocGlobal + Files + Print)) -> Result<()
 }
 
 /// Prints each entry that has a name and a type: its offset in the section, and its declaration in C.
-fn print_names(
+fn print_names<'a>(
     rt: &(impl AllocGlobal + Print),
-    section: &Section,
-    strings: &Strings<'_>,
+    section: &'a Section,
+    strings: &Strings<'a>,
 ) -> Result<(), WalkError> {
     let mut text = Vec::new(rt.alloc());
     for item in 0..section.items().len() {
