@@ -120,8 +120,8 @@ fn pushed(
         match answer {
             Progress::Done((header, unit_length)) => {
                 let table = tables.get(header.abbrev_offset())?;
-                let mut body = BodyFeed::new(alloc, header, unit_length, table);
-                return pushed_behind(&mut body, left, size);
+                let body = BodyFeed::new(alloc, header, unit_length, table);
+                return pushed_behind(body, left, size);
             }
             Progress::Fault(fault) => return Err(PiecesError::Read(ReadError::Fault(fault))),
             _ => {}
@@ -131,7 +131,7 @@ fn pushed(
 }
 
 /// The rest of the unit, behind its header.
-fn pushed_behind(feed: &mut BodyFeed, bytes: &[u8], size: usize) -> Result<Unit, PiecesError> {
+fn pushed_behind(mut feed: BodyFeed, bytes: &[u8], size: usize) -> Result<Unit, PiecesError> {
     let mut left = bytes;
     for _ in 0..bytes.len() {
         let (piece, behind) = left.split_at(left.len().min(size));
