@@ -1,0 +1,397 @@
+#!/usr/bin/env python3
+"""Changes functions at random, mutant by mutant, and lets the prover judge each: how many do the contracts let through?
+
+Usage: scripts/mutants.py NAME.. [--most N] [--side-by-side N] [--round N] [--function WORD] [--logs FOLDER] [--list]
+       scripts/mutants.py --report
+
+A mutant is a function with one small change of its body: a comparison turned or off by one, another operator, a constant one more or one less, a condition negated, two arms or two
+arguments exchanged, a statement left out, an answer dropped, `None` for `Some`, `Ok` for `Err`, an early return of a default, a loop that leaves its first or last turn out, a field or a
+call exchanged with its like. Of each function with a body --most mutants are taken, by default eight, as many of each kind as there are places, in an order that a sum of their texts gives.
+
+They are tried as wrong bodies are (scripts/wrong_bodies.py): in copies, or where that can't be in their places, many in one check. What doesn't compile doesn't count: all copies of a
+crate are put into its files at once and looked at by `rt check --only ''`, which takes seconds, until no error is left. Then each is one of these:
+
+    refused     a goal of the mutant's own is refused
+    not judged  only its proof file names what is gone, or nothing is told of it
+    accepted    it is proved
+
+A verdict is kept in mutants/NAME.tsv, by a sum of the mutant's text and of the sources of its crate but for proofs (what its contracts say); what stands there isn't tried again. Of each accepted
+one a line of mutants/lines.tsv says why (`ID reason`): it means the same, or no clause can say it and a case or a test is named that catches it. --report writes docs/mutants.md
+out of both, and its status is 1 where an accepted one has no line. The libraries begin with what `rt lib` and `rt check` kept in the tree at hand, where nothing may run then. `.ci/run` doesn't
+run this: a crate takes minutes to an hour, and all of them hours.
+"""
+
+import argparse
+import collections
+import csv
+import hashlib
+import itertools
+import os
+import re
+import sys
+from concurrent.futures import ThreadPoolExecutor
+
+import clones
+import wrong_bodies as rounds
+from clones import Stop
+
+FOLDER = f"{clones.TOP}/mutants"
+LINES = f"{FOLDER}/lines.tsv"
+COLUMNS = ["id", "sum", "function", "kind", "change", "verdict", "goals"]
+REFUSED, NOT_JUDGED, ACCEPTED, BROKEN = "refused", "not judged", "accepted", "doesn't compile"
+VERDICTS = {rounds.REFUSED: REFUSED, rounds.ACCEPTED: ACCEPTED, rounds.BAD: BROKEN, rounds.WEAK: NOT_JUDGED, rounds.UNCLEAR: NOT_JUDGED}
+
+# What an error of the front end says of a place.
+ERROR = re.compile(r"(?m)^(?:rattle: )?(?:\./)?(src/\S+?):(\d+):\d+: error")
+
+# ---- the changes, each over a body in which texts and comments are blank
+
+OPERATORS = {
+    "comparison": {" < ": " <= ", " <= ": " < ", " > ": " >= ", " >= ": " > ", " == ": " != ", " != ": " == "},
+    "operator": {" + ": " - ", " - ": " + ", " * ": " + ", " / ": " * ", " % ": " / ", " & ": " | ", " << ": " >> ", " >> ": " << ", " && ": " || ", " || ": " && ", " += ": " -= ", " -= ": " += "},
+}
+LIKE = [
+    ("first", "last"), ("split_first", "split_last"), ("min", "max"), ("is_some", "is_none"), ("is_ok", "is_err"), ("saturating_sub", "saturating_add"), ("wrapping_add", "wrapping_sub"),
+    ("checked_add", "checked_sub"), ("take", "skip"), ("any", "all"), ("to_le_bytes", "to_be_bytes"), ("from_le_bytes", "from_be_bytes"), ("starts_with", "ends_with"), ("push", "pop"),
+]
+NUMBER = re.compile(r"(?<![\w.'])(0x[0-9a-fA-F_]+|\d[\d_]*)(?=(?:[iu](?:8|16|32|64|128|size))?(?![\w.]))")
+DEFAULTS = [(r"bool", ["true", "false"]), (r"[iu](?:8|16|32|64|128|size)", ["0"]), (r"Option<.*>", ["None"]), (r"Result<\(\), .*>|io::Result<\(\)>|fmt::Result", ["Ok(())"]), (r"", [""])]
+
+
+def blank(body):
+    """The body with spaces in the place of texts and comments."""
+    return re.sub(r'//[^\n]*|b?"(?:[^"\\]|\\.)*"|b?\'(?:[^\'\\]|\\.)\'', lambda it: " " * len(it[0]), body)
+
+
+def replaced(body, start, end, new):
+    return body[:start] + new + body[end:]
+
+
+def of_operators(body, plain):
+    for kind, table in OPERATORS.items():
+        for old, new in table.items():
+            for at in re.finditer(re.escape(old), plain):
+                yield kind, replaced(body, at.start(), at.end(), new)
+
+
+def of_numbers(body, plain):
+    for at in NUMBER.finditer(plain):
+        value = int(at[1].replace("_", ""), 0)
+        for other in [value + 1, *([value - 1] if value else [])]:
+            yield "constant", replaced(body, at.start(1), at.end(1), f"{other:#x}" if at[1].startswith("0x") else str(other))
+
+
+def of_conditions(body, plain):
+    for at in re.finditer(r"\b(?:if|while) (?!let\b)([^{};]*?) \{", plain):
+        yield "condition", replaced(body, at.start(1), at.end(1), f"!({body[slice(*at.span(1))]})")
+    for at in re.finditer(r"\b(true|false)\b", plain):
+        yield "condition", replaced(body, *at.span(), "false" if at[1] == "true" else "true")
+
+
+def of_arms(body, plain):
+    arms = list(re.finditer(r"(?m)^( *)(\S.*? => )([^{\n]*)(,)$", plain))
+    for one, other in itertools.pairwise(arms):
+        first, second = body[slice(*one.span(3))], body[slice(*other.span(3))]
+        if one[1] == other[1] and one.end() + 1 == other.start() and first != second:
+            yield "arms", replaced(replaced(body, *other.span(3), first), *one.span(3), second)
+
+
+def of_arguments(body, plain):
+    for at in re.finditer(r"(?<!fn )\b\w+\(([^(){}]*)\)", plain):
+        places = [it.span(1) for it in re.finditer(r"(?:^|,)\s*([^,]*[^,\s])", at[1])]
+        for one, other in itertools.pairwise(places):
+            (a, b), (c, d) = ((at.start(1) + it[0], at.start(1) + it[1]) for it in (one, other))
+            if body[a:b] != body[c:d]:
+                yield "arguments", body[:a] + body[c:d] + body[b:c] + body[a:b] + body[d:]
+
+
+def of_statements(body, plain):
+    for at in re.finditer(r"(?m)^ +(?!let |return\b|break|continue|use |ghost )(\S[^\n]*);$", plain):
+        line = at[1]
+        if all(line.count(a) == line.count(b) for a, b in ("()", "[]", "{}")):
+            yield "statement", replaced(body, at.start(), at.end() + 1, "")
+            if line.endswith("?"):
+                yield "answer", replaced(body, *at.span(1), f"let _ = {body[slice(*at.span(1))][:-1]}")
+
+
+def of_answers(body, plain):
+    errors = sorted({body[slice(*it.span())] for it in re.finditer(r"\bErr\([^(){}\n]*(?:\([^()]*\))?[^(){}\n]*\)(?! =>)", plain)})
+    for at in re.finditer(r"(?<!let )\bSome\((?:[^()\n]|\([^()\n]*\))*\)(?!\)? =)", plain):
+        yield "answer", replaced(body, *at.span(), "None")
+    for at in re.finditer(r"\bOk\((?:[^()\n]|\([^()\n]*\))*\)(?!\)? =)", plain):
+        for error in errors[:1]:
+            yield "answer", replaced(body, *at.span(), error)
+    for at in re.finditer(r"\bErr\((?:[^()\n]|\([^()\n]*\))*\)(?!\)? =)", plain):
+        yield "answer", replaced(body, *at.span(), "Ok(())")
+
+
+def of_loops(body, plain):
+    for at in re.finditer(r"\bin 0\.\.(?!=)", plain):
+        yield "loop", replaced(body, *at.span(), "in 1..")
+    for at in re.finditer(r"\bin (\w+)\.\.([\w.]+(?:\(\))?) \{", plain):
+        yield "loop", replaced(body, *at.span(2), f"({body[slice(*at.span(2))]}).saturating_sub(1)")
+    for at in re.finditer(r"\.iter\(\)|\bin (?!\d)([\w.&]+(?:\(\))?)(?= \{)", plain):
+        yield "loop", replaced(body, at.end(), at.end(), ".skip(1)" if at[0].startswith(".iter") else ".into_iter().skip(1)")
+
+
+def of_likes(body, plain):
+    for one, other in [*LIKE, *((b, a) for a, b in LIKE)]:
+        for at in re.finditer(rf"(?<=[.:]){one}(?=\()", plain):
+            yield "call", replaced(body, *at.span(), other)
+    fields = sorted(set(re.findall(r"\bself\.(\w+)\b(?!\()", plain)))
+    for at in re.finditer(r"\bself\.(\w+)\b(?!\()", plain):
+        for other in fields:
+            if other != at[1]:
+                yield "field", replaced(body, *at.span(1), other)
+
+
+def of_defaults(body, answer):
+    for of_type, values in DEFAULTS:
+        if re.fullmatch(of_type, answer):
+            for value in values:
+                yield "early return", f"\n    return {value};".replace(" ;", ";") + body
+            return
+
+
+def changes(body, answer):
+    """The changes of a body, each with its kind."""
+    plain = blank(body)
+    for of_kind in (of_operators, of_numbers, of_conditions, of_arms, of_arguments, of_statements, of_answers, of_loops, of_likes):
+        yield from of_kind(body, plain)
+    yield from of_defaults(body, answer)
+
+
+def told(old, new):
+    """What a change is, in one line: the words that go and those that come in their place."""
+    old, new = old.split(), new.split()
+    front = len(list(itertools.takewhile(lambda it: it[0] == it[1], zip(old, new))))
+    back = len(list(itertools.takewhile(lambda it: it[0] == it[1], zip(old[front:][::-1], new[front:][::-1]))))
+    around = " ".join(old[max(0, front - 2) : front])
+    return f"{around} [{' '.join(old[front : len(old) - back])}] -> [{' '.join(new[front : len(new) - back])}]".strip()[:160]
+
+
+# ---- the mutants of a crate
+
+
+def answer_of(text, function):
+    """The type of a function's answer, as its signature spells it."""
+    signature = re.split(r"\n *(?:requires|ensures|ghost|decreases|where)\b", text[function.named : function.begin])[0]
+    return " ".join(signature.rpartition(") -> ")[2].split()).rstrip("{ ") if ") -> " in signature else ""
+
+
+def mutants_of(crate, path, function, most):
+    """Edits of one function, of each kind in turn."""
+    text = rounds.text_of(crate, path)
+    first, behind = function.first, rounds.behind(text, function)
+    body, by_kind, seen = text[function.begin : function.end], collections.defaultdict(list), set()
+    for kind, new in changes(body, answer_of(text, function)):
+        if new != body and new not in seen:
+            seen.add(new)
+            by_kind[kind].append(new)
+    order = [sorted(it, key=lambda new: hashlib.sha256(new.encode()).hexdigest()) for it in by_kind.values()]
+    kinds = list(by_kind)
+    of_turns = [(kinds[n], it) for turn in itertools.zip_longest(*order) for n, it in enumerate(turn) if it is not None]
+    for kind, new in of_turns[:most]:
+        name = "m" + hashlib.sha256(f"{function.name}{new}".encode()).hexdigest()[:11]
+        edit = rounds.Edit(crate, name, new)
+        edit.pairs = [(path, text[first:behind], text[first : function.begin] + new + text[function.end : behind])]
+        edit.mutated, edit.of_kind, edit.change = function.name, kind, told(body, new)
+        if function.can_be_copied:
+            edit.copied = {function.name: path}
+            edit.within = {f"{function.name}_{name}"}
+            edit.functions = {it: it for it in edit.within}
+        else:
+            edit.functions, edit.within = {function.name: function.key}, {function.key}
+        yield edit
+
+
+def all_mutants(crate, given):
+    for path, function in rounds.all_functions(crate):
+        if given.function in function.name and function.name != "main" and not path.startswith("src/laws"):
+            yield from mutants_of(crate, path, function, given.most)
+
+
+# ---- what compiles
+
+
+def without_broken(crate, edits):
+    """The mutants in copies without those that the front end refuses."""
+    left = list(edits)
+    while left:
+        texts = rounds.texts_with(crate, left)
+        said = looked_at(crate, texts)
+        errors = {(path, int(line)) for path, line in ERROR.findall(said)}
+        broken = set()
+        for path in {path for path, _ in errors}:
+            text = texts.get(path, "")
+            for it in rounds.functions_in(crate, path, text):
+                first, last = (text.count("\n", 0, at) + 1 for at in (it.first, it.end))
+                if any(first <= line <= last + 1 for where, line in errors if where == path):
+                    broken.add(it.name)
+        gone = [it for it in left if not broken.isdisjoint(it.within)]
+        if not gone:
+            if "error" in said:
+                raise Stop(f"{crate.name}: the front end refuses something else: {next(it for it in said.splitlines() if 'error' in it)[:200]}")
+            return left
+        for it in gone:
+            it.set(rounds.BAD)
+        left = [it for it in left if not it.kind]
+    return left
+
+
+def looked_at(crate, texts):
+    """What the front end says of a crate with these texts, which takes seconds."""
+    before = {path: rounds.text_of(crate, path) if os.path.isfile(f"{crate.folder}/{path}") else None for path in texts}
+    try:
+        rounds.put(crate, texts)
+        return clones.run(["rt", "check", "--jobs", "1", "--only", ""], crate.folder).said
+    finally:
+        rounds.put(crate, before)
+
+
+def in_rounds(edits, size):
+    """Rounds: of copies so many, and of mutants in their places one of each function."""
+    copies = [it for it in edits if it.copied]
+    yield from (copies[at : at + size] for at in range(0, len(copies), size))
+    by_function = collections.defaultdict(list)
+    for it in edits:
+        if not it.copied:
+            by_function[it.mutated].append(it)
+    for turn in itertools.zip_longest(*by_function.values()):
+        yield [it for it in turn if it]
+
+
+# ---- verdicts
+
+
+def sum_of(crate, top):
+    """A sum of what the contracts of a crate stand on: all sources but proofs, of it and of those below."""
+    found = hashlib.sha256(clones.version().encode())
+    for one in [*crate.below, crate]:
+        for file in clones.files_of(one.path(top)):
+            if file.endswith(clones.READ) and "/proofs/" not in file:
+                with open(file, "rb") as opened:
+                    found.update(repr((os.path.relpath(file, top), opened.read())).encode())
+    return found.hexdigest()[:16]
+
+
+def kept(name):
+    try:
+        with open(f"{FOLDER}/{name}.tsv", encoding="utf-8", newline="") as file:
+            return {it["id"]: it for it in csv.DictReader(file, delimiter="\t")}
+    except FileNotFoundError:
+        return {}
+
+
+def keep(name, rows):
+    os.makedirs(FOLDER, exist_ok=True)
+    with open(f"{FOLDER}/{name}.tsv", "w", encoding="utf-8", newline="") as file:
+        out = csv.DictWriter(file, COLUMNS, delimiter="\t", lineterminator="\n")
+        out.writeheader()
+        out.writerows(sorted(rows.values(), key=lambda it: (it["function"], it["id"])))
+
+
+def row_of(edit, base):
+    return {"id": edit.name, "sum": base, "function": edit.mutated, "kind": edit.of_kind, "change": edit.change, "verdict": VERDICTS[edit.kind], "goals": edit.what.removeprefix(" at ").replace("\t", " ")[:300]}
+
+
+def try_crate(name, room, given):
+    """Tries the mutants of a crate in a clone, and keeps their verdicts as they come."""
+    crate = clones.known(clones.crates_in(clones.TOP), name)
+    base, rows = sum_of(crate, clones.TOP), kept(name)
+    judged = rounds.Judged(name, crate.path(room), given.logs)
+    edits = list(all_mutants(judged, given))
+    ids = {it.name for it in edits}
+    if not given.function:
+        rows = {key: row for key, row in rows.items() if key in ids}
+    left = [it for it in edits if rows.get(it.name, {}).get("sum") != base]
+    compiled = without_broken(judged, [it for it in left if it.copied]) + [it for it in left if not it.copied]
+    rows |= {it.name: row_of(it, base) for it in left if it.kind}
+    keep(name, rows)
+    for some in in_rounds(compiled, given.round):
+        rounds.try_round(judged, some)
+        rows |= {it.name: row_of(it, base) for it in some}
+        keep(name, rows)
+        print(f"{name}: {counts(rows)}", flush=True)
+    print(f"{name}: {counts(rows)}; {judged.checks} checks, {judged.seconds:.0f} s of processor", flush=True)
+
+
+def counts(rows):
+    found = collections.Counter(it["verdict"] for it in rows.values())
+    return ", ".join(f"{found[it]} {it}" for it in (REFUSED, NOT_JUDGED, ACCEPTED, BROKEN))
+
+
+# ---- the report
+
+
+def report():
+    """Writes docs/mutants.md, and returns how many accepted mutants have no line."""
+    names = sorted(it.removesuffix(".tsv") for it in os.listdir(FOLDER) if it.endswith(".tsv") and it != "lines.tsv")
+    with open(LINES, encoding="utf-8") as file:
+        lines = dict(it.rstrip("\n").split("\t", 1) for it in file if "\t" in it)
+    out = ["# Mutants", "", "Small changes of functions, made by `scripts/mutants.py`, and what the prover says of them. What doesn't compile doesn't count.", ""]
+    out += ["| Crate | Tried | Refused | Not judged | Accepted |", "|---|--:|--:|--:|--:|"]
+    total, accepted = collections.Counter(), []
+    for name in names:
+        rows = [it for it in kept(name).values() if it["verdict"] != BROKEN]
+        found = collections.Counter(it["verdict"] for it in rows)
+        total += found
+        accepted += [(name, it) for it in rows if it["verdict"] == ACCEPTED]
+        out.append(f"| `{name}` | {len(rows)} | {found[REFUSED]} | {found[NOT_JUDGED]} | {found[ACCEPTED]} |")
+    out.append(f"| all | {total.total()} | {total[REFUSED]} | {total[NOT_JUDGED]} | {total[ACCEPTED]} |")
+    out += ["", "## Accepted", "", "| Function | Change | Why it passes |", "|---|---|---|"]
+    missing = 0
+    for name, it in accepted:
+        why = lines.get(it["id"], "")
+        missing += not why
+        change = it["change"].replace("|", "\\|")
+        out.append(f"| `{name}::{it['function']}` | `{change}` | {why or '**nothing is written of it**'} |")
+    with open(f"{clones.TOP}/docs/mutants.md", "w", encoding="utf-8") as file:
+        file.write("\n".join(out) + "\n")
+    print(f"{len(accepted) - missing} passed, {missing} failed")
+    return missing
+
+
+def main():
+    ask = argparse.ArgumentParser(description=__doc__, formatter_class=argparse.RawDescriptionHelpFormatter)
+    ask.add_argument("names", nargs="*", metavar="NAME")
+    ask.add_argument("--most", type=int, default=8, metavar="N", help="how many mutants of a function at most")
+    ask.add_argument("--round", type=int, default=60, metavar="N", help="how many in one check")
+    ask.add_argument("--side-by-side", type=int, default=1, metavar="N", help="how many crates at one time")
+    ask.add_argument("--function", default="", metavar="WORD", help="functions alone in whose name this stands")
+    ask.add_argument("--logs", default="")
+    ask.add_argument("--list", action="store_true", help="print the mutants, and try none")
+    ask.add_argument("--report", action="store_true", help="write docs/mutants.md")
+    given = ask.parse_args()
+    if given.report:
+        return 1 if report() else 0
+    crates = clones.crates_in(clones.TOP)
+    wanted = [clones.known(crates, it) for it in given.names]
+    if given.list:
+        for crate in wanted:
+            for it in all_mutants(rounds.Judged(crate.name, crate.path(clones.TOP)), given):
+                print(f"{it.name} {crate.name}::{it.mutated}: {it.of_kind}: {it.change}")
+        return 0
+    if given.logs:
+        os.makedirs(given.logs, exist_ok=True)
+    with clones.folder_for_clones() as folder:
+        first = f"{folder}/1"
+        clones.clone(clones.TOP, first)
+        libraries = clones.with_all_below(wanted)
+        clones.take_kept(clones.TOP, first, libraries)
+        for crate in libraries:
+            print(f"{crate.name}: library, {clones.build(first, crate):.0f} s of processor", flush=True)
+        with ThreadPoolExecutor(max(1, given.side_by_side)) as pool:
+            runs = []
+            for number, crate in enumerate(wanted, 2):
+                room = f"{folder}/{number}"
+                clones.clone(clones.TOP, room)
+                clones.take_kept(first, room, libraries)
+                runs.append(pool.submit(try_crate, crate.name, room, given))
+            for it in runs:
+                it.result()
+    return 0
+
+
+if __name__ == "__main__":
+    clones.ended_well("mutants.py", main)
