@@ -18,7 +18,7 @@ def main(path):
     with open(path, encoding="utf-8", newline="") as file:
         rows = list(csv.DictReader(file))
     longest = max(float(it["megabytes_a_second"]) for it in rows)
-    parts, y = [], 34
+    parts, y = [], 44
     for job in dict.fromkeys(it["job"] for it in rows):
         parts.append(f'  <text x="10" y="{y}" font-weight="600">{html.escape(TITLES.get(job, job))}</text>')
         y += 10
