@@ -9,7 +9,7 @@ large tables, many units over one table and over one each, references in rings a
 three sizes, of which the next is twice the last, and handed to each of its commands. Valgrind counts the instructions of each run. Printed are the bytes of the
 largest sections, the instructions for each of them, how many times as much the last doubling adds as the one before it (linear growth gives 2),
 and, over sections LARGE times as large as the smallest, the most memory in bytes for each byte of the sections, beyond what the program takes anyhow. The status is 1
-where a run ends otherwise than it should, where that number isn't between 1.4 and 2.2 though a byte takes FEW instructions or more, where the memory is more than MOST bytes a byte,
+where a run ends otherwise than it should, where that number isn't between 1.4 and 2.2, nor over sections twice as large, though a byte takes FEW instructions or more, where the memory is more than MOST bytes a byte,
 or where valgrind or GNU time isn't there, else 0.
 """
 
@@ -29,6 +29,12 @@ LARGE = 64
 
 # The most memory, in bytes for each byte of the sections.
 MOST = 60
+
+# So many bytes of sections tell of memory.
+ENOUGH = 60_000
+
+# How many times as much the last doubling may add as the one before it.
+LEAST, GREATEST = 1.4, 2.2
 
 # Where a run takes fewer instructions a byte, what it takes anyhow hides how they grow.
 FEW = 10
@@ -347,19 +353,36 @@ def peak(words, room):
 def measured(program, shape, number, idle, room):
     """Of a command of a shape, by its number: a row of the table, and whether it is well."""
     took = []
-    for times in (2, 4, 8):
+    for times in (2, 4, 8, 16):
+        # (lists that double their room make steps, so a factor past the bounds is looked at once more over larger sections)
+        if times == 16 and LEAST <= factor_of(took) <= GREATEST:
+            break
         files, commands, status = shape(times)
         ended, count = instructions(words_over(program, files, commands[number], room), room)
         if ended > 1 or status == 1 and ended != 1 or not count:
             return f"| {shape.__name__} | `{commands[number][0]}` | ended with {ended} | | | |", False
         took.append(count)
-    size = sum(map(len, files.values()))
-    factor = (took[2] - took[1]) / (took[1] - took[0])
-    files, commands, _ = shape(LARGE)
-    large = sum(map(len, files.values()))
-    each = max(0, peak(words_over(program, files, commands[number], room), room) - idle) / large
-    well = (1.4 <= factor <= 2.2 or took[2] < FEW * size) and each <= MOST
-    return f"| {shape.__name__} | `{commands[number][0]}` | {size:,} | {took[2] / size:,.0f} | {factor:.2f} | {each:.1f} |" + " past its bounds" * (not well), well
+        size = sum(map(len, files.values()))
+    factor = factor_of(took)
+    large, each = memory(program, shape, number, idle, room)
+    well = (LEAST <= factor <= GREATEST or took[-1] < FEW * size) and each <= MOST
+    return f"| {shape.__name__} | `{commands[number][0]}` | {size:,} | {took[-1] / size:,.0f} | {factor:.2f} | {each:.1f} |" + f" past its bounds, over {large:,} bytes" * (not well), well
+
+
+def factor_of(took):
+    return (took[-1] - took[-2]) / (took[-2] - took[-3])
+
+
+def memory(program, shape, number, idle, room):
+    """How many bytes the sections have over which memory is measured, and how many a run takes for each of them."""
+    times, large = LARGE, 0
+    # (what a run takes anyhow differs by some pages from run to run, so few bytes tell nothing)
+    while large < ENOUGH:
+        files, commands, _ = shape(times)
+        before, large, times = large, sum(map(len, files.values())), 4 * times
+        if large == before:
+            break
+    return large, max(0, peak(words_over(program, files, commands[number], room), room) - idle) / large
 
 
 def main(program, wanted):

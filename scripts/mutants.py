@@ -230,8 +230,8 @@ def without_broken(crate, edits):
                     broken.add(it.name)
         gone = [it for it in left if not broken.isdisjoint(it.within)]
         if not gone:
-            if "error" in said:
-                raise Stop(f"{crate.name}: the front end refuses something else: {next(it for it in said.splitlines() if 'error' in it)[:200]}")
+            if rounds.UNREAD.search(said):
+                raise Stop(f"{crate.name}: the front end refuses something else: {rounds.UNREAD.search(said)[0][:200]}")
             return left
         for it in gone:
             it.set(rounds.BAD)
