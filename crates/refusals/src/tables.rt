@@ -91,9 +91,15 @@ fn add(builder: &mut TableBuilder, decl: Decl, text: &mut String) -> Result<(), 
     match builder.add(decl) {
         Err((TableRefusal::NoMemory, again)) => {
             told::refused(text, "add")?;
-            let answer = builder.add(again).map_err(|(refusal, _)| refusal);
-            tell_answer(text, "add", answer)
+            tell_answer(text, "add", without_decl(builder.add(again)))
         }
-        answer => tell_answer(text, "add", answer.map_err(|(refusal, _)| refusal)),
+        answer => tell_answer(text, "add", without_decl(answer)),
+    }
+}
+
+fn without_decl(answer: Result<(), (TableRefusal, Decl)>) -> Result<(), TableRefusal> {
+    match answer {
+        Ok(()) => Ok(()),
+        Err((refusal, _)) => Err(refusal),
     }
 }

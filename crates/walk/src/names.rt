@@ -34,8 +34,8 @@ fn print_names<'a>(
         let (Some(unit), Some(start)) = (section.unit(item), section.start(item)) else {
             continue;
         };
-        for entry in unit.entries().filter(|it| it.attr(DW_AT_TYPE).is_some()) {
-            let Some(name) = entry.attr(DW_AT_NAME) else {
+        for entry in unit.entries() {
+            let (Some(name), Some(_)) = (entry.attr(DW_AT_NAME), entry.attr(DW_AT_TYPE)) else {
                 continue;
             };
             let id = EntryId {
