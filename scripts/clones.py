@@ -34,10 +34,11 @@ class Stop(Exception):
 
 @dataclass
 class Crate:
-    """A crate of the repository, and the crates below it, lowest first."""
+    """A crate of the repository, the crates below it, lowest first, and whether it is a library for C."""
 
     name: str
     below: list = field(default_factory=list)
+    is_for_c: bool = False
 
     def path(self, top):
         return os.path.join(top, "crates", self.name)
@@ -57,11 +58,13 @@ class Ran:
 
 def crates_in(top):
     """The crates that crates.txt lists, by their names, those below a crate before it."""
-    listed = {}
+    listed, for_c = {}, set()
     for line in text_of(os.path.join(top, "crates.txt")).split("\n"):
         name, colon, rest = line.partition(":")
         if colon and not line.startswith("#"):
-            listed[name.split()[0]] = rest.split()
+            name, *kind = name.split()
+            listed[name] = rest.split()
+            for_c |= {name} if kind == ["staticlib"] else set()
     made = {}
 
     def make(name):
@@ -69,7 +72,7 @@ def crates_in(top):
             below = []
             for crate in [make(it) for it in listed[name] if it in listed]:
                 below += [it for it in [*crate.below, crate] if it not in below]
-            made[name] = Crate(name, below)
+            made[name] = Crate(name, below, name in for_c)
         return made[name]
 
     for name in listed:

@@ -109,6 +109,9 @@ def judge_fish(judged, commands, options):
 # A program of a user's own.
 SOURCE = "struct point { int x; int y; }; struct point origin; int main(void) { return origin.x; }\n"
 
+# The commands that run elsewhere: the gate itself, and what scripts/bindings.sh does with the library for C.
+ELSEWHERE = (".ci/run", "(cd crates/rothelduf_c && rt lib)", "scripts/install.sh PREFIX", "cc program.c $(pkg-config --cflags --libs rothelduf)")
+
 # How each command of the README ends over it, and what it writes at the least.
 SHOWN = {"show": (0, "DW_TAG_structure_type"), "find main": (0, "DW_TAG_subprogram"), "check": (0, "")}
 
@@ -134,7 +137,7 @@ def own_program(folder):
 
 def judge_command(judged, program, line, output, own, folder):
     said = re.fullmatch(r"\(cd (\S+) && rt (try|run) .*?-- (.*)\)", line)
-    if line == ".ci/run":
+    if line in ELSEWHERE:
         return
     if said and said[2] == "try":
         ran = subprocess.run(line, shell=True, cwd=TOP, capture_output=True, text=True, check=False)
@@ -166,7 +169,9 @@ def judge_audit(judged, program, own, folder):
 
 def judge_install(judged, folder):
     prefix = f"{folder}/prefix"
-    for words, wanted in (([], 5), (["--uninstall"], 0)):
+    # (the library for C comes with it where that is built)
+    library = 5 * os.path.isfile(f"{TOP}/crates/rothelduf_c/out/librothelduf_c.a")
+    for words, wanted in (([], 5 + library), (["--uninstall"], 0)):
         ran = subprocess.run(["scripts/install.sh", prefix, *words], cwd=TOP, capture_output=True, text=True, check=False)
         found = [it for it in glob.glob(f"{prefix}/**", recursive=True) if os.path.isfile(it)]
         judged.judge(ran.returncode == 0 and len(found) == wanted, f"scripts/install.sh {words}: {found} {ran.stderr}")

@@ -1,9 +1,10 @@
 #!/bin/sh
-# Installs the program with its manual page and its completions, or takes them away.
+# Installs the program with its manual page and its completions, and the library for C, or takes them away.
 #
 # Usage: scripts/install.sh PREFIX [--uninstall]
 #
 # PREFIX/bin gets `dwarf` (crates/dwarf/out/dwarf, which has to be built before), PREFIX/share the manual page and the completions of bash, zsh and fish.
+# Where crates/rothelduf_c is built (`rt lib`), PREFIX/include and PREFIX/lib get the library for C (scripts/c_library.sh).
 # DESTDIR, where it is set, stands before PREFIX. With --uninstall the same files are taken away, and nothing else.
 set -eu
 
@@ -29,6 +30,8 @@ if [ $# -eq 2 ]; then
     files | while read -r _ _ to; do
         rm -f "$prefix/$to"
     done
+    rm -f "$prefix/include/rothelduf.h" "$prefix/include/rothelduf_constants.h" "$prefix/lib/librothelduf_c.a" "$prefix/lib/librothelduf_c.so" \
+        "$prefix/lib/pkgconfig/rothelduf.pc"
     exit 0
 fi
 if [ ! -x "$here/crates/dwarf/out/dwarf" ]; then
@@ -40,3 +43,6 @@ files | while read -r rights from to; do
     cp "$here/$from" "$prefix/$to"
     chmod "$rights" "$prefix/$to"
 done
+if [ -f "$here/crates/rothelduf_c/out/librothelduf_c.a" ]; then
+    "$here/scripts/c_library.sh" "$1"
+fi

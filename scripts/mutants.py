@@ -1,7 +1,7 @@
 #!/usr/bin/env python3
 """Changes functions at random, mutant by mutant, and lets the prover judge each: how many do the contracts let through?
 
-Usage: scripts/mutants.py NAME.. [--most N] [--side-by-side N] [--round N] [--function WORD] [--logs FOLDER] [--list]
+Usage: scripts/mutants.py NAME.. [--most N] [--side-by-side N] [--round N] [--function WORD] [--again] [--logs FOLDER] [--list]
        scripts/mutants.py --report
 
 A mutant is a function with one small change of its body: a comparison turned or off by one, another operator, a constant one more or one less, a condition negated, two arms or two
@@ -15,9 +15,11 @@ crate are put into its files at once and looked at by `rt check --only ''`, whic
     not judged  only its proof file names what is gone, or nothing is told of it
     accepted    it is proved
 
+An early return that isn't judged is tried with its value at the end instead, behind the whole body, of which nothing is gone then. --again tries once more what wasn't judged.
+
 A verdict is kept in mutants/NAME.tsv, by a sum of the mutant's text and of the sources of its crate but for proofs (what its contracts say); what stands there isn't tried again. Of each accepted
-one a line of mutants/lines.tsv says why (`ID reason`): it means the same, or no clause can say it and a case or a test is named that catches it. --report writes docs/mutants.md
-out of both, and its status is 1 where an accepted one has no line. The libraries begin with what `rt lib` and `rt check` kept in the tree at hand, where nothing may run then. `.ci/run` doesn't
+one a line of mutants/lines.tsv says why (`ID reason`, or `CRATE::FUNCTION reason` for all of a function): it means the same, or no clause can say it and a case or a test is named that
+catches it. --report writes docs/mutants.md out of both, and its status is 1 where an accepted one has no line. The libraries begin with what `rt lib` and `rt check` kept in the tree at hand, where nothing may run then. `.ci/run` doesn't
 run this: a crate takes minutes to an hour, and all of them hours.
 """
 
@@ -196,6 +198,8 @@ def mutants_of(crate, path, function, most):
         edit = rounds.Edit(crate, name, new)
         edit.pairs = [(path, text[first:behind], text[first : function.begin] + new + text[function.end : behind])]
         edit.mutated, edit.of_kind, edit.change = function.name, kind, told(body, new)
+        value = new.removeprefix("\n    return ").partition(";")[0] if kind == "early return" else ""
+        edit.at_end = text[first : function.begin] + f"\n    let _answer = {{{body}}};\n    {value}\n" + text[function.end : behind] if value.strip() not in ("", "return") else ""
         if function.can_be_copied:
             edit.copied = {function.name: path}
             edit.within = {f"{function.name}_{name}"}
@@ -209,6 +213,17 @@ def all_mutants(crate, given):
     for path, function in rounds.all_functions(crate):
         if given.function in function.name and function.name != "main" and not path.startswith("src/laws"):
             yield from mutants_of(crate, path, function, given.most)
+
+
+def at_end(edit):
+    """An early return with its value at the end instead, behind all that the function does."""
+    other = rounds.Edit(edit.crate, f"{edit.name}e", edit.at_end)
+    (path, old, _), = edit.pairs
+    other.pairs = [(path, old, edit.at_end)]
+    other.copied = edit.copied
+    other.within = {f"{name}_{other.name}" for name in edit.copied} or edit.within
+    other.functions = {it: it for it in other.within} if edit.copied else edit.functions
+    return other
 
 
 # ---- what compiles
@@ -304,16 +319,28 @@ def try_crate(name, room, given):
     ids = {it.name for it in edits}
     if not given.function:
         rows = {key: row for key, row in rows.items() if key in ids}
-    left = [it for it in edits if rows.get(it.name, {}).get("sum") != base]
+    left = [it for it in edits if rows.get(it.name, {}).get("sum") != base or given.again and rows[it.name]["verdict"] == NOT_JUDGED]
     compiled = without_broken(judged, [it for it in left if it.copied]) + [it for it in left if not it.copied]
     rows |= {it.name: row_of(it, base) for it in left if it.kind}
     keep(name, rows)
     for some in in_rounds(compiled, given.round):
         rounds.try_round(judged, some)
+        try_at_end(judged, [it for it in some if it.at_end and VERDICTS[it.kind] == NOT_JUDGED])
         rows |= {it.name: row_of(it, base) for it in some}
         keep(name, rows)
         print(f"{name}: {counts(rows)}", flush=True)
     print(f"{name}: {counts(rows)}; {judged.checks} checks, {judged.seconds:.0f} s of processor", flush=True)
+
+
+def try_at_end(judged, edits):
+    """Tries these early returns with their values at the end, and takes over what is told of them so."""
+    others = {it.name: at_end(it) for it in edits}
+    if others:
+        rounds.try_round(judged, list(others.values()))
+    for it in edits:
+        other = others[it.name]
+        if VERDICTS[other.kind] in (REFUSED, ACCEPTED):
+            it.kind, it.what, it.change = other.kind, other.what, f"{it.change} at the end"
 
 
 def counts(rows):
@@ -339,13 +366,14 @@ def report():
         accepted += [(name, it) for it in rows if it["verdict"] == ACCEPTED]
         out.append(f"| `{name}` | {len(rows)} | {found[REFUSED]} | {found[NOT_JUDGED]} | {found[ACCEPTED]} |")
     out.append(f"| all | {total.total()} | {total[REFUSED]} | {total[NOT_JUDGED]} | {total[ACCEPTED]} |")
-    out += ["", "## Accepted", "", "| Function | Change | Why it passes |", "|---|---|---|"]
-    missing = 0
+    out += ["", "## Accepted", "", "| Function | Changes | Why they pass |", "|---|---|---|"]
+    missing, told = 0, collections.defaultdict(list)
     for name, it in accepted:
-        why = lines.get(it["id"], "")
+        function = f"{name}::{it['function']}"
+        why = lines.get(it["id"]) or lines.get(function, "")
         missing += not why
-        change = it["change"].replace("|", "\\|")
-        out.append(f"| `{name}::{it['function']}` | `{change}` | {why or '**nothing is written of it**'} |")
+        told[function, why].append("`" + it["change"].replace("|", "\\|") + "`")
+    out += [f"| `{function}` | {'; '.join(changes)} | {why or '**nothing is written of it**'} |" for (function, why), changes in told.items()]
     with open(f"{clones.TOP}/docs/mutants.md", "w", encoding="utf-8") as file:
         file.write("\n".join(out) + "\n")
     print(f"{len(accepted) - missing} passed, {missing} failed")
@@ -359,6 +387,7 @@ def main():
     ask.add_argument("--round", type=int, default=60, metavar="N", help="how many in one check")
     ask.add_argument("--side-by-side", type=int, default=1, metavar="N", help="how many crates at one time")
     ask.add_argument("--function", default="", metavar="WORD", help="functions alone in whose name this stands")
+    ask.add_argument("--again", action="store_true", help="try what wasn't judged once more")
     ask.add_argument("--logs", default="")
     ask.add_argument("--list", action="store_true", help="print the mutants, and try none")
     ask.add_argument("--report", action="store_true", help="write docs/mutants.md")

@@ -3,7 +3,7 @@
 
 Usage: scripts/pieces.py PROGRAM [ABBREV INFO]
 
-PROGRAM is the built `pieces` (crates/pieces/out/pieces). The unit of each folder of `examples` is pushed in pieces of
+PROGRAM is the built `walk` (crates/walk/out/walk). The unit of each folder of `examples` is pushed in pieces of
 several sizes, and each time written and compared with its bytes. Each front of it, and it with each byte changed in
 three ways, is read at hand and pushed in pieces of one byte, and both have to end alike. Over ABBREV and INFO, the sections of one
 unit of some megabytes, instructions are counted by Valgrind: those of the read at hand, and of the feed by the size of

@@ -47,7 +47,7 @@ def main():
     passed = failed = 0
     for document in ["README.md", *sorted(glob.glob("docs/**/*.md", root_dir=TOP, recursive=True))]:
         for name, quoted, line in quotations(os.path.join(TOP, document)):
-            path = os.path.join(TOP, "crates", name)
+            path = next(filter(os.path.exists, (os.path.join(TOP, "crates", name), os.path.join(TOP, name))), name)
             is_there = os.path.isfile(path)
             if is_there:
                 with open(path, encoding="utf-8") as file:

@@ -47,7 +47,7 @@ import clones
 from clones import Stop
 
 PUB = r"(?:pub(?:\([\w: ]+\))? )?"
-FUNCTION = re.compile(rf"(?m)^( *){PUB}(?:(?:const|unsafe) )*fn (\w+)")
+FUNCTION = re.compile(rf"(?m)^( *){PUB}(?:(?:const|unsafe|extern \"C\") )*fn (\w+)")
 CYCLE = re.compile(r"#\[cycle\((\w+)\)\]\n *")
 OWNER = re.compile(rf"(?m)^(?:unsafe )?(?:impl(?:<.*?>)? (.*?)(?: {{)?|{PUB}trait (\w+).*)$")
 
@@ -718,10 +718,11 @@ def try_apart(one, kept, libraries, logs, rooms):
 
 
 def libraries_for(work):
-    """The crates whose libraries are built first: those below, and those of many rounds, which then begin over what that kept."""
+    """The crates whose libraries are built first: those below, those of many rounds, which then begin over what that kept, and those for C, which
+    scripts/bindings.sh calls."""
     below = [it for one in work for it in one.crate.below]
-    of_many = [one.crate for one in work if len(plan(one.edits[0].crate, one.to_try(), is_built=False)) > FEW_ROUNDS]
-    return [it for it in clones.with_all_below([it.crate for it in work]) if it in below or it in of_many]
+    others = [one.crate for one in work if one.crate.is_for_c or len(plan(one.edits[0].crate, one.to_try(), is_built=False)) > FEW_ROUNDS]
+    return [it for it in clones.with_all_below([it.crate for it in work]) if it in below or it in others]
 
 
 def main():

@@ -1,8 +1,12 @@
-//! An example of a program over the library: reads a unit from two files, walks its entries, looks one
-//! up, builds the same unit again, and writes it; then prints the names and types of a whole section.
+//! Examples of programs over the library: reads a unit from two files, walks its entries, looks one up, builds the same
+//! unit again, and writes it; prints the names and types of a whole section; and pushes a unit in pieces.
+//!
+//! `walk ABBREV INFO` pushes the unit of these files in pieces of several sizes, and `walk ABBREV INFO SIZE` once in pieces
+//! of so many bytes, or with 0 in none.
 #![tactic(auto)]
 
 mod names;
+mod pieces;
 
 use rothelduf::constants::attribute::{DW_AT_BYTE_SIZE, DW_AT_NAME};
 use rothelduf::constants::form::{DW_FORM_DATA1, DW_FORM_STRING};
@@ -13,8 +17,8 @@ use rothelduf::{
 };
 use std::alloc::{AllocError, Global};
 use std::rc::Rc;
-use std::rt::Files;
-use std::{fs, io};
+use std::rt::{Env, Files};
+use std::{env, fs, io};
 use thiserror::Error;
 
 /// Why the example gives up.
@@ -34,14 +38,35 @@ enum WalkError {
     Type(#[from] TypeError),
     #[error("memory")]
     Memory(#[from] AllocError),
+    #[error("usage: walk [ABBREV INFO [SIZE]]")]
+    Usage,
 }
 
 fn main(rt: HostRuntime) -> Result<(), WalkError> {
-    let unit = read(&rt)?;
-    walk(&rt, &unit)?;
+    let words = env::args(&rt)?.skip(1).collect::<Vec<String>>(rt.alloc())?;
+    match words.as_slice() {
+        [] => each(&rt),
+        [abbrev, info] => pieces::every_size(&rt, abbrev.as_str(), info.as_str()),
+        [abbrev, info, size] => {
+            let size = size.as_str().parse().map_err(|_| WalkError::Usage)?;
+            pieces::one_size(&rt, abbrev.as_str(), info.as_str(), size)
+        }
+        _ => Err(WalkError::Usage),
+    }
+}
+
+/// Each example over its own files.
+fn each(rt: &(impl AllocGlobal + Files + Print)) -> Result<(), WalkError> {
+    walk_and_build(rt)?;
+    names::print_linked(rt)?;
+    pieces::every_size(rt, "pieces_abbrev", "pieces_info")
+}
+
+fn walk_and_build(rt: &(impl AllocGlobal + Files + Print)) -> Result<(), WalkError> {
+    let unit = read(rt)?;
+    walk(rt, &unit)?;
     let built = build(rt.alloc(), &unit)?;
-    compare(&rt, &unit, &built)?;
-    names::print_linked(&rt)
+    compare(rt, &unit, &built)
 }
 
 /// The unit at the front of `debug_info`, over its table in `debug_abbrev`.

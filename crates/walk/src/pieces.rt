@@ -1,51 +1,20 @@
-//! An example of a program that pushes: the unit at the front of a `.debug_info`, in pieces.
-//!
-//! `pieces ABBREV INFO` reads the unit in pieces of several sizes, and says of each whether the unit that came is
-//! written as the bytes that were pushed. `pieces ABBREV INFO SIZE` reads it once in pieces of so many bytes, and
-//! says how many bytes it has; with 0 by the call that takes the bytes at hand.
-#![tactic(auto)]
+//! A unit that is pushed in pieces of several sizes, and whether the unit that comes is written as the bytes that were pushed.
 
+use crate::WalkError;
 use rothelduf::{
     BodyFeed, Fault, HeadFeed, Order, Progress, ReadError, Tables, Unit, Versions, Watched,
     WriteError, read_unit_as, write_unit,
 };
-use std::alloc::{AllocError, Global};
-use std::rt::{Env, Files};
-use std::{env, fs, io};
-use thiserror::Error;
+use std::alloc::Global;
+use std::fs;
+use std::rt::Files;
 
-/// Why the example gives up.
-#[derive(Debug, Drop, Error)]
-enum PiecesError {
-    #[error("{0}")]
-    Io(#[from] io::Error),
-    #[error("{0}")]
-    Read(#[from] ReadError),
-    #[error("{0}")]
-    Write(#[from] WriteError),
-    #[error("memory")]
-    Memory(#[from] AllocError),
-    #[error("usage: pieces ABBREV INFO [SIZE]")]
-    Usage,
-}
-
-fn main(rt: HostRuntime) -> Result<(), PiecesError> {
-    let words = env::args(&rt)?.skip(1).collect::<Vec<String>>(rt.alloc())?;
-    match words.as_slice() {
-        [abbrev, info] => every_size(&rt, abbrev.as_str(), info.as_str()),
-        [abbrev, info, size] => {
-            let size = size.as_str().parse().map_err(|_| PiecesError::Usage)?;
-            one_size(&rt, abbrev.as_str(), info.as_str(), size)
-        }
-        _ => Err(PiecesError::Usage),
-    }
-}
-
-fn every_size(
+/// Pushes the unit in pieces of several sizes, and says of each whether it is the same.
+pub(crate) fn every_size(
     rt: &(impl AllocGlobal + Files + Print),
     abbrev: &str,
     info: &str,
-) -> Result<(), PiecesError> {
+) -> Result<(), WalkError> {
     let abbreviations = fs::read(rt, abbrev)?;
     let info = fs::read(rt, info)?;
     let mut tables = Tables::new(rt.alloc(), abbreviations.as_slice());
@@ -56,7 +25,7 @@ fn push_in_every_size(
     rt: &(impl AllocGlobal + Print),
     tables: &mut Tables<'_>,
     info: &[u8],
-) -> Result<(), PiecesError> {
+) -> Result<(), WalkError> {
     for size in [1, 2, 3, 7, 16, 17, 4096] {
         let unit = pushed(rt.alloc(), tables, info, size)?;
         tell_whether_same(rt, &unit, info, size)?;
@@ -69,17 +38,18 @@ fn tell_whether_same(
     unit: &Unit,
     info: &[u8],
     size: usize,
-) -> Result<(), PiecesError> {
+) -> Result<(), WalkError> {
     let same = is_front(rt.alloc(), unit, info)?;
     Ok(println!(rt; "{size}: {same}")?)
 }
 
-fn one_size(
+/// Pushes the unit in pieces of one size, and says how many bytes it has; with 0 by the call that takes the bytes at hand.
+pub(crate) fn one_size(
     rt: &(impl AllocGlobal + Files + Print),
     abbrev: &str,
     info: &str,
     size: usize,
-) -> Result<(), PiecesError> {
+) -> Result<(), WalkError> {
     let abbreviations = fs::read(rt, abbrev)?;
     let info = fs::read(rt, info)?;
     let mut tables = Tables::new(rt.alloc(), abbreviations.as_slice());
@@ -93,14 +63,14 @@ fn unit_of(
     tables: &mut Tables<'_>,
     info: &[u8],
     size: usize,
-) -> Result<Unit, PiecesError> {
+) -> Result<Unit, WalkError> {
     match size {
         0 => at_hand(alloc, tables, info),
         size => pushed(alloc, tables, info, size),
     }
 }
 
-fn at_hand(alloc: Global, tables: &mut Tables<'_>, bytes: &[u8]) -> Result<Unit, PiecesError> {
+fn at_hand(alloc: Global, tables: &mut Tables<'_>, bytes: &[u8]) -> Result<Unit, WalkError> {
     let (unit, _size) = read_unit_as(alloc, Order::Little, Versions::FourAndFive, tables, bytes)?;
     Ok(unit)
 }
@@ -111,7 +81,7 @@ fn pushed(
     tables: &mut Tables<'_>,
     bytes: &[u8],
     size: usize,
-) -> Result<Unit, PiecesError> {
+) -> Result<Unit, WalkError> {
     let mut feed = HeadFeed::new_as(Order::Little, Versions::FourAndFive);
     let mut left = bytes;
     for _ in 0..bytes.len() {
@@ -123,7 +93,7 @@ fn pushed(
                 let body = BodyFeed::new(alloc, header, unit_length, table);
                 return pushed_behind(body, left, size);
             }
-            Progress::Fault(fault) => return Err(PiecesError::Read(ReadError::Fault(fault))),
+            Progress::Fault(fault) => return Err(WalkError::Read(ReadError::Fault(fault))),
             _ => {}
         }
     }
@@ -131,7 +101,7 @@ fn pushed(
 }
 
 /// The rest of the unit, behind its header.
-fn pushed_behind(mut feed: BodyFeed, bytes: &[u8], size: usize) -> Result<Unit, PiecesError> {
+fn pushed_behind(mut feed: BodyFeed, bytes: &[u8], size: usize) -> Result<Unit, WalkError> {
     let mut left = bytes;
     for _ in 0..bytes.len() {
         let (piece, behind) = left.split_at(left.len().min(size));
@@ -139,19 +109,19 @@ fn pushed_behind(mut feed: BodyFeed, bytes: &[u8], size: usize) -> Result<Unit, 
         match feed.feed(piece).1 {
             Progress::More => {}
             Progress::Done(unit) => return Ok(unit),
-            Progress::Fault(fault) => return Err(PiecesError::Read(ReadError::Fault(fault))),
+            Progress::Fault(fault) => return Err(WalkError::Read(ReadError::Fault(fault))),
             Progress::NoMemory | Progress::Spent => {
-                return Err(PiecesError::Read(ReadError::NoMemory));
+                return Err(WalkError::Read(ReadError::NoMemory));
             }
         }
     }
     ended(feed.end())
 }
 
-fn ended<T>(end: Option<Fault>) -> Result<T, PiecesError> {
+fn ended<T>(end: Option<Fault>) -> Result<T, WalkError> {
     match end {
-        Some(fault) => Err(PiecesError::Read(ReadError::Fault(fault))),
-        None => Err(PiecesError::Read(ReadError::NoMemory)),
+        Some(fault) => Err(WalkError::Read(ReadError::Fault(fault))),
+        None => Err(WalkError::Read(ReadError::NoMemory)),
     }
 }
 
