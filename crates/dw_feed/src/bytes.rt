@@ -1,17 +1,39 @@
 //! Bytes that are taken from a reader and kept.
 ghost use Rattle.std.specs.Prelude.{◌≡◌, ◌≤◌, None, IfErr, length, vec_items};
+ghost use Rattle.std.specs.Io.{ReadsAtMost};
+ghost use Rattle.std.specs.Result.{result_err};
+ghost use Rattle.std.specs.Io.KnownBytes.{ReadConsumes};
 ghost use Rattle.dw_leb.specs.Watch.{inner_of, fault_of, reader_fault, KeptSome};
 ghost use Rattle.dw_feed.specs.Feed.{ReadsField, ReadsUpTo, HoldsTaken, IsEscape};
 
 use dw_leb::{ReadError, Watched};
 use std::alloc::Global;
-use std::io::Read;
+use std::io::{ErrorKind, Read};
 
 /// The most bytes that are read at once.
 const CHUNK: usize = 4096;
 
 /// The most of few, as in a length field: a larger piece of the stack would cost more than these.
 const FEW: usize = 16;
+
+/// One read from a reader, which may be of fewer bytes than `part` has room for; or the kind of its fault.
+pub(crate) fn read_part<R: Read>(
+    reader: &mut Watched<R>,
+    part: &mut [u8],
+) -> Result<usize, ErrorKind>
+    requires { fault_of reader.old ≡ None }
+    ensures bound { ReadsAtMost result part.new }
+    ensures bytes { ReadConsumes
+        (R.remaining (inner_of reader.old))
+        (R.remaining (inner_of reader.new))
+        result part.new }
+    ensures fault { fault_of reader.new ≡ result_err result }
+{
+    match reader.read(part) {
+        Ok(got) => Ok(got),
+        Err(fault) => Err(fault.kind()),
+    }
+}
 
 /// The bytes of an initial length (section 7.4): four, and eight more where those are ff ff ff ff. Fewer where the
 /// reader has no more. `NoMemory` is returned where a growth was refused, and only where at least a byte was
@@ -70,9 +92,9 @@ pub fn read_up_to<R: Read>(
     let mut left = most;
     while left > 0 {
         let want = left.min(CHUNK as u64) as usize;
-        let got = match reader.read(&mut chunk[..want]) {
+        let got = match read_part(reader, &mut chunk[..want]) {
             Ok(got) => got,
-            Err(e) => return Err(ReadError::Io(e.kind())),
+            Err(kind) => return Err(ReadError::Io(kind)),
         };
         if got == 0 {
             return Ok(());
@@ -104,9 +126,9 @@ fn read_few<R: Read>(
     let mut chunk = [0u8; FEW];
     let mut left = most;
     while left > 0 {
-        let got = match reader.read(&mut chunk[..left]) {
+        let got = match read_part(reader, &mut chunk[..left]) {
             Ok(got) => got,
-            Err(fault) => return Err(ReadError::Io(fault.kind())),
+            Err(kind) => return Err(ReadError::Io(kind)),
         };
         if got == 0 {
             return Ok(());

@@ -10,6 +10,7 @@ ghost use Rattle.dw_feed.specs.Feed.{behind, StartsWith, InUnit, TakesUnit, Take
 ghost use Rattle.dw_feed.specs.FeedReads.{TakesHeader, TakesNoHeader, TakesBody, TakesNoBody};
 
 use crate::body::BodyFeed;
+use crate::bytes::read_part;
 use crate::head::HeadFeed;
 use crate::progress::Progress;
 use dw_abbrev::{Table, Tables};
@@ -145,9 +146,9 @@ fn head_from<R: Read>(feed: HeadFeed, reader: &mut Watched<R>) -> Result<(Header
     let mut part = [0u8; PART];
     loop {
         let want = feed.wants();
-        let got = match reader.read(&mut part[..want]) {
+        let got = match read_part(reader, &mut part[..want]) {
             Ok(got) => got,
-            Err(e) => return Err(ReadError::Io(e.kind())),
+            Err(kind) => return Err(ReadError::Io(kind)),
         };
         if got == 0 {
             return match feed.end() {
@@ -234,9 +235,9 @@ fn body_through<R: Read>(
             Progress::Spent => unreachable!(),
         }
         let want = left.min(chunk.len() as u64) as usize;
-        got = match reader.read(&mut chunk[..want]) {
+        got = match read_part(reader, &mut chunk[..want]) {
             Ok(got) => got,
-            Err(e) => return Err(ReadError::Io(e.kind())),
+            Err(kind) => return Err(ReadError::Io(kind)),
         };
         if got == 0 {
             return match feed.end() {

@@ -7,10 +7,10 @@ pub returns-in_err-extend_from_slice-clause-bytes : goal.returns-in_err-extend_f
 returns-in_err-extend_from_slice-clause-bytes g c =
     let p = err_from_is_err_and c.from_residual.result c.from_residual.ensures.1 in
     let before = c.loop-left.invariant.taken in
-    let next = take c.in-Ok.got c.read.new.buf in
+    let next = take c.in-Ok.got c.read_part.new.part in
     rw (p.1, p.2) (
       before.0 ++ next,
-      omega (arith, length-append before.0 next, length-take c.in-Ok.got c.read.new.buf, before.2, c.in-Ok.ensures.bound.0, c.read.auto.buf, length-take c.min-want.result c.loop-left.chunk, c.min-want.ensures, c.if-got-eq0.false),
+      omega (arith, length-append before.0 next, length-take c.in-Ok.got c.read_part.new.part, before.2, c.in-Ok.ensures.bound.0, c.read_part.auto.part, length-take c.min-want.result c.loop-left.chunk, c.min-want.ensures, c.if-got-eq0.false),
       consumes_more _ _ _ _ _ before.3 c.in-Ok.ensures.bytes.0,
     )
 
@@ -18,10 +18,10 @@ pub returns-in_err-extend_from_slice-clause-memory : goal.returns-in_err-extend_
 returns-in_err-extend_from_slice-clause-memory g c =
     let p = err_from_is_err_and c.from_residual.result c.from_residual.ensures.1 in
     let before = c.loop-left.invariant.taken in
-    let next = take c.in-Ok.got c.read.new.buf in
+    let next = take c.in-Ok.got c.read_part.new.part in
     rw (p.1, p.2) (
       before.0 ++ next,
-      omega (arith, length-append before.0 next, length-take c.in-Ok.got c.read.new.buf, c.in-Ok.ensures.bound.0, c.in-Ok.ensures.bound.1, c.read.auto.buf, length-take c.min-want.result c.loop-left.chunk, c.if-got-eq0.false),
+      omega (arith, length-append before.0 next, length-take c.in-Ok.got c.read_part.new.part, c.in-Ok.ensures.bound.0, c.in-Ok.ensures.bound.1, c.read_part.auto.part, length-take c.min-want.result c.loop-left.chunk, c.if-got-eq0.false),
       consumes_more _ _ _ _ _ before.3 c.in-Ok.ensures.bytes.0,
     )
 
@@ -29,7 +29,7 @@ pub returns-in_err-extend_from_slice-clause-kept : goal.returns-in_err-extend_fr
 returns-in_err-extend_from_slice-clause-kept g c =
     let p = err_from_is_err_and c.from_residual.result c.from_residual.ensures.1 in
     let before = c.loop-left.invariant.taken in
-    let next = take c.in-Ok.got c.read.new.buf in
+    let next = take c.in-Ok.got c.read_part.new.part in
     rw (p.1, p.2) (
       before.0,
       next,

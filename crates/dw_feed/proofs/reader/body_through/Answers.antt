@@ -56,8 +56,8 @@ returns-then-got-eq0-clause-broken g c =
     let piece : List ℕ = take c.loop-unit.got c.loop-unit.chunk in
     let next = more_feeds now piece c.feed-answer.result.0 c.feed-answer.new.self (pushed c.loop-unit.feed c.feed-answer.new.self now piece c.feed-answer.result.0 c.feed-answer.result.1 answers.More i.at.1 c.in-More.is c.feed-answer.ensures.feeds) in
     let more = more_all c.args.header c.args.unit_length c.args.table.value c.requires.spelled now i.at.2 piece i.taken.0 i.taken.2 next.0 c.feed-answer.result.0 next.2 in
-    let some : 0 < length c.read.new.buf = omega (arith, c.read.auto.buf, length-take c.min-want.result c.loop-unit.chunk, i.chunk.0, i.chunk.2, c.min-want.ensures, more.2, i.taken.3) in
-    let took = consumes_nothing _ _ _ i.taken.0 c.read.new.buf c.in-Ok.got c.if-got-eq0.true i.taken.1 c.in-Ok.ensures.bytes.0 in
+    let some : 0 < length c.read_part.new.part = omega (arith, c.read_part.auto.part, length-take c.min-want.result c.loop-unit.chunk, i.chunk.0, i.chunk.2, c.min-want.ensures, more.2, i.taken.3) in
+    let took = consumes_nothing _ _ _ i.taken.0 c.read_part.new.part c.in-Ok.got c.if-got-eq0.true i.taken.1 c.in-Ok.ensures.bytes.0 in
     let ends = subst (λ (x : BodyFeed). EndsBody x (Some c.in-Some.fault)) next.1 c.in-Some.ensures in (
       i.taken.0,
       took,
@@ -72,12 +72,12 @@ loop-unit-preserved g c =
     let piece : List ℕ = take c.loop-unit.got c.loop-unit.chunk in
     let next = more_feeds now piece c.feed-answer.result.0 c.feed-answer.new.self (pushed c.loop-unit.feed c.feed-answer.new.self now piece c.feed-answer.result.0 c.feed-answer.result.1 answers.More i.at.1 c.in-More.is c.feed-answer.ensures.feeds) in
     let more = more_all c.args.header c.args.unit_length c.args.table.value c.requires.spelled now i.at.2 piece i.taken.0 i.taken.2 next.0 c.feed-answer.result.0 next.2 in
-    let got : List ℕ = take c.in-Ok.got c.read.new.buf in
+    let got : List ℕ = take c.in-Ok.got c.read_part.new.part in
     let others : List ℕ = drop c.min-want.result c.loop-unit.chunk in
     let start : List ℕ = stream (started c.args.header c.args.unit_length c.args.table.value) in
-    let same : take c.in-Ok.got (c.read.new.buf ++ others) ≡ got = take-append-le c.in-Ok.got c.read.new.buf others c.in-Ok.ensures.bound.0 in
-    let buf : length c.read.new.buf ≡ length (take c.min-want.result c.loop-unit.chunk) = c.read.auto.buf in
-    let within = got_within c.read.new.buf c.loop-unit.chunk c.in-Ok.got c.min-want.result c.in-Ok.ensures.bound.0 buf in
+    let same : take c.in-Ok.got (c.read_part.new.part ++ others) ≡ got = take-append-le c.in-Ok.got c.read_part.new.part others c.in-Ok.ensures.bound.0 in
+    let buf : length c.read_part.new.part ≡ length (take c.min-want.result c.loop-unit.chunk) = c.read_part.auto.part in
+    let within = got_within c.read_part.new.part c.loop-unit.chunk c.in-Ok.got c.min-want.result c.in-Ok.ensures.bound.0 buf in
     record {
       at = (next.0, next.1, more.0);
       taken = (
@@ -87,7 +87,7 @@ loop-unit-preserved g c =
         omega (arith, length-append i.taken.0 got, within, c.min-want.ensures, i.taken.3),
       );
       chunk = (
-        omega (arith, length-append c.read.new.buf others, length-drop c.min-want.result c.loop-unit.chunk, buf, length-take c.min-want.result c.loop-unit.chunk, i.chunk.0, c.min-want.ensures),
+        omega (arith, length-append c.read_part.new.part others, length-drop c.min-want.result c.loop-unit.chunk, buf, length-take c.min-want.result c.loop-unit.chunk, i.chunk.0, c.min-want.ensures),
         omega (arith, within, c.min-want.ensures),
         i.chunk.2,
       );
