@@ -161,7 +161,7 @@ module _ (k : Ctx) (t : Table) where
         (subst (λ (ps : List Pair). (values k ps).Fits vs) whole own) w.never
         (subst (λ (ps : List Pair). first_values k (pairs r.code) r.values ≡ (values k ps).spell vs ++ b)
         whole spelled) in
-        let longer : length r.values ≡ length (vs ++ began.0) = ap length began.1 in
+        let longer : length r.values ≡ length (vs ++ began.0) = ap length {y = vs ++ began.0} began.1 in
         omega (arith, longer, length-append vs began.0, all, w.short)
 
     no_row : (x : Token) → TokenFits k t x → unfinished_bytes k t (Some r) ≡ row_bytes k t x ++ b → ⊥

@@ -1,4 +1,4 @@
-use Rattle.std.proofs.Common.{◌++◌, ◌∙◌, take, arith, length-append, length-take}
+use Rattle.std.proofs.Common.{◌++◌, ◌∙◌, List, ℕ, take, arith, length-append, length-take}
 use Rattle.std.proofs.lemmas.Result.{err_from_is_err_and}
 use Rattle.dw_leb.specs.Transfers.{consumes_more}
 use Rattle.dw_feed.proofs.bytes.read_few.Goals as goal
@@ -33,6 +33,6 @@ returns-in_err-extend_from_slice-clause-kept g c =
     rw (p.1, p.2) (
       before.0,
       next,
-      c.in_err-extend_from_slice.ensures.items ∙ before.1,
+      ◌∙◌ {A = List ℕ} {b = c.loop-left.bytes.items} c.in_err-extend_from_slice.ensures.items before.1,
       consumes_more _ _ _ _ _ before.3 c.in-Ok.ensures.bytes.0,
     )
