@@ -1,5 +1,5 @@
 -- The numbers of tags, attributes and forms by the names of the standard (tables 7.3, 7.5 and 7.6), and of two forms of
--- GNU. The cases in `part_cases/data/names` pin the program's constants of these names to the same numbers.
+-- GNU. The cases in `library_cases/data/names` pin the program's constants of these names to the same numbers.
 use Rattle.std.specs.Prelude.{ℕ}
 
 -- ---- tags

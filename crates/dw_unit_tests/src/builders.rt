@@ -1,5 +1,5 @@
 //! What needs more than a script of calls: values of more bytes than a unit may have, the same call again after a
-//! growth was refused, and the numbers of refusals. Units that are built call by call are cases of `unit_cases`.
+//! growth was refused, and the numbers of refusals. Units that are built call by call are cases of `library_cases`.
 use crate::common::{TYPED, builder, finished, writes};
 use dw_form::{AttrValue, Value};
 use dw_leb::Uleb;

@@ -1,6 +1,6 @@
 //! What no clause says of drafts: each call once with memory to spare, by a caller that tests what a
 //! call asks for with the draft's own observers, and makes it again where memory is refused; an entry
-//! taken back. The same unit of a builder is a case of `unit_cases`.
+//! taken back. The same unit of a builder is a case of `library_cases`.
 ghost use Rattle.std.specs.Prelude.{IsTrue};
 ghost use Rattle.dw_unit.specs.Draft.{PartialFits, PartialShort};
 

@@ -1,5 +1,5 @@
 //! What needs more than a reader of given bytes: two units of one reader, how much memory is taken, and readers that
-//! fail. Units of readers that give few bytes a call are cases of `unit_cases`.
+//! fail. Units of readers that give few bytes a call are cases of `library_cases`.
 ghost use Rattle.std.specs.Prelude.{◌≡◌, None};
 ghost use Rattle.dw_leb.specs.Watch.{fault_of, reader_fault};
 

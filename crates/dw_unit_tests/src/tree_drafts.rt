@@ -1,5 +1,5 @@
 //! What no clause of `dw_tree` says: trees built by hand over tables whose bytes come from the standard, each call
-//! once with memory to spare, and a writer that fails. What trees lend are cases of `unit_cases`.
+//! once with memory to spare, and a writer that fails. What trees lend are cases of `library_cases`.
 ghost use Rattle.std.specs.Prelude.{◌≡◌, ◌≢◌, ◌≤◌, ◌<◌, [], length, None, IfOk, OnOk};
 ghost use Rattle.dw_leb.specs.View.{uleb_of};
 ghost use Rattle.dw_tree.specs.Steps.{closed_at, end_of};

@@ -1,5 +1,5 @@
 //! What needs more than bytes at hand: names of each length around what a writer has room for, and writers that take
-//! little or fail. Units whose values are known from the standard are cases of `unit_cases`.
+//! little or fail. Units whose values are known from the standard are cases of `library_cases`.
 use crate::common::{FIFTEEN, NAMED, little, same, writes};
 use dw_leb::devices::Stepped;
 use dw_leb::{Watched, WriteError};
