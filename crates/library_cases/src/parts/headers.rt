@@ -3,7 +3,9 @@ ghost use Rattle.std.specs.Prelude.{◌≡◌, IfSome};
 
 use crate::parts::error::CaseError;
 use crate::parts::lengths::{format_of, name_of};
-use crate::parts::words::{allow, append_clause, number, number_of, order, remark, small_of, verb, words};
+use crate::parts::words::{
+    allow, append_clause, number, number_of, order, remark, small_of, verb, words,
+};
 use dw_header::{Header, Kind, Versions, read_header, read_header_as, write_header};
 use dw_leb::{Fault, Format, Order, Watched};
 use std::alloc::Global;
