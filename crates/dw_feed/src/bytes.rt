@@ -128,7 +128,7 @@ fn read_few<R: Read>(
     while left > 0 {
         let got = match read_part(reader, &mut chunk[..left]) {
             Ok(got) => got,
-            Err(kind) => return Err(ReadError::Io(kind)),
+            Err(fault) => return Err(ReadError::Io(fault)),
         };
         if got == 0 {
             return Ok(());
