@@ -85,7 +85,7 @@ done
 
 # ---- Rust and Python
 
-if command -v cargo > /dev/null; then
+if cargo --version > /dev/null 2>&1; then
     judge "the crate in bindings/rust" env ROTHELDUF_LIB="$room/lib" CARGO_TARGET_DIR="$room/rust" RUSTFLAGS="-D warnings" \
         cargo test --quiet --offline --manifest-path "$top/bindings/rust/Cargo.toml"
 fi
