@@ -5,7 +5,7 @@ Usage: scripts/front_door.py PROGRAM
 
 PROGRAM is the built `dwarf` (crates/dwarf/out/dwarf). What `--help` says of it and of each command decides which commands and options there are; the manual page
 (docs/dwarf.1) and the completions (scripts/completions) have to name each of them and no other, and tell of a command in the same words where they do. The commands of the README are run as
-they stand there, but for `.ci/run`, which runs this, and `rt run`, in whose place PROGRAM runs; FILE is a small C program that the C compiler of the machine makes, and FOLDER where it is. The program is installed into
+they stand there, but for `.ci/run`, which runs this, and `rt run`, in whose place PROGRAM runs; FILE is a small C program that the C compiler of the machine makes, and FOLDER where it is. `scripts/dwarf` is run over files of both byte orders and classes, too. The program is installed into
 an empty folder and taken away again. Each link of a document to a file has to lead to one, to a heading that it has, and to the line where what it names is declared. The last line is
 `N passed, M failed`, and the status is 0 where none failed.
 """
@@ -14,9 +14,11 @@ import glob
 import os
 import re
 import shutil
+import struct
 import subprocess
 import sys
 import tempfile
+import zlib
 
 TOP = os.path.dirname(os.path.dirname(os.path.abspath(__file__)))
 
@@ -125,9 +127,9 @@ def judge_readme(judged, program, folder):
 
 
 def own_program(folder):
-    """The program of a user's own, or nothing where the machine has no C compiler or no binutils."""
-    if not shutil.which("cc") or not shutil.which("objcopy"):
-        print("front_door.py: there is no C compiler or no objcopy here, so nothing is run over a linked file")
+    """The program of a user's own, or nothing where the machine has no C compiler."""
+    if not shutil.which("cc"):
+        print("front_door.py: there is no C compiler here, so nothing is run over a file that it links")
         return None
     with open(f"{folder}/own.c", "w", encoding="utf-8") as file:
         file.write(SOURCE)
@@ -165,6 +167,59 @@ def judge_audit(judged, program, own, folder):
     if own:
         ran = subprocess.run(["scripts/audit", folder], cwd=TOP, env={**os.environ, "DWARF": program}, capture_output=True, text=True, check=False)
         judged.judge(ran.returncode == 0 and re.search(rf"(?m)^{re.escape(own)},\d+,sound,0,", ran.stdout), f"README.md: scripts/audit: {ran.stdout}{ran.stderr}")
+
+
+# The first unit of version 5 that there can be, in both byte orders, and its table.
+UNITS = {"<": "0b000000 0500 01 08 00000000 01 6100", ">": "0000000b 0005 01 08 00000000 01 6100"}
+TABLE = "01 11 00 03 08 00 00 00"
+
+
+def elf_file(order, wide, packed, kind, contents):
+    """An ELF file of this byte order, class and type of file, with these sections. They are compressed in the way of this number, or not where that is 0."""
+    names = b"\0" + b"".join(f".{name}\0".encode() for name in contents) + b".shstrtab\0"
+    size, at = (64, "Q") if wide else (52, "I")
+    body, headers = b"", bytes(64 if wide else 40)
+    for name, content in [*contents.items(), ("shstrtab", names)]:
+        is_packed = packed and name in contents
+        if is_packed:
+            content = struct.pack(order + ("IIQQ" if wide else "III"), *([packed, 0, len(content), 1] if wide else [packed, len(content), 1])) + zlib.compress(content)
+        flags = 0x800 if is_packed else 0
+        headers += struct.pack(f"{order}II4{at}II2{at}", names.index(f".{name}\0".encode()), 1, flags, 0, size + len(body), len(content), 0, 0, 1, 0)
+        body += content
+    ident = b"\x7fELF" + bytes([2 if wide else 1, 1 if order == "<" else 2, 1]) + bytes(9)
+    counts = [size, 0, 0, 64 if wide else 40, len(contents) + 2, len(contents) + 1]
+    return ident + struct.pack(f"{order}HHI3{at}I6H", kind, 0, 1, 0, 0, size + len(body), 0, *counts) + body + headers
+
+
+def judge_linked(judged, program, folder):
+    """Runs `scripts/dwarf` over files of both byte orders and classes, with sections that are compressed and that aren't, and over what it can't take apart."""
+    path = f"{folder}/linked"
+
+    def ran(file, *words):
+        with open(path, "wb") as out:
+            out.write(file)
+        return subprocess.run(["scripts/dwarf", path, *words], cwd=TOP, env={**os.environ, "DWARF": program}, capture_output=True, check=False)
+
+    for order, unit in UNITS.items():
+        contents = {"debug_info": bytes.fromhex(unit), "debug_abbrev": bytes.fromhex(TABLE)}
+        for wide in (True, False):
+            for packed in (0, 1):
+                file = elf_file(order, wide, packed, 2, contents)
+                of = f"scripts/dwarf over a file of order {order}, {wide=}, {packed=}"
+                copied, shown = ran(file, "copy"), ran(file, "show")
+                judged.judge(copied.returncode == 0 and copied.stdout == contents["debug_info"], f"{of}: {copied}")
+                judged.judge(shown.returncode == 0 and b'DW_AT_name "a"' in shown.stdout, f"{of}: {shown}")
+            broken = {
+                "isn't linked": elf_file(order, wide, 0, 1, contents),
+                "has no debugging entries": elf_file(order, wide, 0, 2, {"text": b"a"}),
+                "another way than by zlib": elf_file(order, wide, 2, 2, contents),
+                "another size": elf_file(order, wide, 1, 2, {**contents, "debug_info": b""}).replace(zlib.compress(b""), zlib.compress(b"a")[:8]),
+                "ends before": elf_file(order, wide, 0, 2, contents)[:-40],
+                "no ELF file": b"\x7fELF",
+            }
+            for why, file in broken.items():
+                refused = ran(file, "show")
+                judged.judge(refused.returncode == 3 and not refused.stdout and refused.stderr.count(b"\n") == 1 and why.encode() in refused.stderr, f"a file of which {why}: {refused}")
 
 
 def judge_install(judged, folder):
@@ -234,6 +289,7 @@ def main(program):
         judge(judged, commands, options)
     with tempfile.TemporaryDirectory(prefix="front-door-") as folder:
         judge_readme(judged, program, folder)
+        judge_linked(judged, program, folder)
         judge_install(judged, folder)
     judge_modules(judged)
     for document in sorted(os.path.relpath(it, TOP) for it in [*glob.glob(f"{TOP}/*.md"), *glob.glob(f"{TOP}/docs/**/*.md", recursive=True), *glob.glob(f"{TOP}/examples/*/*.md")]):
