@@ -75,7 +75,7 @@ def tried(program, sections, options, chance, room):
 def main(program, count=600, seed=1):
     chance = random.Random(seed)
     examples = []
-    for name in sorted(os.listdir(EXAMPLES)):
+    for name in sorted(it for it in os.listdir(EXAMPLES) if os.path.isfile(f"{EXAMPLES}/{it}/debug_info")):
         with open(f"{EXAMPLES}/{name}/debug_info", "rb") as info, open(f"{EXAMPLES}/{name}/debug_abbrev", "rb") as abbrev:
             examples.append((name, {"debug_info": info.read(), "debug_abbrev": abbrev.read()}))
     wrong = accepted = 0

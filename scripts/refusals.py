@@ -21,6 +21,7 @@ its C library, count and refuse. The last line is `N passed, M failed`, and the 
 import argparse
 import concurrent.futures
 import errno
+import glob
 import os
 import re
 import shutil
@@ -214,8 +215,8 @@ def try_quiet(tried, program, calls, count, shim):
 
 def commands():
     """Commands over the sections in examples/: their names, words and folders."""
-    for name in sorted(os.listdir(f"{TOP}/examples")):
-        folder = f"{TOP}/examples/{name}"
+    for folder in sorted(os.path.dirname(it) for it in glob.glob(f"{TOP}/examples/*/debug_info")):
+        name = os.path.basename(folder)
         words = ["--v4"] if name.endswith("4") and name != "gcc64" else []
         for section in ("info", "abbrev", "str", "line-str", "str-offsets"):
             path = f"debug_{section.replace('-', '_')}"
