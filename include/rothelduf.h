@@ -20,6 +20,9 @@
  * Nothing else is asked: every number may be any number, and all bytes may be any bytes. No call keeps a pointer. None panics,
  * calls back, prints or changes errno but as malloc does.
  *
+ * What isn't answered is left as it was: *out, the room and *count but at OK, *fault but at FAULT, *why but at REFUSED. Two calls tell
+ * *count at other times, too: rothelduf_type at SHORT, rothelduf_feed_push always but at CLOSED.
+ *
  * Sizes and offsets are in bytes. An offset of an entry counts from the first byte of its unit, and that of a fault from the
  * first byte of its section. Sections of the standard are those of DWARF 5.
  */
@@ -43,7 +46,7 @@ enum rothelduf_status {
     ROTHELDUF_CLOSED = 3,    /* no section is open */
     ROTHELDUF_NOTHING = 4,   /* no such item, or no entry begins there */
     ROTHELDUF_REFUSED = 5,   /* *why is the number of the reason */
-    ROTHELDUF_SHORT = 6,     /* the room for the answer is too small, and nothing of it counts */
+    ROTHELDUF_SHORT = 6,     /* the room for the answer is too small, and nothing was written to it */
     ROTHELDUF_MORE = 7,      /* of a feed: more bytes are needed */
     ROTHELDUF_HEADER = 8,    /* of a feed: a header came, whose table comes next */
     ROTHELDUF_UNIT = 9,      /* of a feed: a unit came, which waits to be taken */

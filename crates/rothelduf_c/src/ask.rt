@@ -162,6 +162,7 @@ pub fn checked<'a>(
     ensures filled { IfSome result (λ n. take (min (length out.old) n) out.new
         ≡ map seen_finding (take (min (length out.old) n) (findings (sections_of strings.now) section.now))) }
     ensures memory { IfNone result ((item : ℕ) × IsSome (unit_at section.now.items item)) }
+    ensures kept { IfNone result (out.new ≡ out.old) }
 {
     let Ok(found) = check(alloc, section, strings) else {
         return None;
@@ -205,6 +206,7 @@ pub fn written(alloc: Global, section: &Section) -> Option<Vec<u8>>
 pub fn copied(bytes: &[u8], out: &mut [u8]) -> u32
     ensures copied { result ≡ status.OK → take (length bytes.now) out.new ≡ bytes.now }
     ensures short { result ≢ status.OK → (result ≡ status.SHORT) × (length out.old < length bytes.now) }
+    ensures kept { result ≢ status.OK → out.new ≡ out.old }
 {
     if bytes.len() > out.len() {
         return SHORT;

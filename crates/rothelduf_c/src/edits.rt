@@ -39,6 +39,8 @@ pub extern "C" fn rothelduf_check(
     ensures memory { (x : WholeSection) → s.old.handle.value ≡ Some x → result ≢ status.OK
         → (result ≡ status.NO_MEMORY) × ((item : ℕ) × IsSome (unit_at x.items item)) }
     ensures closed { s.old.handle.value ≡ None → result ≡ status.CLOSED }
+    ensures kept { result ≢ status.OK → out.new ≡ out.old }
+    ensures uncounted { result ≢ status.OK → count.new ≡ count.old }
 {
     let strings = Strings {
         str,
@@ -81,6 +83,7 @@ pub extern "C" fn rothelduf_set_number(
         × ((w : SetRefusal) × (set_refusal x (id_of id.now) name (signed_by minus size) ≡ Some w)
         × (why.new ≡ setting_number w)) }
     ensures kept { result ≢ status.OK → s.new.handle.value ≡ s.old.handle.value }
+    ensures untold { result ≢ status.REFUSED → why.new ≡ why.old }
     ensures closed { s.old.handle.value ≡ None → result ≡ status.CLOSED }
 {
     match taken(alloc, s) {

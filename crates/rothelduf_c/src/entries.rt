@@ -133,6 +133,7 @@ pub extern "C" fn rothelduf_find(alloc: Global, s: &mut Slot, offset: u64, out: 
     ensures nothing { (x : WholeSection) → s.old.handle.value ≡ Some x → result ≢ status.OK
         → (result ≡ status.NOTHING) × (find x.items offset ≡ None) }
     ensures closed { s.old.handle.value ≡ None → result ≡ status.CLOSED }
+    ensures kept { result ≢ status.OK → out.new ≡ out.old }
 {
     match taken(alloc, s) {
         Some(section) => {

@@ -80,7 +80,9 @@ pub extern "C" fn rothelduf_feed_push(
         → (new : TheFeeding) × (f.new.handle.value ≡ Some new)
         × IsPushed old piece.now result count.new fault.new new }
     ensures room { f.old.handle.value ≢ None → count.new ≤ length piece.now }
-    ensures closed { f.old.handle.value ≡ None → (result ≡ status.CLOSED) × (f.new.handle.value ≡ None) }
+    ensures untold { result ≢ status.FAULT → fault.new ≡ fault.old }
+    ensures closed { f.old.handle.value ≡ None → (result ≡ status.CLOSED) × (f.new.handle.value ≡ None)
+        × (count.new ≡ count.old) }
 {
     match feed_handle::taken(alloc, f) {
         Some(mut feeding) => {
@@ -104,6 +106,7 @@ pub extern "C" fn rothelduf_feed_table(
     ensures tabled { (old : TheFeeding) → f.old.handle.value ≡ Some old
         → (new : TheFeeding) × (f.new.handle.value ≡ Some new)
         × IsTabled old abbreviations.now result fault.new new }
+    ensures untold { result ≢ status.FAULT → fault.new ≡ fault.old }
     ensures closed { f.old.handle.value ≡ None → (result ≡ status.CLOSED) × (f.new.handle.value ≡ None) }
 {
     match feed_handle::taken(alloc, f) {
@@ -139,7 +142,7 @@ pub extern "C" fn rothelduf_feed_held(alloc: Global, f: &mut FeedSlot, out: &mut
     ensures same { f.new.handle.value ≡ f.old.handle.value }
     ensures held { (x : TheFeeding) → f.old.handle.value ≡ Some x
         → (result ≡ status.OK) × (out.new ≡ seen_held (held_in x)) }
-    ensures closed { f.old.handle.value ≡ None → result ≡ status.CLOSED }
+    ensures closed { f.old.handle.value ≡ None → (result ≡ status.CLOSED) × (out.new ≡ out.old) }
 {
     match feed_handle::taken(alloc, f) {
         Some(feeding) => {
@@ -155,6 +158,7 @@ pub extern "C" fn rothelduf_feed_held(alloc: Global, f: &mut FeedSlot, out: &mut
 #[unsafe(no_mangle)]
 pub extern "C" fn rothelduf_feed_end(alloc: Global, f: &mut FeedSlot, fault: &mut CFault) -> u32
     ensures ended { (x : TheFeeding) → f.old.handle.value ≡ Some x → IsEnded x result fault.new }
+    ensures untold { result ≢ status.FAULT → fault.new ≡ fault.old }
     ensures closed { f.old.handle.value ≡ None → result ≡ status.CLOSED }
     ensures after { f.new.handle.value ≡ None }
 {
@@ -179,6 +183,7 @@ pub extern "C" fn rothelduf_feed_take(
     ensures taken { (old : TheFeeding) (x : WholeSection) → f.old.handle.value ≡ Some old → s.old.handle.value ≡ Some x
         → (new : TheFeeding) × (y : WholeSection) × (f.new.handle.value ≡ Some new) × (s.new.handle.value ≡ Some y)
         × IsTaken old x result why.new new y }
+    ensures untold { result ≢ status.REFUSED → why.new ≡ why.old }
     ensures closed { f.old.handle.value ≡ None → (result ≡ status.CLOSED) × (f.new.handle.value ≡ None)
         × (s.new.handle.value ≡ s.old.handle.value) }
     ensures no_section { s.old.handle.value ≡ None → (result ≡ status.CLOSED) × (s.new.handle.value ≡ None)

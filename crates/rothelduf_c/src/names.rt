@@ -44,6 +44,8 @@ pub extern "C" fn rothelduf_resolve(
     ensures nothing { (x : WholeSection) → s.old.handle.value ≡ Some x → unit_at x.items item ≡ None
         → result ≡ status.NOTHING }
     ensures closed { s.old.handle.value ≡ None → result ≡ status.CLOSED }
+    ensures kept { result ≢ status.OK → out.new ≡ out.old }
+    ensures untold { result ≢ status.REFUSED → why.new ≡ why.old }
 {
     match taken(alloc, s) {
         Some(section) => {
@@ -91,6 +93,8 @@ pub extern "C" fn rothelduf_text(
     ensures nothing { (x : WholeSection) → s.old.handle.value ≡ Some x → unit_at x.items item ≡ None
         → result ≡ status.NOTHING }
     ensures closed { s.old.handle.value ≡ None → result ≡ status.CLOSED }
+    ensures kept { result ≢ status.OK → out.new ≡ out.old }
+    ensures untold { result ≢ status.REFUSED → why.new ≡ why.old }
 {
     let strings = Strings {
         str,
@@ -149,6 +153,9 @@ pub extern "C" fn rothelduf_type(
         → result ≢ status.REFUSED → (result ≡ status.NO_MEMORY)
         × IsRefusal (type_of x (strings_of str.now line_str.now str_offsets.now) (id_of id.now) name.now) 0 NoMemory }
     ensures closed { s.old.handle.value ≡ None → result ≡ status.CLOSED }
+    ensures kept { result ≢ status.OK → out.new ≡ out.old }
+    ensures untold { result ≢ status.REFUSED → why.new ≡ why.old }
+    ensures uncounted { result ≢ status.OK → result ≢ status.SHORT → count.new ≡ count.old }
 {
     let strings = Strings {
         str,

@@ -1,10 +1,11 @@
 //! Pieces of a unit: those of its header, the table of its declarations, those of what follows.
-ghost use Rattle.std.specs.Prelude.{◌≡◌, ◌≤◌, [], length, IfOk, IfErr};
+ghost use Rattle.std.specs.Prelude.{◌≡◌, ◌≢◌, ◌≤◌, [], length, IfOk, IfErr};
 ghost use Rattle.dw_abbrev.specs.Table.{TableAt};
 ghost use Rattle.dw_abbrev.specs.TableErrors.{IsTableError};
 ghost use Rattle.dw_feed.specs.HeadFeed.{Reading};
 ghost use Rattle.rothelduf_c.specs.Feeds.{HeadPushed, BodyPushed, IsEnded, IsPushed, IsTabled, IsTaken, IsWanted, SaysRefusal, held_in};
 ghost use Rattle.rothelduf_c.specs.Seen.{seen_held};
+ghost use Rattle.rothelduf_c.specs.Status as status;
 ghost use Rattle.rothelduf_c.specs.declared.feeding.Feeding.TheVariants.{Head};
 
 use crate::feeding::{Feeding, Headed};
@@ -23,6 +24,7 @@ use std::rc::Rc;
 fn push_head(feed: &mut HeadFeed, piece: &[u8], fault: &mut CFault) -> (u32, usize, Option<Headed>)
     ensures pushed { HeadPushed feed.old piece.now result.0 result.1 fault.new result.2 feed.new }
     ensures room { result.1 ≤ length piece.now }
+    ensures untold { result.0 ≢ status.FAULT → fault.new ≡ fault.old }
 {
     let (count, answer) = feed.feed(piece);
     match answer {
@@ -43,6 +45,7 @@ fn push_head(feed: &mut HeadFeed, piece: &[u8], fault: &mut CFault) -> (u32, usi
 fn push_body(feed: &mut BodyFeed, piece: &[u8], fault: &mut CFault) -> (u32, usize, Option<Unit>)
     ensures pushed { BodyPushed feed.old piece.now result.0 result.1 fault.new result.2 feed.new }
     ensures room { result.1 ≤ length piece.now }
+    ensures untold { result.0 ≢ status.FAULT → fault.new ≡ fault.old }
 {
     let (count, answer) = feed.feed(piece);
     match answer {
@@ -62,22 +65,23 @@ fn push_body(feed: &mut BodyFeed, piece: &[u8], fault: &mut CFault) -> (u32, usi
 pub fn push(feeding: &mut Feeding, piece: &[u8], fault: &mut CFault) -> (u32, usize)
     ensures pushed { IsPushed feeding.old piece.now result.0 result.1 fault.new feeding.new }
     ensures room { result.1 ≤ length piece.now }
+    ensures untold { result.0 ≢ status.FAULT → fault.new ≡ fault.old }
 {
     match feeding {
         Feeding::Head(feed) => {
-            let (status, count, headed) = push_head(feed, piece, fault);
+            let (answer, count, headed) = push_head(feed, piece, fault);
             if let Some(headed) = headed {
                 *feeding = Feeding::Table(headed);
             }
-            (status, count)
+            (answer, count)
         }
         Feeding::Table(_) => (HEADER, 0),
         Feeding::Body(feed) => {
-            let (status, count, unit) = push_body(feed, piece, fault);
+            let (answer, count, unit) = push_body(feed, piece, fault);
             if let Some(unit) = unit {
                 *feeding = Feeding::Whole(unit);
             }
-            (status, count)
+            (answer, count)
         }
         Feeding::Whole(_) => (UNIT, 0),
     }
@@ -99,7 +103,8 @@ pub fn hand_in(
     abbreviations: &[u8],
     fault: &mut CFault,
 ) -> u32
-    ensures { IsTabled feeding.old abbreviations.now result fault.new feeding.new }
+    ensures tabled { IsTabled feeding.old abbreviations.now result fault.new feeding.new }
+    ensures untold { result ≢ status.FAULT → fault.new ≡ fault.old }
 {
     let Feeding::Table(headed) = feeding else {
         return NOTHING;
@@ -147,7 +152,8 @@ pub fn held(feeding: &Feeding) -> CHeld
 
 /// What a feed says where the input ends.
 pub fn end(feeding: Feeding, fault: &mut CFault) -> u32
-    ensures { IsEnded feeding result fault.new }
+    ensures ended { IsEnded feeding result fault.new }
+    ensures untold { result ≢ status.FAULT → fault.new ≡ fault.old }
 {
     let missing = match feeding {
         Feeding::Head(feed) => feed.end(),
@@ -173,7 +179,8 @@ pub fn of_header(order: Order, versions: Versions) -> Feeding
 
 /// Puts the unit that came behind the items of a section. The feed then takes the next header.
 pub fn take(feeding: &mut Feeding, section: &mut Section, why: &mut u32) -> u32
-    ensures { IsTaken feeding.old section.old result why.new feeding.new section.new }
+    ensures taken { IsTaken feeding.old section.old result why.new feeding.new section.new }
+    ensures untold { result ≢ status.REFUSED → why.new ≡ why.old }
 {
     let next = of_header(section.order(), section.versions());
     match std::mem::replace(feeding, next) {
@@ -192,7 +199,8 @@ pub fn take(feeding: &mut Feeding, section: &mut Section, why: &mut u32) -> u32
 }
 
 fn refused(refusal: SectionRefusal, why: &mut u32) -> u32
-    ensures { SaysRefusal refusal result why.new }
+    ensures says { SaysRefusal refusal result why.new }
+    ensures untold { result ≢ status.REFUSED → why.new ≡ why.old }
 {
     match refusal {
         SectionRefusal::NoMemory => NO_MEMORY,

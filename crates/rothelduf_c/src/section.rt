@@ -32,6 +32,7 @@ pub extern "C" fn rothelduf_open(
         → IsFaultOf (versions_of four) (order_of big) abbreviations.now info.now fault.new }
     ensures memory { result ≢ status.OK → result ≢ status.FAULT → result ≡ status.NO_MEMORY }
     ensures closed { result ≢ status.OK → s.new.handle.value ≡ None }
+    ensures kept { result ≢ status.FAULT → fault.new ≡ fault.old }
 {
     rothelduf_close(alloc, s);
     match opened(
@@ -91,6 +92,7 @@ pub extern "C" fn rothelduf_unit(alloc: Global, s: &mut Slot, item: usize, out: 
     ensures nothing { (x : WholeSection) → s.old.handle.value ≡ Some x → unit_at x.items item ≡ None
         → result ≡ status.NOTHING }
     ensures closed { s.old.handle.value ≡ None → result ≡ status.CLOSED }
+    ensures kept { result ≢ status.OK → out.new ≡ out.old }
 {
     match taken(alloc, s) {
         Some(section) => {
@@ -136,6 +138,7 @@ pub extern "C" fn rothelduf_write(alloc: Global, s: &mut Slot, out: &mut [u8]) -
     ensures memory { (x : WholeSection) → s.old.handle.value ≡ Some x → result ≢ status.OK → result ≢ status.SHORT
         → (result ≡ status.NO_MEMORY) × (0 < length (section_bytes x)) }
     ensures closed { s.old.handle.value ≡ None → result ≡ status.CLOSED }
+    ensures kept { result ≢ status.OK → out.new ≡ out.old }
 {
     match taken(alloc, s) {
         Some(section) => {
