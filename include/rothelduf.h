@@ -20,8 +20,10 @@
  * Nothing else is asked: every number may be any number, and all bytes may be any bytes. No call keeps a pointer. None panics,
  * calls back, prints or changes errno but as malloc does.
  *
- * What isn't answered is left as it was: *out, the room and *count but at OK, *fault but at FAULT, *why but at REFUSED. Two calls tell
- * *count at other times, too: rothelduf_type at SHORT, rothelduf_feed_push always but at CLOSED.
+ * What isn't answered is left as it was: a status other than OK leaves *out and the room, one other than FAULT leaves *fault, and one other
+ * than REFUSED leaves *why. rothelduf_type writes *length at OK and SHORT, rothelduf_check *count at OK, and rothelduf_feed_push *taken
+ * at all but CLOSED. rothelduf_entries, rothelduf_attributes and rothelduf_walk answer how many they filled: what is behind these in the
+ * room, and at OK behind what was written, has no meaning.
  *
  * Sizes and offsets are in bytes. An offset of an entry counts from the first byte of its unit, and that of a fault from the
  * first byte of its section. Sections of the standard are those of DWARF 5.

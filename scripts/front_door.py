@@ -220,6 +220,20 @@ def judge_linked(judged, program, folder):
             for why, file in broken.items():
                 refused = ran(file, "show")
                 judged.judge(refused.returncode == 3 and not refused.stdout and refused.stderr.count(b"\n") == 1 and why.encode() in refused.stderr, f"a file of which {why}: {refused}")
+        with open(path, "wb") as out:
+            out.write(elf_file(order, True, 0, 2, contents))
+        judge_lost_reader(judged, program, path)
+
+
+def judge_lost_reader(judged, program, path):
+    """Where the reader of a pipe has ended, the script says nothing, and a file that takes no more is told of."""
+    reader, lost = os.pipe()
+    os.close(reader)
+    with open("/dev/full", "wb") as full:
+        for output, status, said in ((lost, 141, b""), (full, 3, b"file standard output\n")):
+            ran = subprocess.run(["scripts/dwarf", path, "show"], cwd=TOP, env={**os.environ, "DWARF": program}, stdout=output, stderr=subprocess.PIPE, check=False)
+            judged.judge(ran.returncode == status and ran.stderr == said, f"scripts/dwarf {path} show, {output}: {ran}")
+    os.close(lost)
 
 
 def judge_install(judged, folder):
