@@ -30,19 +30,11 @@ pub fn write_header<W: Write>(
         result }
     ensures fault { fault_of writer.new ≡ writer_fault result }
 {
-    write_all(writer, all_bytes(header, unit_length).as_slice())
-}
-
-// The length and the fields in one array: a call of the writer costs more than they do.
-fn all_bytes(header: Header, unit_length: u64) -> ArrayVec<u8, 48>
-    requires { FitsLength header.format unit_length }
-    ensures { result.items ≡ header_bytes header unit_length }
-{
-    let mut bytes = ArrayVec::new();
-    let length = write_length(header.order(), header.format(), unit_length);
-    let _fits = bytes.try_extend_from_slice(length.as_slice());
-    let _fits = bytes.try_extend_from_slice(field_bytes(header).as_slice());
-    bytes
+    write_all(
+        writer,
+        write_length(header.order(), header.format(), unit_length).as_slice(),
+    )?;
+    write_all(writer, field_bytes(header).as_slice())
 }
 
 /// The fields of a header.
