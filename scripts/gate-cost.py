@@ -12,6 +12,7 @@ the checks of each crate's rounds. What `rt ci` does of one crate (its proofs, i
 
 Before it and behind it, the yardstick is measured: `rt lib` of dw_leb, from nothing with nothing beside it. The sum is told as it is and by the
 yardstick, that is divided by how much longer dw_leb took than its YARDSTICK minutes, in the mean of both: a machine may change while it runs.
+How much it changed is told beside it: all along, a short loop is timed every few seconds on the first processor.
 """
 
 import glob
@@ -21,6 +22,7 @@ import shutil
 import subprocess
 import sys
 import tempfile
+import threading
 import time
 
 import clones
@@ -29,9 +31,33 @@ import clones
 # takes 1.79, all of `rt lib` takes 2.16.
 YARDSTICK = 1.51
 
+# The turns of the loop that is timed, some 30 milliseconds, and how many seconds lie between two.
+TURNS, APART = 1_000_000, 5.0
+
 STEP = re.compile(r"gate: (.*): ([0-9.]+) \+ ([0-9.]+) s of processor, ([0-9.]+) s by the clock")
 LIBRARY = re.compile(r"(\w+): library, ([0-9]+) s of processor")
 ROUNDS = re.compile(r"(\w+): [0-9]+ rounds, [0-9]+ checks, ([0-9]+) s of processor")
+
+
+class Speed(threading.Thread):
+    """How fast the first processor is, by a loop of the same turns that is timed again and again. That is less than a hundredth of its time."""
+
+    def __init__(self):
+        super().__init__(daemon=True)
+        self.timed, self.ends = [], threading.Event()
+
+    def run(self):
+        os.sched_setaffinity(0, {min(os.sched_getaffinity(0))})
+        while not self.ends.wait(APART):
+            began = time.thread_time()
+            for _ in range(TURNS):
+                pass
+            self.timed.append((time.monotonic(), time.thread_time() - began))
+
+    def milliseconds(self, spans):
+        """What the loop took within these spans of time, in the mean of its speeds."""
+        took = [it for at, it in self.timed if any(begin <= at <= end for begin, end in spans)]
+        return 1000 * len(took) / sum(1 / it for it in took) if took else 0.0
 
 
 def minutes_of(words, folder):
@@ -49,19 +75,24 @@ def minutes_of(words, folder):
 
 
 def yardstick():
-    """How many minutes the library of dw_leb takes from nothing, alone."""
+    """How many minutes the library of dw_leb takes from nothing, alone, and from when to when by the clock."""
+    # (another name each time, so that nothing that is kept of another checkout serves)
+    name, began = f"dw_leb{time.time_ns() % 10**9}", time.monotonic()
     with tempfile.TemporaryDirectory(prefix="gate-cost-") as room:
         for part in ("src", "specs", "proofs"):
-            shutil.copytree(f"crates/dw_leb/{part}", f"{room}/crates/dw_leb/{part}")
-        # (another text each time, so that nothing kept serves)
-        with open(f"{room}/crates/dw_leb/src/lib.rt", "a", encoding="utf-8") as file:
-            file.write(f"\n// A yardstick, {time.time_ns()}.\n")
+            shutil.copytree(f"crates/dw_leb/{part}", f"{room}/crates/{name}/{part}")
+        for path in glob.glob(f"{room}/crates/**", recursive=True):
+            if os.path.isfile(path):
+                text = clones.text_of(path)
+                with open(path, "w", encoding="utf-8") as file:
+                    file.write(text.replace("dw_leb", name))
         with open(f"{room}/crates.txt", "w", encoding="utf-8") as file:
-            file.write(next(it for it in clones.text_of("crates.txt").split("\n") if it.startswith("dw_leb:")) + "\n")
-        ran = clones.run(["rt", "lib"], f"{room}/crates/dw_leb")
+            line = next(it for it in clones.text_of("crates.txt").split("\n") if it.startswith("dw_leb:"))
+            file.write(line.replace("dw_leb", name) + "\n")
+        ran = clones.run(["rt", "lib"], f"{room}/crates/{name}")
         if ran.status:
             raise clones.Stop("the library of dw_leb could not be proved alone")
-        return ran.seconds / 60
+        return ran.seconds / 60, (began, time.monotonic())
 
 
 def told_by(pattern, lines):
@@ -93,13 +124,19 @@ def processor():
 
 def main():
     os.chdir(clones.TOP)
-    before = yardstick()
+    speed = Speed()
+    speed.start()
+    before, early = yardstick()
+    began = time.monotonic()
     whole, passed, status, lines = minutes_of(sys.argv[1:] or [".ci/run"], ".")
+    within = (began, time.monotonic())
     print_table(lines)
-    after = yardstick()
+    after, late = yardstick()
+    speed.ends.set()
     stick = (before + after) / 2
     print(f"| all | **{whole:.1f}** | {passed:.1f} |\n\nOn {len(os.sched_getaffinity(0))} processors ({processor()}).")
     print(f"The library of dw_leb took {before:.2f} minutes alone before it and {after:.2f} behind it, {stick / YARDSTICK:.2f} times the yardstick; by that all took {whole * YARDSTICK / stick:.1f}.")
+    print(f"The loop took {speed.milliseconds([early, late]):.1f} milliseconds beside the yardstick, {speed.milliseconds([early]):.1f} before the run, {speed.milliseconds([within]):.1f} within it.")
     return status
 
 
