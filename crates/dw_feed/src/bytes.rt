@@ -1,5 +1,5 @@
 //! Bytes that are taken from a reader and kept.
-ghost use Rattle.std.specs.Prelude.{◌≡◌, ◌≤◌, None, IfErr, length, vec_items};
+ghost use Rattle.std.specs.Prelude.{◌≡◌, ◌<◌, [], None, IfErr, length, vec_items};
 ghost use Rattle.std.specs.Io.{ReadsAtMost};
 ghost use Rattle.std.specs.Result.{result_err};
 ghost use Rattle.std.specs.Io.KnownBytes.{ReadConsumes};
@@ -13,8 +13,11 @@ use std::io::{ErrorKind, Read};
 /// The most bytes that are read at once.
 const CHUNK: usize = 4096;
 
-/// The most of few, as in a length field: a larger piece of the stack would cost more than these.
+/// The most of few, as in a length field, and of some, as in a small unit: a larger piece of the stack would cost more
+/// than these.
 const FEW: usize = 16;
+
+const SOME: usize = 128;
 
 /// One read from a reader, which may be of fewer bytes than `part` has room for; or the kind of its fault.
 pub(crate) fn read_part<R: Read>(
@@ -50,11 +53,28 @@ pub fn field_bytes<R: Read>(alloc: Global, reader: &mut Watched<R>) -> Result<Ve
     ensures fault { fault_of reader.new ≡ reader_fault result }
 {
     let mut bytes = Vec::new(alloc);
-    read_up_to(reader, 4, &mut bytes)?;
-    if is_escape(bytes.as_slice()) {
-        read_up_to(reader, 8, &mut bytes)?;
-    }
+    read_field(reader, &mut bytes)?;
     Ok(bytes)
+}
+
+/// The same, put into a list that is empty.
+///
+/// A part of the reader of sections in `dw_section`, and no call for users.
+pub fn read_field<R: Read>(reader: &mut Watched<R>, bytes: &mut Vec<u8>) -> Result<(), ReadError>
+    requires clear { fault_of reader.old ≡ None }
+    requires empty { bytes.old.items ≡ [] }
+    ensures bytes { ReadsField (λ _. bytes.new.items)
+        (R.remaining (inner_of reader.old))
+        (R.remaining (inner_of reader.new))
+        result }
+    ensures memory { KeptSome (R.remaining (inner_of reader.old)) (R.remaining (inner_of reader.new)) result }
+    ensures fault { fault_of reader.new ≡ reader_fault result }
+{
+    read_up_to(reader, 4, bytes)?;
+    if is_escape(bytes.as_slice()) {
+        read_up_to(reader, 8, bytes)?;
+    }
+    Ok(())
 }
 
 /// Whether these are the four bytes that begin a length of the 64-bit format.
@@ -86,33 +106,26 @@ pub fn read_up_to<R: Read>(
     ensures fault { fault_of reader.new ≡ reader_fault result }
 {
     if most <= FEW as u64 {
-        return read_few(reader, most as usize, bytes);
+        let mut chunk = [0u8; FEW];
+        return read_through(reader, most, bytes, &mut chunk);
+    }
+    if most <= SOME as u64 {
+        let mut chunk = [0u8; SOME];
+        return read_through(reader, most, bytes, &mut chunk);
     }
     let mut chunk = [0u8; CHUNK];
-    let mut left = most;
-    while left > 0 {
-        let want = left.min(CHUNK as u64) as usize;
-        let got = match read_part(reader, &mut chunk[..want]) {
-            Ok(got) => got,
-            Err(kind) => return Err(ReadError::Io(kind)),
-        };
-        if got == 0 {
-            return Ok(());
-        }
-        bytes.extend_from_slice(&chunk[..got])?;
-        left -= got as u64;
-    }
-    Ok(())
+    read_through(reader, most, bytes, &mut chunk)
 }
 
-/// The same of few bytes.
-fn read_few<R: Read>(
+/// The same, read into this chunk again and again.
+fn read_through<R: Read>(
     reader: &mut Watched<R>,
-    most: usize,
+    most: u64,
     bytes: &mut Vec<u8>,
+    chunk: &mut [u8],
 ) -> Result<(), ReadError>
     requires clear { fault_of reader.old ≡ None }
-    requires few { most ≤ 16 }
+    requires room { 0 < length chunk.old }
     ensures bytes { ReadsUpTo bytes.old.items bytes.new.items
         (R.remaining (inner_of reader.old))
         (R.remaining (inner_of reader.new))
@@ -123,19 +136,19 @@ fn read_few<R: Read>(
     ensures memory { KeptSome (R.remaining (inner_of reader.old)) (R.remaining (inner_of reader.new)) result }
     ensures fault { fault_of reader.new ≡ reader_fault result }
 {
-    let mut chunk = [0u8; FEW];
     let mut left = most;
     while left > 0 {
-        let got = match read_part(reader, &mut chunk[..left]) {
+        let want = left.min(chunk.len() as u64) as usize;
+        let got = match read_part(reader, &mut chunk[..want]) {
             Ok(got) => got,
-            Err(fault) => return Err(ReadError::Io(fault)),
+            Err(kind) => return Err(ReadError::Io(kind)),
         };
         if got == 0 {
             return Ok(());
         }
         let read = &chunk[..got];
         bytes.extend_from_slice(read)?;
-        left -= got;
+        left -= got as u64;
     }
     Ok(())
 }

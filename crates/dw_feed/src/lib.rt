@@ -1,12 +1,12 @@
 //! Units of DWARF 5, and of DWARF 4 where a caller asks for them, read from bytes at hand and from any reader, in
 //! whatever pieces their bytes come (section 7.5).
 //!
-//! `field_bytes`, `read_up_to` and `read_unit_behind` are no calls for users, and `rothelduf` doesn't name them: they
+//! `field_bytes`, `read_field`, `read_up_to` and `read_unit_behind` are no calls for users, and `rothelduf` doesn't name them: they
 //! are the parts of which `dw_section` makes its reader of whole sections.
 //!
 //! What its modules have:
 //!
-//! - `bytes`: `field_bytes`, `read_up_to`: a length field, or so many bytes, taken from a reader and kept. Readers of
+//! - `bytes`: `field_bytes`, `read_field`, `read_up_to`: a length field, or so many bytes, taken from a reader and kept. Readers of
 //!   sections call them
 //! - `reader`: `read_unit_from`, `read_unit_from_as`: a unit from a reader, its bytes pushed into the feeds as they
 //!   come; `read_unit_behind`: the same, where a feed has taken the first bytes already
@@ -38,7 +38,7 @@ mod unit_in_parts;
 mod value;
 
 pub use body::BodyFeed;
-pub use bytes::{field_bytes, read_up_to};
+pub use bytes::{field_bytes, read_field, read_up_to};
 pub use head::HeadFeed;
 pub use held::Held;
 pub use progress::Progress;

@@ -7,8 +7,8 @@ ghost use Rattle.dw_unit.specs.UnitView.{IsUnitError, IsUnitErrorUnder, FaultWit
 ghost use Rattle.dw_feed.specs.BodyFeed.{started, SaysDone};
 ghost use Rattle.dw_feed.specs.FedUnit.{IsFedError};
 
-use crate::body::BodyFeed;
-use crate::progress::Progress;
+use crate::step::Taken;
+use crate::unit_in_parts::UnitInParts;
 use dw_abbrev::{Table, Tables};
 use dw_header::{Header, Versions, read_header_as};
 use dw_leb::{Order, ReadError};
@@ -90,15 +90,11 @@ fn unit_behind(
     ensures found { IfOk result (λ x. SaysDone (started header unit_length table.value) b.now x.1 x.0) }
     ensures broken { IfErr result (IsFedError (started header unit_length table.value) b.now) }
 {
-    let mut feed = BodyFeed::new(alloc, header, unit_length, table);
-    let (count, answer) = feed.feed(b);
-    let end = feed.end();
-    match answer {
-        Progress::Done(unit) => Ok((unit, count)),
-        Progress::NoMemory => Err(ReadError::NoMemory),
-        Progress::More | Progress::Fault(_) | Progress::Spent => match end {
-            Some(fault) => Err(ReadError::Fault(fault)),
-            None => unreachable!(),
-        },
+    let mut coming = UnitInParts::new(alloc, header, unit_length, table);
+    match coming.take(b) {
+        Taken::Whole(over) => Ok((coming.finish(), b.len() - over)),
+        Taken::More => Err(ReadError::Fault(coming.cut_off())),
+        Taken::Refused(_, fault) => Err(ReadError::Fault(fault)),
+        Taken::NoMemory => Err(ReadError::NoMemory),
     }
 }

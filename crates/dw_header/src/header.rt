@@ -3,12 +3,11 @@ ghost use Rattle.std.specs.Prelude.{◌≡◌, ◌≤◌, ◌<◌, ◌+◌, ◌^
 ghost use Rattle.dw_leb.specs.Number.{offset_size};
 ghost use Rattle.dw_header.specs.FieldsView.{all_fields};
 ghost use Rattle.dw_header.specs.ReadHeader.{header_from};
-ghost use Rattle.dw_header.specs.Header.{HeaderFits, KindFits, context_of, header_of};
+ghost use Rattle.dw_header.specs.Header.{HeaderFits, KindFits, context_of, fields, fields_of, header_of};
 ghost use Rattle.dw_header.specs.HeaderPlace.{header_size};
 
 use crate::fields::HeaderFields;
 use crate::kind::Kind;
-use crate::writer::field_bytes;
 use dw_form::Ctx;
 use dw_leb::{Format, Order};
 use std::marker::Model;
@@ -154,7 +153,21 @@ impl Header {
         ensures size { result ≡ header_size self.now }
         ensures small { result ≤ 44 }
     {
-        field_bytes(*self).len() as u64 + self.format.length_size() as u64
+        fields_size(*self) + self.format.length_size() as u64
+    }
+}
+
+/// The count of the bytes of a header's fields.
+fn fields_size(header: Header) -> u64
+    ensures size { result ≡ length ((fields header.order header.format).spell (fields_of header)) }
+    ensures small { result ≤ 32 }
+{
+    let offset = header.format.offset_size() as u64;
+    match header.kind {
+        Kind::Compile | Kind::Partial => 4 + offset,
+        Kind::TypeUnit { .. } => 12 + 2 * offset,
+        Kind::Skeleton { .. } => 12 + offset,
+        Kind::Four => 3 + offset,
     }
 }
 

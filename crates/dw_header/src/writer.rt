@@ -1,7 +1,7 @@
 //! Writing a header and its unit_length.
-ghost use Rattle.std.specs.Prelude.{◌≡◌, ◌≤◌, ◌++◌, None};
+ghost use Rattle.std.specs.Prelude.{◌≡◌, ◌≤◌, ◌<◌, ◌^◌, ◌++◌, length, None};
 ghost use Rattle.dw_leb.specs.Watch.{inner_of, fault_of, writer_fault, Wrote};
-ghost use Rattle.dw_leb.specs.Number.{FitsLength, fixed};
+ghost use Rattle.dw_leb.specs.Number.{FitsLength, fixed, offset_size};
 ghost use Rattle.dw_header.specs.Header.{fields, fields_of, five_part, four_part, numbers, added_sizes, kind_number, kind_fields, KindFits};
 ghost use Rattle.dw_header.specs.HeaderPlace.{header_bytes};
 
@@ -38,7 +38,7 @@ pub fn write_header<W: Write>(
 }
 
 /// The fields of a header.
-pub(crate) fn field_bytes(header: Header) -> ArrayVec<u8, 32>
+fn field_bytes(header: Header) -> ArrayVec<u8, 32>
     ensures spelling { result.items ≡ (fields header.order header.format).spell (fields_of header) }
 {
     match header.kind() {
@@ -61,7 +61,7 @@ fn five_bytes(header: Header) -> ArrayVec<u8, 32>
     let mut bytes = ArrayVec::new();
     let _fits = bytes.try_extend_from_slice(write_fixed(order, 2, 5).as_slice());
     let _fits = bytes.try_extend_from_slice(&[unit_type(header.kind()), context.address_size]);
-    let offset = write_fixed(order, format.offset_size(), header.abbrev_offset() as u128);
+    let offset = offset_bytes(order, format, header.abbrev_offset());
     let _fits = bytes.try_extend_from_slice(offset.as_slice());
     let _fits = bytes.try_extend_from_slice(added_bytes(order, format, header.kind()).as_slice());
     bytes
@@ -77,10 +77,23 @@ fn four_bytes(header: Header) -> ArrayVec<u8, 32>
     let context = header.context();
     let mut bytes = ArrayVec::new();
     let _fits = bytes.try_extend_from_slice(write_fixed(order, 2, 4).as_slice());
-    let offset = write_fixed(order, format.offset_size(), header.abbrev_offset() as u128);
+    let offset = offset_bytes(order, format, header.abbrev_offset());
     let _fits = bytes.try_extend_from_slice(offset.as_slice());
     let _fits = bytes.try_extend_from_slice(&[context.address_size]);
     bytes
+}
+
+// The bytes of a section offset. (Each of its sizes by itself is moved at once.)
+#[inline(always)]
+fn offset_bytes(order: Order, format: Format, offset: u64) -> ArrayVec<u8, 16>
+    requires { offset < 256 ^ offset_size format }
+    ensures spelling { result.items ≡ (fixed order (offset_size format)).spell offset }
+    ensures length { length result.items ≡ offset_size format }
+{
+    match format {
+        Format::Dwarf32 => write_fixed(order, 4, offset as u128),
+        Format::Dwarf64 => write_fixed(order, 8, offset as u128),
+    }
 }
 
 /// The number of a kind (section 7.5.1). A unit of version 4 has none: 0.
@@ -109,7 +122,7 @@ fn added_bytes(order: Order, format: Format, kind: Kind) -> ArrayVec<u8, 16>
             type_offset,
         } => {
             let mut bytes = write_fixed(order, 8, signature as u128);
-            let offset = write_fixed(order, format.offset_size(), type_offset as u128);
+            let offset = offset_bytes(order, format, type_offset);
             let _fits = bytes.try_extend_from_slice(offset.as_slice());
             bytes
         }

@@ -1,5 +1,5 @@
 //! Reading a section from a reader.
-ghost use Rattle.std.specs.Prelude.{◌≡◌, ◌<◌, ◌≤◌, ◌^◌, List, ℕ, true, false, None, IfOk, IfErr};
+ghost use Rattle.std.specs.Prelude.{◌≡◌, ◌<◌, ◌≤◌, ◌+◌, ◌^◌, List, ℕ, true, false, None, IfOk, IfErr};
 ghost use Rattle.dw_leb.specs.declared.errors.SectionId.TheVariants.{Info};
 ghost use Rattle.dw_leb.specs.Watch.{inner_of, fault_of, reader_fault, KeptSome};
 ghost use Rattle.dw_header.specs.declared.versions.Versions.TheVariants.{Five};
@@ -12,7 +12,7 @@ use crate::item::Item;
 use crate::kind::shows_known;
 use crate::section::Section;
 use dw_abbrev::Tables;
-use dw_feed::{HeadFeed, Progress, field_bytes, read_unit_behind, read_up_to};
+use dw_feed::{HeadFeed, Progress, read_field, read_unit_as, read_unit_behind, read_up_to};
 use dw_leb::{Fault, Order, ReadError, Reason, SectionId, Watched, read_length};
 use dw_unit::Versions;
 use std::alloc::Global;
@@ -21,12 +21,17 @@ use std::io::Read;
 /// The most bytes behind an initial length that show of which kind an item is: a version and a unit type.
 const MARKS: u64 = 3;
 
+/// The most bytes behind an initial length for which all of a unit is taken at once. Those of a longer one go into the
+/// feeds as they come.
+const SHORT: u64 = 1024;
+
 /// The section `.debug_info` that is all of what the reader has left, with units of version 5 (section 7.5), in
 /// whatever pieces its bytes come. At `Ok` nothing is left unread. `abbreviations` has the bytes of the
 /// section `.debug_abbrev` that belongs to it.
 ///
-/// Items of other versions and unit types are kept as their bytes. The bytes of a unit go into the feeds as they
-/// come: none is kept beside the unit's tree.
+/// Items of other versions and unit types are kept as their bytes. A unit of at most 1,024 bytes behind its length
+/// field is taken at once. The bytes of a longer one go into the feeds as they come: none is kept beside the unit's
+/// tree.
 ///
 /// A fault is the first one of the section. Its offset counts from the section's first byte, or from the first
 /// byte of `.debug_abbrev` where it is a table's. `Truncated` comes only where the reader has no more: a short
@@ -98,13 +103,14 @@ fn read_items<R: Read>(
     ensures fault { fault_of reader.new ≡ reader_fault result }
 {
     let mut section = Section::new_as(alloc, order, versions);
+    let mut taken = Vec::new(alloc);
     loop {
         let start = Start {
             order,
             versions,
             offset: section.size(),
         };
-        match next_item(alloc, start, tables, reader)? {
+        match next_item(alloc, start, &mut taken, tables, reader)? {
             Some(item) => {
                 if section.keep(item).is_err() {
                     return Err(ReadError::NoMemory);
@@ -124,10 +130,12 @@ struct Start {
     offset: u64,
 }
 
-/// The item that begins there, and at the front of what the reader has left; None where that is nothing.
+/// The item that begins there, and at the front of what the reader has left; None where that is nothing. `taken` is
+/// room for bytes of it.
 fn next_item<R: Read>(
     alloc: Global,
     start: Start,
+    taken: &mut Vec<u8>,
     tables: &mut Tables<'_>,
     reader: &mut Watched<R>,
 ) -> Result<Option<Item>, ReadError>
@@ -142,13 +150,14 @@ fn next_item<R: Read>(
     ensures tables { tables.new ≡ tables.old }
     ensures fault { fault_of reader.new ≡ reader_fault result }
 {
-    let bytes = field_bytes(alloc, reader)?;
-    if bytes.as_slice().is_empty() {
+    taken.clear();
+    read_field(reader, taken)?;
+    if taken.as_slice().is_empty() {
         return Ok(None);
     }
-    match read_length(start.order, start.offset, bytes.as_slice()) {
+    match read_length(start.order, start.offset, taken.as_slice()) {
         Ok((_, n)) => {
-            let item = item_behind(alloc, start, n, bytes, tables, reader)?;
+            let item = item_behind(alloc, start, n, taken, tables, reader)?;
             Ok(Some(item))
         }
         Err(reason) => Err(fault_at(start.offset, reason)),
@@ -171,29 +180,33 @@ fn item_behind<R: Read>(
     alloc: Global,
     start: Start,
     n: u64,
-    bytes: Vec<u8>,
+    taken: &mut Vec<u8>,
     tables: &mut Tables<'_>,
     reader: &mut Watched<R>,
 ) -> Result<Item, ReadError>
     requires clear { fault_of reader.old ≡ None }
-    requires begun { HasLength start.order start.offset n bytes.items }
+    requires begun { HasLength start.order start.offset n taken.old.items }
     ensures found { IfOk result (λ x. TakesItem start.versions start.order tables.old start.offset
-        (behind bytes.items (R.remaining (inner_of reader.old)))
+        (behind taken.old.items (R.remaining (inner_of reader.old)))
         (R.remaining (inner_of reader.new)) (item_of x)) }
     ensures broken { IfErr result (TakesNoItem start.versions start.order tables.old start.offset
-        (behind bytes.items (R.remaining (inner_of reader.old)))
+        (behind taken.old.items (R.remaining (inner_of reader.old)))
         (R.remaining (inner_of reader.new))) }
-    ensures memory { KeptSome (behind bytes.items (R.remaining (inner_of reader.old)))
+    ensures memory { KeptSome (behind taken.old.items (R.remaining (inner_of reader.old)))
         (R.remaining (inner_of reader.new)) result }
     ensures tables { tables.new ≡ tables.old }
     ensures fault { fault_of reader.new ≡ reader_fault result }
 {
-    let mut taken = bytes;
     let field = taken.as_slice().len();
-    read_up_to(reader, n.min(MARKS), &mut taken)?;
+    read_up_to(reader, n.min(MARKS), taken)?;
     match shows_known(start.versions, start.order, n, &taken.as_slice()[field..]) {
-        Ok(true) => known_item(alloc, start, taken.as_slice(), tables, reader),
-        Ok(false) => other_item(start, field, n, taken, reader),
+        Ok(true) => {
+            if n <= SHORT {
+                return short_item(alloc, start, field as u64 + n, taken, tables, reader);
+            }
+            known_item(alloc, start, taken.as_slice(), tables, reader)
+        }
+        Ok(false) => other_item(alloc, start, field, n, taken, reader),
         Err(e) => Err(fault_at(start.offset + field as u64 + e.offset as u64, e.reason)),
     }
 }
@@ -232,37 +245,70 @@ fn known_item<R: Read>(
     }
 }
 
-/// The item of no known kind of which these bytes were taken: its length field of so many bytes, and some of the
-/// `n` behind it.
-fn other_item<R: Read>(
+/// The item of a known kind of which these bytes were taken, of `size` bytes in all, which are few: the others are taken
+/// at once.
+fn short_item<R: Read>(
+    alloc: Global,
     start: Start,
-    field: usize,
-    n: u64,
-    bytes: Vec<u8>,
+    size: u64,
+    taken: &mut Vec<u8>,
+    tables: &mut Tables<'_>,
     reader: &mut Watched<R>,
 ) -> Result<Item, ReadError>
     requires clear { fault_of reader.old ≡ None }
-    requires begun { HasKind start.versions start.order start.offset n field bytes.items false }
+    requires begun { (n : ℕ) × (field : ℕ) × (size ≡ field + n)
+        × HasKind start.versions start.order start.offset n field taken.old.items true }
+    ensures found { IfOk result (λ x. TakesItem start.versions start.order tables.old start.offset
+        (behind taken.old.items (R.remaining (inner_of reader.old)))
+        (R.remaining (inner_of reader.new)) (item_of x)) }
+    ensures broken { IfErr result (TakesNoItem start.versions start.order tables.old start.offset
+        (behind taken.old.items (R.remaining (inner_of reader.old)))
+        (R.remaining (inner_of reader.new))) }
+    ensures memory { KeptSome (behind taken.old.items (R.remaining (inner_of reader.old)))
+        (R.remaining (inner_of reader.new)) result }
+    ensures tables { tables.new ≡ tables.old }
+    ensures fault { fault_of reader.new ≡ reader_fault result }
+{
+    let missing = size - taken.as_slice().len() as u64;
+    read_up_to(reader, missing, taken)?;
+    match read_unit_as(alloc, start.order, start.versions, tables, taken.as_slice()) {
+        Ok((unit, _)) => Ok(Item::Known(unit)),
+        Err(e) => Err(moved_error(start.offset, e)),
+    }
+}
+
+/// The item of no known kind of which these bytes were taken: its length field of so many bytes, and some of the
+/// `n` behind it.
+fn other_item<R: Read>(
+    alloc: Global,
+    start: Start,
+    field: usize,
+    n: u64,
+    taken: &mut Vec<u8>,
+    reader: &mut Watched<R>,
+) -> Result<Item, ReadError>
+    requires clear { fault_of reader.old ≡ None }
+    requires begun { HasKind start.versions start.order start.offset n field taken.old.items false }
     ensures found { (abbreviations : List ℕ) → IfOk result
         (λ x. TakesItem start.versions start.order abbreviations start.offset
-        (behind bytes.items (R.remaining (inner_of reader.old)))
+        (behind taken.old.items (R.remaining (inner_of reader.old)))
         (R.remaining (inner_of reader.new)) (item_of x)) }
     ensures broken { (abbreviations : List ℕ) → IfErr result
         (TakesNoItem start.versions start.order abbreviations start.offset
-        (behind bytes.items (R.remaining (inner_of reader.old)))
+        (behind taken.old.items (R.remaining (inner_of reader.old)))
         (R.remaining (inner_of reader.new))) }
-    ensures memory { KeptSome (behind bytes.items (R.remaining (inner_of reader.old)))
+    ensures memory { KeptSome (behind taken.old.items (R.remaining (inner_of reader.old)))
         (R.remaining (inner_of reader.new)) result }
     ensures fault { fault_of reader.new ≡ reader_fault result }
 {
     let size = field as u64 + n;
-    let mut taken = bytes;
     let most = size - taken.as_slice().len() as u64;
-    read_up_to(reader, most, &mut taken)?;
+    read_up_to(reader, most, taken)?;
     if (taken.as_slice().len() as u64) < size {
         return Err(fault_at(start.offset + field as u64, Reason::Truncated));
     }
-    Ok(Item::Other(taken))
+    let none = Vec::new(alloc);
+    Ok(Item::Other(std::mem::replace(taken, none)))
 }
 
 /// The fault of a unit that stands alone, where the unit begins at this start of the section. A table's isn't

@@ -1,4 +1,4 @@
-use Rattle.std.proofs.Common.{◌≡◌, ◌∙◌, ◌≤◌, ◌⊎◌, Bool, true, false, List, [], ℕ, length, sym, ap, subst, arith, inl, inr}
+use Rattle.std.proofs.Common.{◌≡◌, ◌∙◌, ◌≤◌, ◌⊎◌, Bool, refl, true, false, List, [], ℕ, length, sym, ap, subst, arith, inl, inr}
 use Rattle.std.proofs.lemmas.Result.{err_from_is_err_and, IfOk-weaker, IfErr-weaker}
 use Rattle.std.specs.Io.KnownBytes.{IsAtEnd}
 use Rattle.dw_leb.specs.Watch.{inner_of}
@@ -16,18 +16,28 @@ pub returns-in_err-read_up_to-clause-broken : goal.returns-in_err-read_up_to-cla
 returns-in_err-read_up_to-clause-broken g c =
     let p = err_from_is_err_and c.from_residual.result c.from_residual.ensures.1 in
     rw (p.1, p.2)
-    (rest_failed c.args.start.versions c.args.start.order c.args.tables.now c.args.start.offset _ _ c.args.bytes.items _ c.in_err-read_up_to.field-0.0 c.in_err-read_up_to.ensures.bytes
+    (rest_failed c.args.start.versions c.args.start.order c.args.tables.now c.args.start.offset _ _ c.args.taken.now.items _ c.in_err-read_up_to.field-0.0 c.in_err-read_up_to.ensures.bytes
     c.requires.begun.format c.args.n [] c.requires.begun.begins (omega (arith, c.min.ensures)))
 
 pub returns-in_err-read_up_to-clause-memory : goal.returns-in_err-read_up_to-clause-memory
 returns-in_err-read_up_to-clause-memory g c =
     let p = err_from_is_err_and c.from_residual.result c.from_residual.ensures.1 in
-    rw (p.1, p.2) (kept_more _ _ _ c.args.bytes.items c.in_err-read_up_to.field-0.0 (behind_taken c.args.bytes.items _) c.in_err-read_up_to.ensures.memory)
+    rw (p.1, p.2) (kept_more _ _ _ c.args.taken.now.items c.in_err-read_up_to.field-0.0 (behind_taken c.args.taken.now.items _) c.in_err-read_up_to.ensures.memory)
+
+pub short_item-requires-clause-begun : goal.short_item-requires-clause-begun
+short_item-requires-clause-begun g c =
+    let h = c.in_ok-read_up_to.ensures.bytes in
+    let bytes : List ℕ = c.args.taken.now.items in
+    let field : length c.as_slice-field.result.now ≡ length bytes = ap length c.as_slice-field.ensures.value in
+    let marked = behind_field bytes h.0 c.as_slice.result.now (length c.as_slice-field.result.now) field (c.as_slice.ensures.value ∙ h.1) in
+    let shows : ShowsKind c.args.start.versions c.args.start.order c.args.n h.0 true = subst (λ (v : Bool). ShowsKind c.args.start.versions c.args.start.order c.args.n h.0 v) c.in-Ok-true.field-0-test (subst (λ (b : List ℕ). ShowsKind c.args.start.versions c.args.start.order c.args.n b c.in-Ok-true.field-0) marked c.in-Ok-true.ensures.found) in
+    let there = kind_taken c.args.start.versions c.args.start.order c.args.start.offset c.args.n (length c.as_slice-field.result.now) bytes h.0 true c.requires.begun field (omega (arith, h.2, c.min.ensures)) (omega (arith, h.2, c.min.ensures)) shows in
+    (c.args.n, length c.as_slice-field.result.now, refl, subst (λ (b : List ℕ). HasKind c.args.start.versions c.args.start.order c.args.start.offset c.args.n (length c.as_slice-field.result.now) b true) (sym h.1) there)
 
 pub known_item-requires-clause-begun : goal.known_item-requires-clause-begun
 known_item-requires-clause-begun g c =
     let h = c.in_ok-read_up_to.ensures.bytes in
-    let bytes : List ℕ = c.args.bytes.items in
+    let bytes : List ℕ = c.args.taken.now.items in
     let now : List ℕ = c.read_up_to.new.bytes.items in
     let field : length c.as_slice-field.result.now ≡ length bytes = ap length c.as_slice-field.ensures.value in
     let marked = behind_field bytes h.0 c.as_slice.result.now (length c.as_slice-field.result.now) field (c.as_slice.ensures.value ∙ h.1) in
@@ -38,7 +48,7 @@ known_item-requires-clause-begun g c =
 pub other_item-requires-clause-begun : goal.other_item-requires-clause-begun
 other_item-requires-clause-begun g c =
     let h = c.in_ok-read_up_to.ensures.bytes in
-    let bytes : List ℕ = c.args.bytes.items in
+    let bytes : List ℕ = c.args.taken.now.items in
     let now : List ℕ = c.read_up_to.new.bytes.items in
     let field : length c.as_slice-field.result.now ≡ length bytes = ap length c.as_slice-field.ensures.value in
     let marked = behind_field bytes h.0 c.as_slice.result.now (length c.as_slice-field.result.now) field (c.as_slice.ensures.value ∙ h.1) in
@@ -46,32 +56,32 @@ other_item-requires-clause-begun g c =
     let there = kind_taken c.args.start.versions c.args.start.order c.args.start.offset c.args.n (length c.as_slice-field.result.now) bytes h.0 false c.requires.begun field (omega (arith, h.2, c.min.ensures)) (omega (arith, h.2, c.min.ensures)) shows in
     subst (λ (b : List ℕ). HasKind c.args.start.versions c.args.start.order c.args.start.offset c.args.n (length c.as_slice-field.result.now) b false) (sym h.1) there
 
-pub returns-in-Ok-true-clause-found : goal.returns-in-Ok-true-clause-found
-returns-in-Ok-true-clause-found g c =
+pub returns-else-n-le-SHORT-clause-found : goal.returns-else-n-le-SHORT-clause-found
+returns-else-n-le-SHORT-clause-found g c =
     let h = c.in_ok-read_up_to.ensures.bytes in
     let now : List ℕ = c.as_slice-in-Ok-true.result.now in
     let old = g.R.Read.remaining (inner_of c.args.reader.now) in
     let mid = g.R.Read.remaining (inner_of c.read_up_to.new.reader) in
-    let took = both_taken old mid c.args.bytes.items h.0 now (c.as_slice-in-Ok-true.ensures.value ∙ h.1) h.3 in
-    IfOk-weaker c.known_item.result _ _ (λ x. item_from c.args.start.versions c.args.start.order c.args.tables.now c.args.start.offset (behind c.args.bytes.items old) mid _ now (item_of x) took) c.known_item.ensures.found
+    let took = both_taken old mid c.args.taken.now.items h.0 now (c.as_slice-in-Ok-true.ensures.value ∙ h.1) h.3 in
+    IfOk-weaker c.known_item.result _ _ (λ x. item_from c.args.start.versions c.args.start.order c.args.tables.now c.args.start.offset (behind c.args.taken.now.items old) mid _ now (item_of x) took) c.known_item.ensures.found
 
-pub returns-in-Ok-true-clause-broken : goal.returns-in-Ok-true-clause-broken
-returns-in-Ok-true-clause-broken g c =
+pub returns-else-n-le-SHORT-clause-broken : goal.returns-else-n-le-SHORT-clause-broken
+returns-else-n-le-SHORT-clause-broken g c =
     let h = c.in_ok-read_up_to.ensures.bytes in
     let now : List ℕ = c.as_slice-in-Ok-true.result.now in
     let old = g.R.Read.remaining (inner_of c.args.reader.now) in
     let mid = g.R.Read.remaining (inner_of c.read_up_to.new.reader) in
-    let took = both_taken old mid c.args.bytes.items h.0 now (c.as_slice-in-Ok-true.ensures.value ∙ h.1) h.3 in
-    IfErr-weaker c.known_item.result _ _ (λ e. no_item_from c.args.start.versions c.args.start.order c.args.tables.now c.args.start.offset (behind c.args.bytes.items old) mid _ now e took) c.known_item.ensures.broken
+    let took = both_taken old mid c.args.taken.now.items h.0 now (c.as_slice-in-Ok-true.ensures.value ∙ h.1) h.3 in
+    IfErr-weaker c.known_item.result _ _ (λ e. no_item_from c.args.start.versions c.args.start.order c.args.tables.now c.args.start.offset (behind c.args.taken.now.items old) mid _ now e took) c.known_item.ensures.broken
 
-pub returns-in-Ok-true-clause-memory : goal.returns-in-Ok-true-clause-memory
-returns-in-Ok-true-clause-memory g c =
+pub returns-else-n-le-SHORT-clause-memory : goal.returns-else-n-le-SHORT-clause-memory
+returns-else-n-le-SHORT-clause-memory g c =
     let h = c.in_ok-read_up_to.ensures.bytes in
     let now : List ℕ = c.as_slice-in-Ok-true.result.now in
     let old = g.R.Read.remaining (inner_of c.args.reader.now) in
     let mid = g.R.Read.remaining (inner_of c.read_up_to.new.reader) in
-    let took = both_taken old mid c.args.bytes.items h.0 now (c.as_slice-in-Ok-true.ensures.value ∙ h.1) h.3 in
-    kept_from TheItem (behind c.args.bytes.items old) mid _ now c.known_item.result took c.known_item.ensures.memory
+    let took = both_taken old mid c.args.taken.now.items h.0 now (c.as_slice-in-Ok-true.ensures.value ∙ h.1) h.3 in
+    kept_from TheItem (behind c.args.taken.now.items old) mid _ now c.known_item.result took c.known_item.ensures.memory
 
 pub returns-in-Ok-false-clause-found : goal.returns-in-Ok-false-clause-found
 returns-in-Ok-false-clause-found g c =
@@ -79,8 +89,8 @@ returns-in-Ok-false-clause-found g c =
     let now : List ℕ = c.read_up_to.new.bytes.items in
     let old = g.R.Read.remaining (inner_of c.args.reader.now) in
     let mid = g.R.Read.remaining (inner_of c.read_up_to.new.reader) in
-    let took = both_taken old mid c.args.bytes.items h.0 now h.1 h.3 in
-    IfOk-weaker c.other_item.result _ _ (λ x. item_from c.args.start.versions c.args.start.order c.args.tables.now c.args.start.offset (behind c.args.bytes.items old) mid _ now (item_of x) took) (c.other_item.ensures.found c.args.tables.now)
+    let took = both_taken old mid c.args.taken.now.items h.0 now h.1 h.3 in
+    IfOk-weaker c.other_item.result _ _ (λ x. item_from c.args.start.versions c.args.start.order c.args.tables.now c.args.start.offset (behind c.args.taken.now.items old) mid _ now (item_of x) took) (c.other_item.ensures.found c.args.tables.now)
 
 pub returns-in-Ok-false-clause-broken : goal.returns-in-Ok-false-clause-broken
 returns-in-Ok-false-clause-broken g c =
@@ -88,8 +98,8 @@ returns-in-Ok-false-clause-broken g c =
     let now : List ℕ = c.read_up_to.new.bytes.items in
     let old = g.R.Read.remaining (inner_of c.args.reader.now) in
     let mid = g.R.Read.remaining (inner_of c.read_up_to.new.reader) in
-    let took = both_taken old mid c.args.bytes.items h.0 now h.1 h.3 in
-    IfErr-weaker c.other_item.result _ _ (λ e. no_item_from c.args.start.versions c.args.start.order c.args.tables.now c.args.start.offset (behind c.args.bytes.items old) mid _ now e took) (c.other_item.ensures.broken c.args.tables.now)
+    let took = both_taken old mid c.args.taken.now.items h.0 now h.1 h.3 in
+    IfErr-weaker c.other_item.result _ _ (λ e. no_item_from c.args.start.versions c.args.start.order c.args.tables.now c.args.start.offset (behind c.args.taken.now.items old) mid _ now e took) (c.other_item.ensures.broken c.args.tables.now)
 
 pub returns-in-Ok-false-clause-memory : goal.returns-in-Ok-false-clause-memory
 returns-in-Ok-false-clause-memory g c =
@@ -97,13 +107,13 @@ returns-in-Ok-false-clause-memory g c =
     let now : List ℕ = c.read_up_to.new.bytes.items in
     let old = g.R.Read.remaining (inner_of c.args.reader.now) in
     let mid = g.R.Read.remaining (inner_of c.read_up_to.new.reader) in
-    let took = both_taken old mid c.args.bytes.items h.0 now h.1 h.3 in
-    kept_from TheItem (behind c.args.bytes.items old) mid _ now c.other_item.result took c.other_item.ensures.memory
+    let took = both_taken old mid c.args.taken.now.items h.0 now h.1 h.3 in
+    kept_from TheItem (behind c.args.taken.now.items old) mid _ now c.other_item.result took c.other_item.ensures.memory
 
 pub returns-in-Err-clause-broken : goal.returns-in-Err-clause-broken
 returns-in-Err-clause-broken g c =
     let h = c.in_ok-read_up_to.ensures.bytes in
-    let bytes : List ℕ = c.args.bytes.items in
+    let bytes : List ℕ = c.args.taken.now.items in
     let old = g.R.Read.remaining (inner_of c.args.reader.now) in
     let mid = g.R.Read.remaining (inner_of c.read_up_to.new.reader) in
     let field : length c.as_slice-field.result.now ≡ length bytes = ap length c.as_slice-field.ensures.value in
@@ -112,3 +122,30 @@ returns-in-Err-clause-broken g c =
     let whole : ((c.args.n ≤ length h.0) ⊎ (3 ≤ length h.0)) ⊎ IsAtEnd mid = elim h.4 [ inl all ↦ inl (enough c.args.n (length h.0) c.min.result all c.min.ensures) | inr end ↦ inr end ] in
     subst (λ (e : ReadError). TakesNoItem c.args.start.versions c.args.start.order c.args.tables.now c.args.start.offset (behind bytes old) mid e) (sym c.fault_at.ensures)
     (kind_cut c.args.start.versions c.args.start.order c.args.tables.now c.args.start.offset c.args.n (length c.as_slice-field.result.now) old mid bytes h.0 c.requires.begun field (omega (arith, h.2, c.min.ensures)) h.3 whole c.in-Err.e.offset c.in-Err.e.reason breaks)
+
+pub returns-then-n-le-SHORT-clause-found : goal.returns-then-n-le-SHORT-clause-found
+returns-then-n-le-SHORT-clause-found g c =
+    let h = c.in_ok-read_up_to.ensures.bytes in
+    let now : List ℕ = c.read_up_to.new.bytes.items in
+    let old = g.R.Read.remaining (inner_of c.args.reader.now) in
+    let mid = g.R.Read.remaining (inner_of c.read_up_to.new.reader) in
+    let took = both_taken old mid c.args.taken.now.items h.0 now h.1 h.3 in
+    IfOk-weaker c.short_item.result _ _ (λ x. item_from c.args.start.versions c.args.start.order c.args.tables.now c.args.start.offset (behind c.args.taken.now.items old) mid _ now (item_of x) took) c.short_item.ensures.found
+
+pub returns-then-n-le-SHORT-clause-broken : goal.returns-then-n-le-SHORT-clause-broken
+returns-then-n-le-SHORT-clause-broken g c =
+    let h = c.in_ok-read_up_to.ensures.bytes in
+    let now : List ℕ = c.read_up_to.new.bytes.items in
+    let old = g.R.Read.remaining (inner_of c.args.reader.now) in
+    let mid = g.R.Read.remaining (inner_of c.read_up_to.new.reader) in
+    let took = both_taken old mid c.args.taken.now.items h.0 now h.1 h.3 in
+    IfErr-weaker c.short_item.result _ _ (λ e. no_item_from c.args.start.versions c.args.start.order c.args.tables.now c.args.start.offset (behind c.args.taken.now.items old) mid _ now e took) c.short_item.ensures.broken
+
+pub returns-then-n-le-SHORT-clause-memory : goal.returns-then-n-le-SHORT-clause-memory
+returns-then-n-le-SHORT-clause-memory g c =
+    let h = c.in_ok-read_up_to.ensures.bytes in
+    let now : List ℕ = c.read_up_to.new.bytes.items in
+    let old = g.R.Read.remaining (inner_of c.args.reader.now) in
+    let mid = g.R.Read.remaining (inner_of c.read_up_to.new.reader) in
+    let took = both_taken old mid c.args.taken.now.items h.0 now h.1 h.3 in
+    kept_from TheItem (behind c.args.taken.now.items old) mid _ now c.short_item.result took c.short_item.ensures.memory

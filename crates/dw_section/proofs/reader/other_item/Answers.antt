@@ -12,20 +12,20 @@ pub returns-in_err-read_up_to-clause-broken : goal.returns-in_err-read_up_to-cla
 returns-in_err-read_up_to-clause-broken g c = λ abbreviations.
     let p = err_from_is_err_and c.from_residual.result c.from_residual.ensures.1 in
     let begun = c.requires.begun in
-    let size = begins_size c.args.start.order c.args.start.offset c.args.bytes.items begun.format c.args.n begun.rest begun.begins in
+    let size = begins_size c.args.start.order c.args.start.offset c.args.taken.now.items begun.format c.args.n begun.rest begun.begins in
     rw (p.1, p.2)
-    (rest_failed c.args.start.versions c.args.start.order abbreviations c.args.start.offset _ _ c.args.bytes.items _ c.in_err-read_up_to.field-0.0 c.in_err-read_up_to.ensures.bytes
+    (rest_failed c.args.start.versions c.args.start.order abbreviations c.args.start.offset _ _ c.args.taken.now.items _ c.in_err-read_up_to.field-0.0 c.in_err-read_up_to.ensures.bytes
     begun.format c.args.n begun.rest begun.begins (omega (arith, ap length c.as_slice.ensures.value, size, begun.field_is, begun.inside)))
 
 pub returns-in_err-read_up_to-clause-memory : goal.returns-in_err-read_up_to-clause-memory
 returns-in_err-read_up_to-clause-memory g c =
     let p = err_from_is_err_and c.from_residual.result c.from_residual.ensures.1 in
-    rw (p.1, p.2) (kept_more _ _ _ c.args.bytes.items c.in_err-read_up_to.field-0.0 (behind_taken c.args.bytes.items _) c.in_err-read_up_to.ensures.memory)
+    rw (p.1, p.2) (kept_more _ _ _ c.args.taken.now.items c.in_err-read_up_to.field-0.0 (behind_taken c.args.taken.now.items _) c.in_err-read_up_to.ensures.memory)
 
 pub returns-then-as_slice-size-clause-broken : goal.returns-then-as_slice-size-clause-broken
 returns-then-as_slice-size-clause-broken g c = λ abbreviations.
     let h = c.in_ok-read_up_to.ensures.bytes in
-    let bytes : List ℕ = c.args.bytes.items in
+    let bytes : List ℕ = c.args.taken.now.items in
     let now : List ℕ = c.read_up_to.new.bytes.items in
     let first : length c.as_slice.result.now ≡ length bytes = ap length c.as_slice.ensures.value in
     let second : length c.as_slice-2.result.now ≡ length now = ap length c.as_slice-2.ensures.value in
@@ -39,11 +39,12 @@ returns-then-as_slice-size-clause-broken g c = λ abbreviations.
 pub returns-clause-found : goal.returns-clause-found
 returns-clause-found g c = λ abbreviations.
     let h = c.in_ok-read_up_to.ensures.bytes in
-    let bytes : List ℕ = c.args.bytes.items in
+    let bytes : List ℕ = c.args.taken.now.items in
     let now : List ℕ = c.read_up_to.new.bytes.items in
     let first : length c.as_slice.result.now ≡ length bytes = ap length c.as_slice.ensures.value in
     let second : length c.as_slice-2.result.now ≡ length now = ap length c.as_slice-2.ensures.value in
     let is : now ≡ bytes ++ h.0 = h.1 in
     let more = c.if-as_slice-size.false in
     let sum : length (bytes ++ h.0) ≡ length bytes + length h.0 = length-append bytes h.0 in
-    other_taken c.args.start.versions c.args.start.order c.args.start.offset c.args.n c.args.field _ _ bytes h.0 c.requires.begun h.3 abbreviations now is (omega (arith, more, first, second, ap length is, sum, h.2, other_inside c.args.start.versions c.args.start.order c.args.start.offset c.args.n c.args.field _ (g.R.Read.remaining (inner_of c.read_up_to.new.reader)) bytes h.0 c.requires.begun h.3 abbreviations))
+    rw c.replace.ensures.value
+    (other_taken c.args.start.versions c.args.start.order c.args.start.offset c.args.n c.args.field _ _ bytes h.0 c.requires.begun h.3 abbreviations now is (omega (arith, more, first, second, ap length is, sum, h.2, other_inside c.args.start.versions c.args.start.order c.args.start.offset c.args.n c.args.field _ (g.R.Read.remaining (inner_of c.read_up_to.new.reader)) bytes h.0 c.requires.begun h.3 abbreviations)))

@@ -1,7 +1,7 @@
 use Rattle.std.proofs.Common.{◌++◌, ◌∙◌, List, ℕ, take, arith, length-append, length-take}
 use Rattle.std.proofs.lemmas.Result.{err_from_is_err_and}
 use Rattle.dw_leb.specs.Transfers.{consumes_more}
-use Rattle.dw_feed.proofs.bytes.read_few.Goals as goal
+use Rattle.dw_feed.proofs.bytes.read_through.Goals as goal
 
 pub returns-in_err-extend_from_slice-clause-bytes : goal.returns-in_err-extend_from_slice-clause-bytes
 returns-in_err-extend_from_slice-clause-bytes g c =
@@ -10,7 +10,7 @@ returns-in_err-extend_from_slice-clause-bytes g c =
     let next = take c.in-Ok.got c.read_part.new.part in
     rw (p.1, p.2) (
       before.0 ++ next,
-      omega (arith, length-append before.0 next, length-take c.in-Ok.got c.read_part.new.part, before.2, c.in-Ok.ensures.bound.0, c.read_part.auto.part, length-take c.loop-left.left c.loop-left.chunk, c.loop-left.invariant.few, c.if-got-eq0.false),
+      omega (arith, length-append before.0 next, length-take c.in-Ok.got c.read_part.new.part, before.2, c.in-Ok.ensures.bound.0, c.read_part.auto.part, length-take c.min-want.result c.loop-left.chunk, c.min-want.ensures, c.if-got-eq0.false),
       consumes_more _ _ _ _ _ before.3 c.in-Ok.ensures.bytes.0,
     )
 
@@ -21,7 +21,7 @@ returns-in_err-extend_from_slice-clause-memory g c =
     let next = take c.in-Ok.got c.read_part.new.part in
     rw (p.1, p.2) (
       before.0 ++ next,
-      omega (arith, length-append before.0 next, length-take c.in-Ok.got c.read_part.new.part, c.in-Ok.ensures.bound.0, c.in-Ok.ensures.bound.1, c.read_part.auto.part, length-take c.loop-left.left c.loop-left.chunk, c.loop-left.invariant.few, c.if-got-eq0.false),
+      omega (arith, length-append before.0 next, length-take c.in-Ok.got c.read_part.new.part, c.in-Ok.ensures.bound.0, c.in-Ok.ensures.bound.1, c.read_part.auto.part, length-take c.min-want.result c.loop-left.chunk, c.if-got-eq0.false),
       consumes_more _ _ _ _ _ before.3 c.in-Ok.ensures.bytes.0,
     )
 
