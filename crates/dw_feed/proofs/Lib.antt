@@ -3,6 +3,7 @@ pub mod HeadReads
 pub mod HeadGrows
 pub mod BodyReads
 pub mod UnitReads
+pub mod BegunReads
 mod Samples
 mod BodyFeedRows
 mod HeadFeedRows

@@ -18,16 +18,16 @@ use Rattle.dw_header.specs.declared.versions.Versions.{Versions}
 use Rattle.dw_header.specs.Header.{Header, Accepts, versions_for, fields, fields_of}
 use Rattle.dw_header.specs.HeaderPlace.{HeaderAtUnder, header_bytes, header_size}
 use Rattle.dw_header.specs.Laws.{HasHeaderBytes, spelled_headers_stand}
-use Rattle.dw_unit.specs.Unit.{WholeUnit, bytes_of, FailsUnder}
+use Rattle.dw_unit.specs.Unit.{WholeUnit, bytes_of, left_behind, FailsUnder}
 use Rattle.dw_unit.specs.UnitView.{IsUnitErrorUnder, FaultWithin}
 use Rattle.dw_unit.specs.Inside.{break_inside}
 use Rattle.dw_unit.specs.DecideUnit.{break_stays}
 use Rattle.dw_feed.specs.Feed.{behind, StartsWith, InUnit, TakesUnitUnder, IsFeedErrorUnder, TakesNoUnitUnder, TakesNoUnitBehind}
 use Rattle.dw_feed.specs.BodyFeed.{started, stream, BreaksAt}
 use Rattle.dw_feed.specs.FedUnit.{started_stream, all_bytes, fed_broken, table_broken}
-use Rattle.dw_feed.specs.FeedReads.{TakesHeader, TakesNoHeader, TakesBody, IsBodyError, TakesNoBody}
+use Rattle.dw_feed.specs.FeedReads.{TakesHeader, TakesHeaderWith, TakesNoHeader, TakesBody, IsBodyError, TakesNoBody}
 use Rattle.dw_feed.specs.Cut.{length_bytes}
-use Rattle.dw_feed.specs.Taking.{starts_longer, left_of, left_at_end, had_before, takes_of, length_some}
+use Rattle.dw_feed.specs.Taking.{behind_taken, starts_longer, left_of, left_at_end, had_before, takes_of, length_some}
 
 -- no header
 pub header_error : (versions : Versions) (section : List ℕ) (order : Order) (taken : List ℕ) (old new : Option (List ℕ)) (e : ReadError) → TakesNoHeader versions order taken old new e → TakesNoUnitBehind versions section order taken old new e
@@ -46,18 +46,46 @@ feed_error versions section order all (reads.Fault f) is = is
 feed_error versions section order all reads.NoMemory is = tt
 feed_error versions section order all (reads.Io kind) is = tt
 
-module _ (versions : Versions) (section : List ℕ) (order : Order) (before : List ℕ) (had mid : Option (List ℕ)) (h : Header) (n : ℕ) (head : TakesHeader versions order before had mid (h, n)) where
+-- behind no bytes
+pub behind_none : (o : Option (List ℕ)) → behind [] o ≡ o
+behind_none None = refl
+behind_none (Some bytes) = refl
+
+header_sized : (h : Header) (n : ℕ) → length (header_bytes h n) ≡ header_size h
+header_sized h n = omega (arith, length-append (length_bytes h.order (h.format, n)) ((fields h.order h.format).spell (fields_of h)), initial-size h.order 0 h.format n)
+
+-- a header alone was taken
+pub with_none : (versions : Versions) (order : Order) (before : List ℕ) (had mid : Option (List ℕ)) (x : Header × ℕ) → TakesHeader versions order before had mid x → TakesHeaderWith versions order before [] had mid x
+with_none versions order before had mid x head = (
+  head.0,
+  head.1,
+  subst (λ (o : Option (List ℕ)). Consumes (behind before had) o head.0) (sym (behind_none mid)) head.2,
+  starts_longer before head.0 [] head.3,
+  omega (arith, ap length head.1.all, header_sized x.0 x.1, head.1.fits.within),
+)
+
+module _ (versions : Versions) (section : List ℕ) (order : Order) (before : List ℕ) (had mid : Option (List ℕ)) (first : List ℕ) (h : Header) (n : ℕ) (head : TakesHeaderWith versions order before first had mid (h, n)) where
   abbrev old : Option (List ℕ)
   old = behind before had
 
   abbrev own : List ℕ
   own = header_bytes h n
 
+  -- all that was taken before the reader is read on
+  abbrev begun : List ℕ
+  begun = own ++ first
+
   pub has : HasHeaderBytes h n
   has = head.1.fits
 
-  took : Consumes old mid own
-  took = subst (λ (bs : List ℕ). Consumes old mid bs) head.1.all head.2
+  took : Consumes old (behind first mid) own
+  took = subst (λ (bs : List ℕ). Consumes old (behind first mid) bs) head.1.all head.2
+
+  both : Consumes old mid begun
+  both = consumes_more old (behind first mid) mid own first took (behind_taken first mid)
+
+  room : length own + length first ≤ length_size h.format + n
+  room = omega (arith, head.4, ap length head.1.all)
 
   stands : (rest : List ℕ) → HeaderAtUnder versions order (own ++ rest) h n
   stands rest = subst (λ (o : Order). HeaderAtUnder versions o (own ++ rest) h n) head.1.order_is (spelled_headers_stand versions h n rest head.1.accepted has)
@@ -70,11 +98,19 @@ module _ (versions : Versions) (section : List ℕ) (order : Order) (before : Li
       subst (λ (o : Order). InUnit o (own ++ rest) m) head.1.order_is
       (inr ((h.format, n), record { rest = f ++ rest; fits = has.length_fits; split = append_assoc (length_bytes h.order (h.format, n)) f rest; is_size = size; within = omega (arith, initial_within h.order 0 h.format n, size) }, le))
 
-  starts : StartsWith before own
-  starts = subst (StartsWith before) head.1.all head.3
+  starts : StartsWith before begun
+  starts = subst (λ (bs : List ℕ). StartsWith before (bs ++ first)) head.1.all head.3
+
+  -- bytes of which the first are these
+  starts_all : (taken : List ℕ) → StartsWith first taken → StartsWith before (own ++ taken)
+  starts_all taken (more, is) = subst (StartsWith before) (append_assoc own first more ∙ ap (λ (bs : List ℕ). own ++ bs) (sym is)) (starts_longer before begun more starts)
 
   sized : length own ≡ header_size h
-  sized = omega (arith, length-append (length_bytes h.order (h.format, n)) ((fields h.order h.format).spell (fields_of h)), initial-size h.order 0 h.format n)
+  sized = header_sized h n
+
+  -- what was taken behind the header is no more than the unit has there
+  pub first_inside : length first ≤ left_behind h n
+  first_inside = omega (arith, room, sized, has.within)
 
   header_some : 0 < length own
   header_some = omega (arith, sized, length_some h.format)
@@ -83,27 +119,29 @@ module _ (versions : Versions) (section : List ℕ) (order : Order) (before : Li
 
   -- it isn't there
   pub table_error : (e : ReadError) → IsTableError section h.abbrev_offset e → TakesNoUnitBehind versions section order before had mid e
-  table_error e is = (
-    own ++ left_of mid,
-    takes_of old mid own took,
-    feed_error versions section order (own ++ left_of mid) e (table_broken versions section order (own ++ left_of mid) h n (stands (left_of mid)) e is),
-    inside (left_of mid) (length own) (omega (arith, sized, has.within)),
-    starts_longer before own (left_of mid) starts,
-  )
+  table_error e is =
+      let all : List ℕ = begun ++ left_of mid in
+      let there : HeaderAtUnder versions order all h n = subst (λ (bs : List ℕ). HeaderAtUnder versions order bs h n) (sym (append_assoc own first (left_of mid))) (stands (first ++ left_of mid)) in (
+        all,
+        takes_of old mid begun both,
+        feed_error versions section order all e (table_broken versions section order all h n there e is),
+        subst (λ (bs : List ℕ). InUnit order bs (length begun)) (sym (append_assoc own first (left_of mid))) (inside (first ++ left_of mid) (length begun) (omega (arith, length-append own first, room))),
+        starts_longer before begun (left_of mid) starts,
+      )
 
   -- and there was no memory for it: the header was taken
   pub table_memory : (X : Type 0) (e : ReadError) → KeptSome {X = X} old mid (Err e)
   table_memory X (reads.Fault f) = tt
-  table_memory X reads.NoMemory = (own, header_some, took)
+  table_memory X reads.NoMemory = (begun, omega (arith, header_some, length-append own first), both)
   table_memory X (reads.Io kind) = tt
 
   -- ---- what stands behind the header
 
   module _ (t : Table) (place : TableAt section h.abbrev_offset t) (new : Option (List ℕ)) where
-    pub body_found : (u : WholeUnit) → TakesBody (started h n t) mid new u → TakesUnitUnder versions section order old new u
+    pub body_found : (u : WholeUnit) → TakesBody (started h n t) first mid new u → TakesUnitUnder versions section order old new u
     body_found u it =
         let whole : own ++ it.taken ≡ bytes_of u = ap (λ (bs : List ℕ). bs ++ it.taken) (sym (started_stream h n t)) ∙ it.whole in
-        let all : Consumes old new (bytes_of u) = subst (λ (bs : List ℕ). Consumes old new bs) whole (consumes_more old mid new own it.taken took it.consumed) in
+        let all : Consumes old new (bytes_of u) = subst (λ (bs : List ℕ). Consumes old new bs) whole (consumes_more old (behind first mid) new own it.taken took it.consumed) in
         let place_is : TableAt section u.header.abbrev_offset u.table = subst (λ (x : Header). TableAt section x.abbrev_offset u.table) (sym it.header_is) (subst (TableAt section h.abbrev_offset) (sym it.table_is) place) in
         let accepts : Accepts versions u.header.kind = subst (λ (x : Header). Accepts versions x.kind) (sym it.header_is) head.1.accepted in (
           bytes_of u ++ left_of new,
@@ -115,10 +153,10 @@ module _ (versions : Versions) (section : List ℕ) (order : Order) (before : Li
           all,
         )
 
-    pub unit_starts : (u : WholeUnit) → TakesBody (started h n t) mid new u → StartsWith before (bytes_of u)
+    pub unit_starts : (u : WholeUnit) → TakesBody (started h n t) first mid new u → StartsWith before (bytes_of u)
     unit_starts u it =
         let whole : own ++ it.taken ≡ bytes_of u = ap (λ (bs : List ℕ). bs ++ it.taken) (sym (started_stream h n t)) ∙ it.whole in
-        subst (StartsWith before) whole (starts_longer before own it.taken starts)
+        subst (StartsWith before) whole (starts_all it.taken it.front)
 
     -- a fault of what was taken is that of all
     all_break : (taken : List ℕ) (f : Fault) → IsBodyError (started h n t) taken new (reads.Fault f) → BreaksAt (started h n t) ((own ++ taken) ++ left_of new) f
@@ -139,25 +177,25 @@ module _ (versions : Versions) (section : List ℕ) (order : Order) (before : Li
     body_tells taken reads.NoMemory is = tt
     body_tells taken (reads.Io kind) is = tt
 
-    pub body_error : (e : ReadError) → TakesNoBody (started h n t) mid new e → TakesNoUnitBehind versions section order before had new e
-    body_error e (taken, next, le, is) = (
+    pub body_error : (e : ReadError) → TakesNoBody (started h n t) first mid new e → TakesNoUnitBehind versions section order before had new e
+    body_error e (taken, next, le, is, front) = (
       (own ++ taken) ++ left_of new,
-      takes_of old new (own ++ taken) (consumes_more old mid new own taken took next),
+      takes_of old new (own ++ taken) (consumes_more old (behind first mid) new own taken took next),
       body_tells taken e is,
       subst (λ (bs : List ℕ). InUnit order bs (length (own ++ taken))) (sym (append_assoc own taken (left_of new)))
           (inside (taken ++ left_of new) (length (own ++ taken)) (omega (arith, length-append own taken, sized, le, has.within))),
-      starts_longer before (own ++ taken) (left_of new) (starts_longer before own taken starts),
+      starts_longer before (own ++ taken) (left_of new) (starts_all taken front),
     )
 
-    pub body_memory : {X : Type 0} (r : Result X ReadError) → IfErr r (TakesNoBody (started h n t) mid new) → KeptSome old new r
+    pub body_memory : {X : Type 0} (r : Result X ReadError) → IfErr r (TakesNoBody (started h n t) first mid new) → KeptSome old new r
     body_memory (Ok x) it = tt
     body_memory (Err (reads.Fault f)) it = tt
-    body_memory (Err reads.NoMemory) it = (own ++ it.0, omega (arith, header_some, length-append own it.0), consumes_more old mid new own it.0 took it.1)
+    body_memory (Err reads.NoMemory) it = (own ++ it.0, omega (arith, header_some, length-append own it.0), consumes_more old (behind first mid) new own it.0 took it.1)
     body_memory (Err (reads.Io kind)) it = tt
 
     -- a fault stands within the unit
-    body_near : (e : ReadError) → TakesNoBody (started h n t) mid new e → FaultWithin (2 ^ 63) e
-    body_near (reads.Fault f) (taken, next, le, is) = λ info.
+    body_near : (e : ReadError) → TakesNoBody (started h n t) first mid new e → FaultWithin (2 ^ 63) e
+    body_near (reads.Fault f) (taken, next, le, is, front) = λ info.
         let s : List ℕ = stream (started h n t) in
         omega (
           arith,
@@ -172,7 +210,7 @@ module _ (versions : Versions) (section : List ℕ) (order : Order) (before : Li
     body_near reads.NoMemory it = tt
     body_near (reads.Io kind) it = tt
 
-    pub unit_near : {X : Type 0} (r : Result X ReadError) → IfErr r (TakesNoBody (started h n t) mid new) → IfErr r (FaultWithin (2 ^ 63))
+    pub unit_near : {X : Type 0} (r : Result X ReadError) → IfErr r (TakesNoBody (started h n t) first mid new) → IfErr r (FaultWithin (2 ^ 63))
     unit_near (Ok x) it = tt
     unit_near (Err e) it = body_near e it
 

@@ -1,5 +1,5 @@
 -- What a read of a unit answers and takes.
-use Rattle.std.specs.Prelude.{◌≡◌, ◌≢◌, ℕ, ◌+◌, ◌≤◌, List, [], ◌∷◌, ◌++◌, length, take, Option, Some, None, Bool, true, false, Result, Ok, Err, ◌⊎◌}
+use Rattle.std.specs.Prelude.{◌≡◌, ◌≢◌, ℕ, ◌+◌, ◌≤◌, ◌<◌, List, [], ◌∷◌, ◌++◌, length, take, Option, Some, None, Bool, true, false, Result, Ok, Err, ◌⊎◌}
 use Rattle.std.specs.Io.KnownBytes.{Consumes, IsAtEnd}
 use Rattle.dw_leb.specs.declared.errors.ReadError.{ReadError}
 use Rattle.dw_leb.specs.declared.errors.ReadError.TheVariants as reads
@@ -40,6 +40,12 @@ InUnit order all n =
     InField all n
     ⊎ ((x : Format × ℕ) × Taken (initial_length order 0) all length_limit x (length_size x.0)
     × (n ≤ length_size x.0 + x.1))
+
+-- they begin with a length field, and are no more than the unit whose length it tells
+abbrev pub BeginsUnit : Order → List ℕ → Type 0
+BeginsUnit order bytes =
+    (x : Format × ℕ) × Taken (initial_length order 0) bytes length_limit x (length_size x.0)
+    × (length bytes ≤ length_size x.0 + x.1)
 
 -- of all that a reader had left some bytes were taken
 pub record Takes (old new : Option (List ℕ)) (all : List ℕ) : Type 0 where
@@ -101,6 +107,15 @@ ReadsUpTo held now old new most (Ok x) =
     (got : List ℕ) × (now ≡ held ++ got) × (length got ≤ most) × Consumes old new got
     × ((length got ≡ most) ⊎ IsAtEnd new)
 ReadsUpTo held now old new most (Err e) = FailsUpTo old new most e
+
+-- what one read of up to so many bytes puts behind those that are held: some of them, or none where the reader had no
+-- more
+abbrev pub ReadsSome : {X : Type 0} → List ℕ → List ℕ → Option (List ℕ) → Option (List ℕ) → ℕ → Result X ReadError
+    → Type 0
+ReadsSome held now old new most (Ok x) =
+    (got : List ℕ) × (now ≡ held ++ got) × (length got ≤ most) × Consumes old new got
+    × (0 < most → length got ≡ 0 → IsAtEnd new)
+ReadsSome held now old new most (Err e) = FailsUpTo old new most e
 
 -- what is held after such a read failed: what was held, and behind it what was taken. Where a growth was refused, the
 -- bytes are lost for which it was wanted.

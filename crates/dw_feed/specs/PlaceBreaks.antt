@@ -8,7 +8,7 @@ use Rattle.dw_leb.specs.Number.{Unsigned, uleb}
 use Rattle.dw_form.specs.declared.shape.Ctx.{Ctx}
 use Rattle.dw_form.specs.Form.{Attribute, attribute}
 use Rattle.dw_abbrev.specs.Table.{Pair, Table, declared, is_null}
-use Rattle.dw_tree.specs.Tree.{Tree, Forest, none, more, node_of, values, declared_pairs, declares_children, unknown, bad_root, bad_child, body, children, tree, nesting, nulls, AreNulls, MoreBreaks, unit_tree}
+use Rattle.dw_tree.specs.Tree.{Tree, Forest, none, more, node_of, values, declared_pairs, declares_children, unknown, bad_root, bad_child, body, children, nesting, nulls, AreNulls, MoreBreaks, unit_tree}
 use Rattle.dw_tree.specs.Spelling.{entry_bytes, tree_bytes, forest_bytes}
 use Rattle.dw_tree.specs.Structure.{spelled_by_structure}
 use Rattle.dw_tree.specs.Place.{Frame, UnfinishedEntry}

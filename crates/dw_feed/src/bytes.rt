@@ -1,10 +1,10 @@
 //! Bytes that are taken from a reader and kept.
-ghost use Rattle.std.specs.Prelude.{◌≡◌, ◌<◌, [], None, IfErr, length, vec_items};
+ghost use Rattle.std.specs.Prelude.{◌≡◌, ◌<◌, ◌≤◌, [], None, IfErr, OnErr, length, vec_items};
 ghost use Rattle.std.specs.Io.{ReadsAtMost};
 ghost use Rattle.std.specs.Result.{result_err};
 ghost use Rattle.std.specs.Io.KnownBytes.{ReadConsumes};
 ghost use Rattle.dw_leb.specs.Watch.{inner_of, fault_of, reader_fault, KeptSome};
-ghost use Rattle.dw_feed.specs.Feed.{ReadsField, ReadsUpTo, HoldsTaken, IsEscape};
+ghost use Rattle.dw_feed.specs.Feed.{ReadsField, ReadsUpTo, ReadsSome, HoldsTaken, IsEscape};
 
 use dw_leb::{ReadError, Watched};
 use std::alloc::Global;
@@ -18,6 +18,9 @@ const CHUNK: usize = 4096;
 const FEW: usize = 16;
 
 const SOME: usize = 128;
+
+/// The most bytes that are asked for by one read that isn't repeated.
+const MANY: usize = 1024;
 
 /// One read from a reader, which may be of fewer bytes than `part` has room for; or the kind of its fault.
 pub(crate) fn read_part<R: Read>(
@@ -115,6 +118,63 @@ pub fn read_up_to<R: Read>(
     }
     let mut chunk = [0u8; CHUNK];
     read_through(reader, most, bytes, &mut chunk)
+}
+
+/// Appends what one read of at most `most` bytes gives: some of them, or none where the reader has no more. For none
+/// no read is made. `bytes` grows by what comes. `NoMemory` is returned where a growth was refused, and only where at
+/// least a byte was taken. After an error `bytes` has what it had.
+///
+/// A part of the reader of sections in `dw_section`, and no call for users.
+pub fn read_some<R: Read>(
+    reader: &mut Watched<R>,
+    most: usize,
+    bytes: &mut Vec<u8>,
+) -> Result<(), ReadError>
+    requires clear { fault_of reader.old ≡ None }
+    requires few { most ≤ 1024 }
+    ensures bytes { ReadsSome bytes.old.items bytes.new.items
+        (R.remaining (inner_of reader.old))
+        (R.remaining (inner_of reader.new))
+        most result }
+    ensures kept { OnErr result (bytes.new.items ≡ bytes.old.items) }
+    ensures memory { KeptSome (R.remaining (inner_of reader.old)) (R.remaining (inner_of reader.new)) result }
+    ensures fault { fault_of reader.new ≡ reader_fault result }
+{
+    if most == 0 {
+        return Ok(());
+    }
+    if most <= SOME {
+        let mut chunk = [0u8; SOME];
+        return append_read(reader, bytes, &mut chunk[..most]);
+    }
+    let mut chunk = [0u8; MANY];
+    append_read(reader, bytes, &mut chunk[..most])
+}
+
+/// Appends what one read into this part gives.
+fn append_read<R: Read>(
+    reader: &mut Watched<R>,
+    bytes: &mut Vec<u8>,
+    part: &mut [u8],
+) -> Result<(), ReadError>
+    requires clear { fault_of reader.old ≡ None }
+    requires room { 0 < length part.old }
+    ensures bytes { ReadsSome bytes.old.items bytes.new.items
+        (R.remaining (inner_of reader.old))
+        (R.remaining (inner_of reader.new))
+        (length part.old) result }
+    ensures kept { OnErr result (bytes.new.items ≡ bytes.old.items) }
+    ensures memory { KeptSome (R.remaining (inner_of reader.old)) (R.remaining (inner_of reader.new)) result }
+    ensures fault { fault_of reader.new ≡ reader_fault result }
+{
+    match read_part(reader, part) {
+        Ok(0) => Ok(()),
+        Ok(got) => {
+            bytes.extend_from_slice(&part[..got])?;
+            Ok(())
+        }
+        Err(kind) => Err(ReadError::Io(kind)),
+    }
 }
 
 /// The same, read into this chunk again and again.

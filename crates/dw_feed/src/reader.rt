@@ -1,12 +1,12 @@
 //! Reading a unit from a reader.
-ghost use Rattle.std.specs.Prelude.{◌≡◌, ◌<◌, ◌^◌, length, None, IfOk, IfErr};
+ghost use Rattle.std.specs.Prelude.{◌≡◌, ◌<◌, ◌≤◌, ◌^◌, length, drop, None, IfOk, IfErr};
 ghost use Rattle.dw_leb.specs.Watch.{inner_of, fault_of, reader_fault, KeptSome};
 ghost use Rattle.dw_header.specs.Laws.{HasHeaderBytes};
 ghost use Rattle.dw_unit.specs.Unit.{bytes_of, left_behind};
 ghost use Rattle.dw_unit.specs.UnitView.{FaultWithin};
 ghost use Rattle.dw_feed.specs.BodyFeed.{started};
 ghost use Rattle.dw_feed.specs.HeadFeed.{Reading, taken_of};
-ghost use Rattle.dw_feed.specs.Feed.{behind, StartsWith, InUnit, TakesUnit, TakesUnitUnder, TakesNoUnit, TakesNoUnitUnder, TakesNoUnitBehind};
+ghost use Rattle.dw_feed.specs.Feed.{behind, BeginsUnit, StartsWith, InUnit, TakesUnit, TakesUnitUnder, TakesNoUnit, TakesNoUnitUnder, TakesNoUnitBehind};
 ghost use Rattle.dw_feed.specs.FeedReads.{TakesHeader, TakesNoHeader, TakesBody, TakesNoBody};
 
 use crate::body::BodyFeed;
@@ -124,7 +124,68 @@ pub fn read_unit_behind<R: Read>(
 {
     let (header, unit_length) = head_from(feed, reader)?;
     let table = tables.get(header.abbrev_offset())?;
-    body_from(alloc, header, unit_length, table, reader)
+    body_from(alloc, header, unit_length, table, &[], reader)
+}
+
+/// The unit of which these bytes were taken, no more than it has, and whose other bytes are at the front of what the
+/// reader has left, as `read_unit_from_as` gives it where none were taken before. What they show is looked at before
+/// another byte is asked for.
+///
+/// All that is said there of what the reader had left is said of these bytes and those behind them; offsets count from
+/// the first of these.
+///
+/// A part of the reader of sections in `dw_section`, and no call for users.
+pub fn read_unit_begun<R: Read>(
+    alloc: Global,
+    order: Order,
+    versions: Versions,
+    taken: &[u8],
+    tables: &mut Tables<'_>,
+    reader: &mut Watched<R>,
+) -> Result<Unit, ReadError>
+    requires clear { fault_of reader.old ≡ None }
+    requires begun { BeginsUnit order taken.now }
+    requires few { length taken.now ≤ 65536 }
+    ensures found { IfOk result (TakesUnitUnder versions tables.old order
+        (behind taken.now (R.remaining (inner_of reader.old)))
+        (R.remaining (inner_of reader.new))) }
+    ensures front { IfOk result (λ u. StartsWith taken.now (bytes_of u)) }
+    ensures broken { IfErr result (TakesNoUnitBehind versions tables.old order taken.now
+        (R.remaining (inner_of reader.old))
+        (R.remaining (inner_of reader.new))) }
+    ensures memory { KeptSome (behind taken.now (R.remaining (inner_of reader.old)))
+        (R.remaining (inner_of reader.new))
+        result }
+    ensures near { IfErr result (FaultWithin (2 ^ 63)) }
+    ensures tables { tables.new ≡ tables.old }
+    ensures fault { fault_of reader.new ≡ reader_fault result }
+{
+    let mut feed = HeadFeed::new_as(order, versions);
+    let (count, answer) = feed.feed(taken);
+    match answer {
+        Progress::More => read_unit_behind(alloc, feed, tables, reader),
+        Progress::Done(head) => {
+            let declared = tables.get(head.0.abbrev_offset())?;
+            body_from(
+                alloc,
+                head.0,
+                head.1,
+                declared,
+                rest_of(taken, count),
+                reader,
+            )
+        }
+        Progress::Fault(fault) => Err(ReadError::Fault(fault)),
+        Progress::NoMemory | Progress::Spent => unreachable!(),
+    }
+}
+
+/// The bytes behind the first so many.
+fn rest_of(bytes: &[u8], count: usize) -> &[u8]
+    requires { count ≤ length bytes.now }
+    ensures { result.now ≡ drop count bytes.now }
+{
+    &bytes[count..]
 }
 
 /// The header of which the feed took the first bytes, and its unit_length; the other bytes are at the front of
@@ -174,20 +235,24 @@ fn behind_header(header: Header, unit_length: u64) -> u64
     header.format().length_size() as u64 + unit_length - header.size()
 }
 
-/// The unit of a header whose other bytes are at the front of what the reader has left.
+/// The unit of a header of which, behind it, these bytes were taken, and whose other bytes are at the front of what the
+/// reader has left.
 fn body_from<R: Read>(
     alloc: Global,
     header: Header,
     unit_length: u64,
     table: Rc<Table>,
+    first: &[u8],
     reader: &mut Watched<R>,
 ) -> Result<Unit, ReadError>
     requires spelled { HasHeaderBytes header unit_length }
     requires clear { fault_of reader.old ≡ None }
-    ensures found { IfOk result (TakesBody (started header unit_length table.value)
+    requires inside { length first.now ≤ left_behind header unit_length }
+    requires few { length first.now ≤ 65536 }
+    ensures found { IfOk result (TakesBody (started header unit_length table.value) first.now
         (R.remaining (inner_of reader.old))
         (R.remaining (inner_of reader.new))) }
-    ensures broken { IfErr result (TakesNoBody (started header unit_length table.value)
+    ensures broken { IfErr result (TakesNoBody (started header unit_length table.value) first.now
         (R.remaining (inner_of reader.old))
         (R.remaining (inner_of reader.new))) }
     ensures fault { fault_of reader.new ≡ reader_fault result }
@@ -195,10 +260,10 @@ fn body_from<R: Read>(
     let size = behind_header(header, unit_length);
     if size <= SMALL as u64 {
         let mut chunk = [0u8; SMALL];
-        return body_through(alloc, header, unit_length, table, reader, &mut chunk);
+        return body_through(alloc, header, unit_length, table, first, reader, &mut chunk);
     }
     let mut chunk = [0u8; CHUNK];
-    body_through(alloc, header, unit_length, table, reader, &mut chunk)
+    body_through(alloc, header, unit_length, table, first, reader, &mut chunk)
 }
 
 /// The same, read into this chunk again and again.
@@ -207,24 +272,28 @@ fn body_through<R: Read>(
     header: Header,
     unit_length: u64,
     table: Rc<Table>,
+    first: &[u8],
     reader: &mut Watched<R>,
     chunk: &mut [u8],
 ) -> Result<Unit, ReadError>
     requires spelled { HasHeaderBytes header unit_length }
     requires clear { fault_of reader.old ≡ None }
     requires room { 0 < length chunk.old }
-    ensures found { IfOk result (TakesBody (started header unit_length table.value)
+    requires inside { length first.now ≤ left_behind header unit_length }
+    requires fits { length first.now ≤ length chunk.old }
+    ensures found { IfOk result (TakesBody (started header unit_length table.value) first.now
         (R.remaining (inner_of reader.old))
         (R.remaining (inner_of reader.new))) }
-    ensures broken { IfErr result (TakesNoBody (started header unit_length table.value)
+    ensures broken { IfErr result (TakesNoBody (started header unit_length table.value) first.now
         (R.remaining (inner_of reader.old))
         (R.remaining (inner_of reader.new))) }
     ensures fault { fault_of reader.new ≡ reader_fault result }
 {
-    let mut left = behind_header(header, unit_length);
+    let mut got = first.len();
+    chunk[..got].copy_from_slice(first);
+    let mut left = behind_header(header, unit_length) - got as u64;
     let mut feed = BodyFeed::new(alloc, header, unit_length, table);
     // A unit that has no room for a root is refused before a byte is read.
-    let mut got = 0;
     loop {
         let (_, answer) = feed.feed(&chunk[..got]);
         match answer {

@@ -1,8 +1,8 @@
 -- An item that is read from a reader: what was taken of it, and from there to what the read says.
-use Rattle.std.proofs.Common.{Bool, true, false, ◌≡◌, ◌≢◌, ◌⊎◌, ℕ, ◌+◌, ◌-◌, ◌^◌, ◌<◌, ◌≤◌, List, [], ◌∷◌, ◌++◌, length, take, drop, Option, Some, None, Result, Ok, Err, refl, sym, ap, subst, ◌∙◌, append_assoc, append-nil, arith, inl, inr}
+use Rattle.std.proofs.Common.{Bool, true, false, ◌≡◌, ◌⊎◌, ℕ, ◌+◌, ◌-◌, ◌<◌, ◌≤◌, List, [], ◌∷◌, ◌++◌, length, take, drop, Option, Some, None, Result, Ok, Err, refl, sym, ap, subst, ◌∙◌, append_assoc, append-nil, arith, inl, inr}
 use Rattle.std.specs.Prelude.{min, nat_le, ◌==◌, ◌&&◌}
 use Rattle.std.proofs.lemmas.Bool.{leb-true, leb-false}
-use Rattle.std.proofs.lemmas.List.{length-append, length-take, take-append-drop, take_all}
+use Rattle.std.proofs.lemmas.List.{length-append, take_all}
 use Rattle.std.proofs.Math.Seq.{drop-append_seam}
 use Rattle.std.specs.Io.KnownBytes.{Consumes, IsAtEnd}
 use Rattle.dw_leb.specs.declared.errors.Reason.{Reason}
@@ -21,19 +21,10 @@ use Rattle.dw_leb.specs.Digits.{length-fixed}
 use Rattle.dw_leb.specs.DecideNumber.{initial-size, initial_within, initial_length_stays}
 use Rattle.dw_leb.specs.Transfers.{consumes_more}
 use Rattle.dw_leb.specs.Watch.{KeptSome}
-use Rattle.dw_header.specs.declared.kind.Kind.{Kind}
-use Rattle.dw_header.specs.declared.kind.Kind.TheVariants.{Compile, Partial, TypeUnit, Skeleton, Four}
 use Rattle.dw_header.specs.declared.versions.Versions.{Versions}
 use Rattle.dw_header.specs.declared.versions.Versions.TheVariants.{Five, FourAndFive}
-use Rattle.dw_header.specs.Header.{Header, fields, fields_of}
-use Rattle.dw_header.specs.HeaderPlace.{HeaderBreaksUnder, HeaderFaultUnder}
-use Rattle.dw_header.specs.Laws.{header_breaks_stay}
-use Rattle.dw_unit.specs.Inside.{header_inside}
 use Rattle.dw_unit.specs.Unit.{WholeUnit, bytes_of, FailsUnder}
-use Rattle.dw_feed.specs.declared.progress.Progress.{Progress}
-use Rattle.dw_feed.specs.declared.progress.Progress.TheVariants.{More, Done, Fault, NoMemory, Spent}
-use Rattle.dw_feed.specs.Feed.{Had, behind, StartsWith, Takes, InField, InUnit, IsField, FailsUpTo, FailsInField, TakesUnitUnder, TakesNoUnitBehind}
-use Rattle.dw_feed.specs.HeadFeed.{HeadFeed, HeadState, Reading, Refused, Finished, IsHeader, Answers, FeedsHead}
+use Rattle.dw_feed.specs.Feed.{Had, BeginsUnit, behind, StartsWith, Takes, InField, InUnit, IsField, FailsUpTo, FailsInField, TakesUnitUnder, TakesNoUnitBehind}
 use Rattle.dw_feed.specs.Taking.{left_of, left_at_end, takes_of, behind_taken, field_longer}
 use Rattle.dw_feed.specs.Cut.{field_never_truncated, field_size, same_length}
 use Rattle.dw_section.specs.Item.{Item, Known, Other, item_bytes, least_length, version_and_type_if, version_and_type, ShowsKind, HasInitialLength, ItemFits, IsKnown, ItemFails}
@@ -82,6 +73,10 @@ begins_more order start bytes format n rest more b = record { fits = b.fits; spl
 
 pub begins_size : (order : Order) (start : ℕ) (bytes : List ℕ) (format : Format) (n : ℕ) (rest : List ℕ) → HasInitialLength order start bytes format n rest → length bytes ≡ length_size format + length rest
 begins_size order start bytes format n rest b = omega (arith, ap length b.split, length-append ((length_field order).spell (format, n)) rest, initial-size order start format n)
+
+pub length_few : (f : Format) → length_size f ≤ 12
+length_few Dwarf32 = omega arith
+length_few Dwarf64 = omega arith
 
 pub begins_some : (order : Order) (start : ℕ) (bytes : List ℕ) (format : Format) (n : ℕ) (rest : List ℕ) → HasInitialLength order start bytes format n rest → 0 < length bytes
 begins_some order start bytes format n rest b = omega (arith, begins_size order start bytes format n rest b, length_some format)
@@ -202,15 +197,14 @@ kind_cut versions order abbreviations start n field old new bytes got begun fiel
     )
 
 -- what was taken shows it
-pub kind_taken : (versions : Versions) (order : Order) (start n field : ℕ) (bytes got : List ℕ) (known : Bool) → HasLength order start n bytes → field ≡ length bytes → length got ≤ n → length got ≤ 3 → ShowsKind versions order n got known
+pub kind_taken : (versions : Versions) (order : Order) (start n field : ℕ) (bytes got : List ℕ) (known : Bool) → HasLength order start n bytes → field ≡ length bytes → length got ≤ n → ShowsKind versions order n got known
     → HasKind versions order start n field (bytes ++ got) known
-kind_taken versions order start n field bytes got known begun field_is le few shows = record {
+kind_taken versions order start n field bytes got known begun field_is le shows = record {
   format = begun.format;
   rest = got;
   begins = begins_more order start bytes begun.format n [] got begun.begins;
   field_is = field_is ∙ begins_size order start bytes begun.format n [] begun.begins ∙ omega arith;
   inside = le;
-  few = few;
   shows = shows;
 }
 
@@ -283,37 +277,6 @@ item_error versions order abbreviations start all f known some fails = (some, by
     by Info offset reason h = fault_there versions order abbreviations start all offset reason known h
     by Abbrev offset reason h = (known, h)
 
--- a header has more than what shows the kind
-fields_many : (order : Order) (format : Format) (k : Kind) (a o : ℕ) → 3 < length ((fields order format).spell (record { kind = k; address_size = a; abbrev_offset = o }))
-fields_many order format = by
-  where
-    five : (type a : ℕ) (x body : List ℕ) → body ≡ fixed_bytes order 2 5 ++ (fixed_bytes order 1 type ++ (fixed_bytes order 1 a ++ x)) → 3 < length body
-    five type a x body e =
-        omega (
-          arith,
-          ap length e,
-          length-append (fixed_bytes order 2 5) (fixed_bytes order 1 type ++ (fixed_bytes order 1 a ++ x)),
-          length-append (fixed_bytes order 1 type) (fixed_bytes order 1 a ++ x),
-          length-append (fixed_bytes order 1 a) x,
-          length-fixed order 2 5,
-          length-fixed order 1 type,
-          length-fixed order 1 a,
-        )
-
-    four : (w o : ℕ) (x body : List ℕ) → 2 ≤ w → body ≡ fixed_bytes order 2 4 ++ (fixed_bytes order w o ++ x) → 3 < length body
-    four w o x body le e = omega (arith, le, ap length e, length-append (fixed_bytes order 2 4) (fixed_bytes order w o ++ x), length-append (fixed_bytes order w o) x, length-fixed order 2 4, length-fixed order w o)
-
-    of_four : (f : Format) (a o : ℕ) → 3 < length ((fields order f).spell (record { kind = Four; address_size = a; abbrev_offset = o }))
-    of_four Dwarf32 a o = four 4 o _ _ (omega arith) refl
-    of_four Dwarf64 a o = four 8 o _ _ (omega arith) refl
-
-    by : (k : Kind) (a o : ℕ) → 3 < length ((fields order format).spell (record { kind = k; address_size = a; abbrev_offset = o }))
-    by Compile a o = five 1 a _ _ refl
-    by Partial a o = five 3 a _ _ refl
-    by (TypeUnit s t) a o = five 2 a _ _ refl
-    by (Skeleton id) a o = five 4 a _ _ refl
-    by Four a o = of_four format a o
-
 module _ (versions : Versions) (order : Order) (start n field : ℕ) (bytes : List ℕ) (begun : HasKind versions order start n field bytes true) where
   abbrev pub known_begins : (all : List ℕ) → StartsWith bytes all → IsKnown versions order start all
   known_begins all (more, is) = (
@@ -327,104 +290,13 @@ module _ (versions : Versions) (order : Order) (start n field : ℕ) (bytes : Li
   pub known_some : (all : List ℕ) → StartsWith bytes all → 0 < length all
   known_some all (more, is) = omega (arith, ap length is, length-append bytes more, begins_some order start bytes begun.format n begun.rest begun.begins)
 
-  -- the feed of its header
-
-  pub known_inside : InUnit order bytes (length bytes)
-  known_inside =
-      let size = initial-size order 0 begun.format n in
-      inr (
+  pub known_begun : BeginsUnit order bytes
+  known_begun =
+      let size = initial-size order 0 begun.format n in (
         (begun.format, n),
         record { rest = begun.rest; fits = fits_alone order start begun.format n begun.begins.fits; split = begun.begins.split; is_size = size; within = omega (arith, initial_within order 0 begun.format n, size) },
         omega (arith, begins_size order start bytes begun.format n begun.rest begun.begins, begun.inside),
       )
-
-  few_bytes : length bytes ≤ 15
-  few_bytes = omega (arith, begins_size order start bytes begun.format n begun.rest begun.begins, begun.few, most begun.format)
-    where
-      most : (f : Format) → length_size f ≤ 12
-      most Dwarf32 = omega arith
-      most Dwarf64 = omega arith
-
-  abbrev fresh : HeadFeed
-  fresh = record { order = order; versions = versions; state = Reading [] }
-
-  answers_of : (feed new : HeadFeed) (k : ℕ) (a b : Progress (Header × ℕ)) → feed ≡ fresh → a ≡ b → FeedsHead feed bytes k a new → FeedsHead fresh bytes k b new
-  answers_of feed new k a b is same says = subst (λ (x : Progress (Header × ℕ)). FeedsHead fresh bytes k x new) same (subst (λ (x : HeadFeed). FeedsHead x bytes k a new) is says)
-
-  -- it wants more
-  pub fed_more : (feed new : HeadFeed) (k : ℕ) (a : Progress (Header × ℕ)) → feed ≡ fresh → a ≡ More → FeedsHead feed bytes k a new → new ≡ record { order = order; versions = versions; state = Reading bytes }
-  fed_more feed new k a is same says =
-      let h = answers_of feed new k a More is same says in
-      ap (λ (o : Order). record { order = o; versions = new.versions; state = new.state }) h.order_is
-      ∙ ap (λ (v : Versions). record { order = order; versions = v; state = new.state }) h.versions_is
-      ∙ ap (λ (s : HeadState). record { order = order; versions = versions; state = s }) (by new.state h.answers)
-    where
-      by : (s : HeadState) → Answers versions order (Reading []) bytes k More s → s ≡ Reading bytes
-      by (Reading now) h = ap (λ (x : List ℕ). Reading x) h.1
-      by (Refused f) h = absurd h
-      by Finished h = absurd h
-
-  -- it has a fault
-  head_fault : (k : ℕ) (f : TheFault) (s : HeadState) → Answers versions order (Reading []) bytes k (Fault f) s → HeaderFaultUnder versions order (take k bytes) f × (f.reason ≢ Truncated)
-  head_fault k f (Reading now) h = absurd h
-  head_fault k f (Refused g) h = (h.2, h.3)
-  head_fault k f Finished h = absurd h
-
-  pub fed_near : (feed new : HeadFeed) (k : ℕ) (a : Progress (Header × ℕ)) (f : TheFault) → feed ≡ fresh → a ≡ Fault f → FeedsHead feed bytes k a new → f.offset ≤ 2 ^ 63
-  fed_near feed new k a f is same says =
-      let h = head_fault k f new.state (answers_of feed new k a (Fault f) is same says).answers in
-      omega (arith, header_inside versions order (take k bytes) f.offset f.reason h.0.1, length-take k bytes, few_bytes)
-
-  pub fed_fault_there : (feed new : HeadFeed) (k : ℕ) (a : Progress (Header × ℕ)) (f : TheFault) → feed ≡ fresh → a ≡ Fault f → FeedsHead feed bytes k a new → (abbreviations : List ℕ) (old : Option (List ℕ))
-      → TakesNoItem versions order abbreviations start (behind bytes old) old (reads.Fault (moved start f))
-  fed_fault_there feed new k a f is same says abbreviations old =
-      let h = head_fault k f new.state (answers_of feed new k a (Fault f) is same says).answers in
-      let all : List ℕ = bytes ++ left_of old in
-      let split : take k bytes ++ (drop k bytes ++ left_of old) ≡ all = sym (append_assoc (take k bytes) (drop k bytes) (left_of old)) ∙ ap (λ (x : List ℕ). x ++ left_of old) (take-append-drop k bytes) in
-      let breaks : HeaderBreaksUnder versions order all f.offset f.reason = subst (λ (x : List ℕ). HeaderBreaksUnder versions order x f.offset f.reason) split (header_breaks_stay versions order (take k bytes) (drop k bytes ++ left_of old) f.offset f.reason h.1 h.0.1) in
-      let fails : FailsUnder versions order abbreviations all f.section f.offset f.reason = subst (λ (s : SectionId). FailsUnder versions order abbreviations all s f.offset f.reason) (sym h.0.0) (inl breaks) in (
-        all,
-        takes_of (behind bytes old) old bytes (behind_taken bytes old),
-        item_error versions order abbreviations start all f (known_begins all (left_of old, refl)) (known_some all (left_of old, refl)) fails,
-        begun_inside order start bytes begun.format n begun.rest (left_of old) begun.begins begun.inside,
-      )
-
-  -- it can't have the whole header
-  pub not_done : (feed new : HeadFeed) (k : ℕ) (a : Progress (Header × ℕ)) (x : Header × ℕ) → feed ≡ fresh → a ≡ Done x → FeedsHead feed bytes k a new → ⊥
-  not_done feed new k a x is same says = by new.state (answers_of feed new k a (Done x) is same says).answers
-    where
-      of_header : IsHeader versions order (take k bytes) x.0 x.1 → ⊥
-      of_header i =
-          let h : Header = x.0 in
-          let own : List ℕ = (fields h.order h.format).spell (fields_of h) in
-          let len : Order → List ℕ = λ o. (length_field o).spell (h.format, x.1) in
-          let tail : List ℕ = drop k bytes in
-          let split : len h.order ++ (own ++ tail) ≡ bytes = sym (append_assoc (len h.order) own tail) ∙ ap (λ (y : List ℕ). y ++ tail) (sym i.all) ∙ take-append-drop k bytes in
-          let split_here : len order ++ (own ++ tail) ≡ bytes = subst (λ (o : Order). len o ++ (own ++ tail) ≡ bytes) i.order_is split in
-          let alone : (initial_length order 0).Fits (h.format, x.1) = subst (λ (o : Order). (initial_length o 0).Fits (h.format, x.1)) i.order_is i.fits.length_fits in
-          let one = same_length order (h.format, x.1) (begun.format, n) (own ++ tail) begun.rest alone (fits_alone order start begun.format n begun.begins.fits) (split_here ∙ begun.begins.split) in
-          omega (arith, ap length one.1, length-append own tail, begun.few, fields_many h.order h.format h.kind h.address_size h.abbrev_offset)
-
-      by : (s : HeadState) → Answers versions order (Reading []) bytes k (Done x) s → ⊥
-      by (Reading now) h = h
-      by (Refused f) h = h
-      by Finished h = of_header h.1
-
-  pub not_spent : (feed new : HeadFeed) (k : ℕ) (a : Progress (Header × ℕ)) → feed ≡ fresh → a ≡ Spent → FeedsHead feed bytes k a new → ⊥
-  not_spent feed new k a is same says = by new.state (answers_of feed new k a Spent is same says).answers
-    where
-      by : (s : HeadState) → Answers versions order (Reading []) bytes k Spent s → ⊥
-      by (Reading now) h = h
-      by (Refused f) h = h
-      by Finished h = h
-
-  pub not_memory : (feed new : HeadFeed) (k : ℕ) (a : Progress (Header × ℕ)) → feed ≡ fresh → a ≡ NoMemory → FeedsHead feed bytes k a new → ⊥
-  not_memory feed new k a is same says = by new.state (answers_of feed new k a NoMemory is same says).answers
-    where
-      by : (s : HeadState) → Answers versions order (Reading []) bytes k NoMemory s → ⊥
-      by (Reading now) h = h
-      by (Refused f) h = h
-      by Finished h = h
 
   -- ---- the unit
 

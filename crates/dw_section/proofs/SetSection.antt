@@ -1,7 +1,6 @@
 -- A section in which one number is another: what the program keeps of it, and when the number is taken.
-use Rattle.std.proofs.Common.{◌≡◌, ℕ, ℤ, zero, suc, ◌+◌, ◌<◌, eqb, List, [], ◌∷◌, ◌++◌, length, map, set, get_or, Bool, true, false, Option, Some, None, refl, sym, ap, ap₂, subst, ◌∙◌, arith}
-use Rattle.std.specs.Prelude.{Result, Ok, Err, IsSome, option_map, slice_get, if◌then◌else◌}
-use Rattle.std.specs.Map.{lookup}
+use Rattle.std.proofs.Common.{◌≡◌, ℕ, ℤ, zero, suc, ◌+◌, ◌<◌, List, [], ◌∷◌, length, map, set, get_or, Option, Some, None, refl, sym, ap, ap₂, subst, ◌∙◌, arith}
+use Rattle.std.specs.Prelude.{Result, Ok, Err, IsSome, option_map, slice_get}
 use Rattle.std.proofs.lemmas.List.{length-append, length-map}
 use Rattle.dw_leb.specs.declared.order.Order.{Order}
 use Rattle.dw_leb.specs.Number.{initial_length}
@@ -17,14 +16,14 @@ use Rattle.dw_unit.specs.Put.{put_in_unit}
 use Rattle.dw_section.specs.declared.id.EntryId.{EntryId}
 use Rattle.dw_section.specs.declared.item.Item.{Item as TheItem}
 use Rattle.dw_section.specs.declared.set_refusal.SetRefusal.{SetRefusal}
-use Rattle.dw_section.specs.Item.{Item, Known, Other, item_bytes, ItemFits, KnownFits, HoldsTable}
+use Rattle.dw_section.specs.Item.{Item, Known, Other, item_bytes}
 use Rattle.dw_section.specs.ItemView.{item_of}
-use Rattle.dw_section.specs.Section.{items_bytes, ItemsFit, HoldsTables, WholeSection, SectionFits, section_bytes}
-use Rattle.dw_section.specs.Reference.{ItemAt, TypeAt, items_from, items_at, type_in, type_with, type_offset_if, earlier, first_type}
+use Rattle.dw_section.specs.Section.{items_bytes, ItemsFit, HoldsTables, WholeSection, section_bytes}
+use Rattle.dw_section.specs.Reference.{items_from, type_in, type_with, type_offset_if, first_type}
 use Rattle.dw_section.specs.Lookup.{known_of, unit_at, starts_from, start_of}
 use Rattle.dw_section.specs.StringBase.{base_in}
 use Rattle.dw_section.specs.SectionView.{IsSection, id_of, first_id, ids_earlier}
-use Rattle.dw_section.specs.SetNumber.{put_in_item, put_at, edit_of, edited, or_misfit, new_value, is_bad_target, value_refusal, attribute_refusal, entry_refusal, unit_refusal, set_refusal, entry_offsets, KeepsOffsets, ItemKept}
+use Rattle.dw_section.specs.SetNumber.{put_in_item, put_at, edit_of, edited, or_misfit, new_value, value_refusal, attribute_refusal, entry_refusal, unit_refusal, set_refusal, entry_offsets, KeepsOffsets, ItemKept}
 
 -- ---- an item
 

@@ -1,5 +1,5 @@
 -- What a read of a section, or of an item of one, answers and takes.
-use Rattle.std.specs.Prelude.{◌≡◌, ℕ, ◌+◌, ◌≤◌, ◌<◌, List, [], ◌++◌, length, Option, Some, None, Bool, ◌⊎◌}
+use Rattle.std.specs.Prelude.{◌≡◌, ℕ, ◌+◌, ◌≤◌, ◌<◌, List, [], ◌++◌, length, Option, Some, None, Bool, Result, Ok, Err, ◌⊎◌}
 use Rattle.std.specs.Io.KnownBytes.{Consumes, IsAtEnd}
 use Rattle.dw_leb.specs.declared.errors.Fault.{Fault}
 use Rattle.dw_leb.specs.declared.errors.Reason.{Reason}
@@ -11,7 +11,7 @@ use Rattle.dw_leb.specs.declared.order.Order.{Order}
 use Rattle.dw_leb.specs.declared.order.Format.{Format}
 use Rattle.dw_leb.specs.Number.{length_size}
 use Rattle.dw_header.specs.declared.versions.Versions.{Versions}
-use Rattle.dw_feed.specs.Feed.{Had, Takes, InField}
+use Rattle.dw_feed.specs.Feed.{Had, Takes, InField, FailsUpTo}
 use Rattle.dw_section.specs.declared.item.Item.{Item as TheItem}
 use Rattle.dw_section.specs.Item.{Item, item_bytes, ShowsKind, HasInitialLength, ItemFits, HoldsTable, ItemFails}
 use Rattle.dw_section.specs.ItemView.{item_of}
@@ -106,8 +106,16 @@ pub record HasKind (versions : Versions) (order : Order) (start n field : ℕ) (
   pub begins : HasInitialLength order start bytes format n rest
   pub field_is : field ≡ length_size format
   pub inside : length rest ≤ n
-  pub few : length rest ≤ 3
   pub shows : ShowsKind versions order n rest known
+
+-- What a read of the bytes behind a length field puts behind those that are held: no more than the item has, and so
+-- many as show of which kind it is, or all that the reader had left.
+abbrev pub ReadsMarks : {X : Type 0} → List ℕ → List ℕ → Option (List ℕ) → Option (List ℕ) → ℕ → Result X ReadError
+    → Type 0
+ReadsMarks held now old new n (Ok x) =
+    (got : List ℕ) × (now ≡ held ++ got) × (length got ≤ n) × Consumes old new got
+    × (((n ≤ length got) ⊎ (3 ≤ length got)) ⊎ IsAtEnd new)
+ReadsMarks held now old new n (Err e) = FailsUpTo old new n e
 
 -- ---- a fault of a unit that stands alone, in its section
 

@@ -1,5 +1,5 @@
 -- The one right value of a DW_AT_sibling (section 2.3; own: exactly there, and in a form that holds such an offset).
-use Rattle.std.specs.Prelude.{ℕ, ◌+◌, ◌==◌, Bool, true, false, Option, Some, None, option_map}
+use Rattle.std.specs.Prelude.{ℕ, ◌+◌, ◌==◌, Bool, false, Option, Some, None, option_map}
 use Rattle.dw_form.specs.Form.{Value, at_number}
 use Rattle.dw_form.specs.Lent.{number_in}
 use Rattle.dw_tree.specs.Lent.{EntryAt, end_offset_of}

@@ -1,18 +1,18 @@
 //! Reading a section from a reader.
-ghost use Rattle.std.specs.Prelude.{◌≡◌, ◌<◌, ◌≤◌, ◌+◌, ◌^◌, List, ℕ, true, false, None, IfOk, IfErr};
+ghost use Rattle.std.specs.Prelude.{◌≡◌, ◌<◌, ◌≤◌, ◌+◌, ◌^◌, List, ℕ, Option, length, true, false, None, IfOk, IfErr, OnOk};
 ghost use Rattle.dw_leb.specs.declared.errors.SectionId.TheVariants.{Info};
 ghost use Rattle.dw_leb.specs.Watch.{inner_of, fault_of, reader_fault, KeptSome};
 ghost use Rattle.dw_header.specs.declared.versions.Versions.TheVariants.{Five};
 ghost use Rattle.dw_unit.specs.UnitView.{FaultWithin};
 ghost use Rattle.dw_feed.specs.Feed.{behind};
 ghost use Rattle.dw_section.specs.ItemView.{item_of};
-ghost use Rattle.dw_section.specs.Reads.{TakesSection, TakesNoSection, TakesItem, TakesNext, TakesNoItem, HasLength, HasKind, moved, moved_error, fault_at};
+ghost use Rattle.dw_section.specs.Reads.{TakesSection, TakesNoSection, TakesItem, TakesNext, TakesNoItem, ReadsMarks, HasLength, HasKind, moved, moved_error, fault_at};
 
 use crate::item::Item;
 use crate::kind::shows_known;
 use crate::section::Section;
 use dw_abbrev::Tables;
-use dw_feed::{HeadFeed, Progress, read_field, read_unit_as, read_unit_behind, read_up_to};
+use dw_feed::{read_field, read_some, read_unit_as, read_unit_begun, read_up_to};
 use dw_leb::{Fault, Order, ReadError, Reason, SectionId, Watched, read_length};
 use dw_unit::Versions;
 use std::alloc::Global;
@@ -21,17 +21,17 @@ use std::io::Read;
 /// The most bytes behind an initial length that show of which kind an item is: a version and a unit type.
 const MARKS: u64 = 3;
 
-/// The most bytes behind an initial length for which all of a unit is taken at once. Those of a longer one go into the
-/// feeds as they come.
+/// The most bytes behind an initial length that are asked for at once. Where a read gives fewer, and for a longer unit,
+/// they go into the feeds as they come.
 const SHORT: u64 = 1024;
 
 /// The section `.debug_info` that is all of what the reader has left, with units of version 5 (section 7.5), in
 /// whatever pieces its bytes come. At `Ok` nothing is left unread. `abbreviations` has the bytes of the
 /// section `.debug_abbrev` that belongs to it.
 ///
-/// Items of other versions and unit types are kept as their bytes. A unit of at most 1,024 bytes behind its length
-/// field is taken at once. The bytes of a longer one go into the feeds as they come: none is kept beside the unit's
-/// tree.
+/// Items of other versions and unit types are kept as their bytes. An item of at most 1,024 bytes behind its length
+/// field is asked for at once. Where the reader gives fewer, what came is looked at before it is asked for more; so the
+/// bytes of a longer unit go into the feeds as they come, and none is kept beside the unit's tree.
 ///
 /// A fault is the first one of the section. Its offset counts from the section's first byte, or from the first
 /// byte of `.debug_abbrev` where it is a table's. `Truncated` comes only where the reader has no more: a short
@@ -198,16 +198,64 @@ fn item_behind<R: Read>(
     ensures fault { fault_of reader.new ≡ reader_fault result }
 {
     let field = taken.as_slice().len();
-    read_up_to(reader, n.min(MARKS), taken)?;
+    take_marks(n, taken, reader)?;
     match shows_known(start.versions, start.order, n, &taken.as_slice()[field..]) {
         Ok(true) => {
-            if n <= SHORT {
-                return short_item(alloc, start, field as u64 + n, taken, tables, reader);
+            if taken.as_slice().len() as u64 == field as u64 + n {
+                return whole_item(alloc, start, taken.as_slice(), tables);
             }
             known_item(alloc, start, taken.as_slice(), tables, reader)
         }
         Ok(false) => other_item(alloc, start, field, n, taken, reader),
         Err(e) => Err(fault_at(start.offset + field as u64 + e.offset as u64, e.reason)),
+    }
+}
+
+/// Takes of the `n` bytes behind a length field those that show of which kind the item is; of a short item all that one
+/// read gives.
+fn take_marks<R: Read>(
+    n: u64,
+    taken: &mut Vec<u8>,
+    reader: &mut Watched<R>,
+) -> Result<(), ReadError>
+    requires { fault_of reader.old ≡ None }
+    ensures bytes { ReadsMarks taken.old.items taken.new.items
+        (R.remaining (inner_of reader.old))
+        (R.remaining (inner_of reader.new))
+        n result }
+    ensures few { OnOk result (length taken.new.items ≤ length taken.old.items + 1027) }
+    ensures memory { KeptSome (R.remaining (inner_of reader.old)) (R.remaining (inner_of reader.new)) result }
+    ensures fault { fault_of reader.new ≡ reader_fault result }
+{
+    if n > SHORT {
+        return read_up_to(reader, MARKS, taken);
+    }
+    let field = taken.as_slice().len();
+    read_some(reader, n as usize, taken)?;
+    let got = (taken.as_slice().len() - field) as u64;
+    read_up_to(reader, n.min(MARKS).saturating_sub(got), taken)
+}
+
+/// The item of a known kind that these bytes are.
+fn whole_item(
+    alloc: Global,
+    start: Start,
+    bytes: &[u8],
+    tables: &mut Tables<'_>,
+) -> Result<Item, ReadError>
+    requires { (n : ℕ) × (field : ℕ) × HasKind start.versions start.order start.offset n field bytes.now true
+        × (length bytes.now ≡ field + n) }
+    ensures found { (old : Option (List ℕ)) → IfOk result (λ x. TakesItem start.versions start.order tables.old
+        start.offset (behind bytes.now old) old (item_of x)) }
+    ensures broken { (old : Option (List ℕ)) → IfErr result (TakesNoItem start.versions start.order tables.old
+        start.offset (behind bytes.now old) old) }
+    ensures memory { (old : Option (List ℕ)) → KeptSome (behind bytes.now old) old result }
+    ensures tables { tables.new ≡ tables.old }
+    ensures fault { reader_fault result ≡ None }
+{
+    match read_unit_as(alloc, start.order, start.versions, tables, bytes) {
+        Ok((unit, _)) => Ok(Item::Known(unit)),
+        Err(e) => Err(moved_error(start.offset, e)),
     }
 }
 
@@ -221,6 +269,7 @@ fn known_item<R: Read>(
 ) -> Result<Item, ReadError>
     requires clear { fault_of reader.old ≡ None }
     requires begun { (n : ℕ) × (field : ℕ) × HasKind start.versions start.order start.offset n field taken.now true }
+    requires few { length taken.now ≤ 65536 }
     ensures found { IfOk result (λ x. TakesItem start.versions start.order tables.old start.offset
         (behind taken.now (R.remaining (inner_of reader.old)))
         (R.remaining (inner_of reader.new)) (item_of x)) }
@@ -232,48 +281,9 @@ fn known_item<R: Read>(
     ensures tables { tables.new ≡ tables.old }
     ensures fault { fault_of reader.new ≡ reader_fault result }
 {
-    let mut feed = HeadFeed::new_as(start.order, start.versions);
-    let (_, answer) = feed.feed(taken);
-    match answer {
-        Progress::More => {}
-        Progress::Fault(fault) => return Err(ReadError::Fault(moved(start.offset, fault))),
-        Progress::Done(_) | Progress::NoMemory | Progress::Spent => unreachable!(),
-    }
-    match read_unit_behind(alloc, feed, tables, reader) {
+    match read_unit_begun(alloc, start.order, start.versions, taken, tables, reader) {
         Ok(unit) => Ok(Item::Known(unit)),
         Err(error) => Err(moved_error(start.offset, error)),
-    }
-}
-
-/// The item of a known kind of which these bytes were taken, of `size` bytes in all, which are few: the others are taken
-/// at once.
-fn short_item<R: Read>(
-    alloc: Global,
-    start: Start,
-    size: u64,
-    taken: &mut Vec<u8>,
-    tables: &mut Tables<'_>,
-    reader: &mut Watched<R>,
-) -> Result<Item, ReadError>
-    requires clear { fault_of reader.old ≡ None }
-    requires begun { (n : ℕ) × (field : ℕ) × (size ≡ field + n)
-        × HasKind start.versions start.order start.offset n field taken.old.items true }
-    ensures found { IfOk result (λ x. TakesItem start.versions start.order tables.old start.offset
-        (behind taken.old.items (R.remaining (inner_of reader.old)))
-        (R.remaining (inner_of reader.new)) (item_of x)) }
-    ensures broken { IfErr result (TakesNoItem start.versions start.order tables.old start.offset
-        (behind taken.old.items (R.remaining (inner_of reader.old)))
-        (R.remaining (inner_of reader.new))) }
-    ensures memory { KeptSome (behind taken.old.items (R.remaining (inner_of reader.old)))
-        (R.remaining (inner_of reader.new)) result }
-    ensures tables { tables.new ≡ tables.old }
-    ensures fault { fault_of reader.new ≡ reader_fault result }
-{
-    let missing = size - taken.as_slice().len() as u64;
-    read_up_to(reader, missing, taken)?;
-    match read_unit_as(alloc, start.order, start.versions, tables, taken.as_slice()) {
-        Ok((unit, _)) => Ok(Item::Known(unit)),
-        Err(e) => Err(moved_error(start.offset, e)),
     }
 }
 

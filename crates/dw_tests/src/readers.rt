@@ -143,6 +143,17 @@ const SECOND_ROOT: [u8; 17] = [
     0x0c, 0, 0, 0, 0x05, 0, 0x01, 0x08, 0, 0, 0, 0, 0x01, 0x61, 0, 0x01, 0,
 ];
 
+/// The same where the unit has a byte more.
+const SECOND_ROOT_WITHIN: [u8; 16] = [
+    0x0d, 0, 0, 0, 0x05, 0, 0x01, 0x08, 0, 0, 0, 0, 0x01, 0x61, 0, 0x01,
+];
+
+/// A header whose addresses have nine bytes.
+const NINE_BYTES_OF_ADDRESS: [u8; 8] = [0x0c, 0, 0, 0, 0x05, 0, 0x01, 0x09];
+
+/// A unit that ends with its header.
+const NO_ROOM_FOR_A_ROOT: [u8; 12] = [0x08, 0, 0, 0, 0x05, 0, 0x01, 0x08, 0, 0, 0, 0];
+
 /// What is told of bytes of which the reader gives one a call, and fails after so many calls, and the fault that it
 /// keeps.
 fn told_of(alloc: Global, b: &[u8], after: u64) -> (Option<ReadError>, Option<ErrorKind>) {
@@ -162,4 +173,21 @@ fn a_fault_comes_before_the_readers(rt: HostRuntime) {
     let kind = ErrorKind::TimedOut;
     assert!(rt; told_of(rt.alloc(), &SECOND_ROOT, 15) == (Some(ReadError::Io(kind)), Some(kind)));
     assert!(rt; told_of(rt.alloc(), &FIFTEEN, 15) == (Some(ReadError::Io(kind)), Some(kind)));
+}
+
+/// What was taken of a unit is looked at before the reader is asked for more, which would fail.
+#[test]
+fn a_section_tells_a_fault_before_it_asks_for_more(rt: HostRuntime) {
+    for (bytes, offset, reason) in [
+        (SECOND_ROOT_WITHIN.as_slice(), 15, Reason::SecondRoot),
+        (NINE_BYTES_OF_ADDRESS.as_slice(), 7, Reason::BadAddressSize),
+        (NO_ROOM_FOR_A_ROOT.as_slice(), 12, Reason::PastUnit),
+    ] {
+        let fault = ReadError::Fault(Fault {
+            section: SectionId::Info,
+            offset,
+            reason,
+        });
+        assert!(rt; told_of(rt.alloc(), bytes, bytes.len() as u64) == (Some(fault), None));
+    }
 }

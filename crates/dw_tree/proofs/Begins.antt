@@ -277,8 +277,8 @@ if_some P (Some x) h = h refl
 pub of_some : {X : Type 0} (P : X → Type 0) {o : Option X} {x : X} → o ≡ Some x → IfSome o P → P x
 of_some P is h = subst (λ (q : Option _). IfSome q P) is h
 
-pub settled_room : (o : Option Unfinished) (a b c d : ℕ) → (IsSome o → a < b) → (IsSome o → c < d) → HasRoom o a b c d
-settled_room o a b c d h k = record { row = if_some (a < b) o h; place = if_some (c < d) o k }
+pub settled_room : (o : Option Unfinished) (a b c d : ℕ) → (IsSome o → a < b) → IfSome o (λ r. r.children ≡ true → c < d) → HasRoom o a b c d
+settled_room o a b c d h k = record { row = if_some (a < b) o h; place = k }
 
 -- the pairs that are left are those of the unfinished entry, with a partial value or without
 pub given_pairs : (t : Table) (o : Option StoredPartial) (pool : List ℕ) (vs : List Attribute) (q : Option Unfinished) (s : Spot) (ps : List Pair)

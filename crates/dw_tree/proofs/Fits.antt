@@ -7,7 +7,7 @@ use Rattle.dw_leb.specs.Repeat.{ItemsFit}
 use Rattle.dw_form.specs.declared.shape.Ctx.{Ctx}
 use Rattle.dw_abbrev.specs.Table.{Declaration, Table, declared, is_null, zero_of}
 use Rattle.dw_tree.specs.declared.row.Row.{Row}
-use Rattle.dw_tree.specs.Tree.{Tree, leaf, branch, Forest, none, more, Body, node_of, nodes_of, declares_children, unless_declared, unknown, bad_root, bad_child, body, children, tree, nesting, unit_tree}
+use Rattle.dw_tree.specs.Tree.{Tree, leaf, branch, Forest, none, more, Body, node_of, nodes_of, declares_children, unless_declared, unknown, bad_root, bad_child, body, children, nesting, unit_tree}
 use Rattle.dw_tree.specs.Row.{Token, null_row, rows_of, all_rows, row_bytes}
 use Rattle.dw_tree.specs.DraftInvariant.{EntryFits, TokenFits, LevelFits, level_after, levels_after, shallower, Stand}
 

@@ -1,9 +1,9 @@
 -- What is written of a tree is its spelling.
-use Rattle.std.proofs.Common.{◌≡◌, ◌-◌, length, sym, ◌∙◌, ap, subst, arith, append-nil}
+use Rattle.std.proofs.Common.{◌≡◌, length, sym, ◌∙◌, ap, subst, arith, append-nil}
 use Rattle.std.proofs.lemmas.List.{length-map}
 use Rattle.std.specs.List.{AllByRecursion}
 use Rattle.dw_tree.specs.declared.tree.EntryTree.TheInside.{Inside}
-use Rattle.dw_tree.specs.Tree.{tree, unit_tree}
+use Rattle.dw_tree.specs.Tree.{unit_tree}
 use Rattle.dw_tree.specs.Row.{rows_of, rows_bytes}
 use Rattle.dw_tree.specs.PoolBytes.{held}
 use Rattle.dw_tree.specs.RowHeads.{rows_heads}

@@ -40,10 +40,10 @@ pub record IsSpelled (rows : List Row) (xs : List Token) (open_at : List ℕ) : 
   pub spelled : xs ≡ rows_before (spot_after xs).above (spot_after xs).left
   pub opened : open_at ≡ open_rows (spot_after xs).above
 
--- what was made room for
+-- what was made room for: a row, and a place among the open entries where it has children
 pub record HasRoom (unfinished : Option Unfinished) (rows rows_cap open_len open_cap : ℕ) : Type 0 where
   pub row : IfSome unfinished (λ r. rows < rows_cap)
-  pub place : IfSome unfinished (λ r. open_len < open_cap)
+  pub place : IfSome unfinished (λ r. r.children ≡ true → open_len < open_cap)
 
 -- ---- each row has a spelling, stands where the bytes before it end, and not too deep
 

@@ -1,5 +1,5 @@
 //! A tree under construction.
-ghost use Rattle.std.specs.Prelude.{◌≡◌, ◌≢◌, ◌+◌, ◌++◌, ◌<◌, ◌≤◌, ◌^◌, ◌-◌, ◌*◌, [], List, length, take, map, option_map, IfOk, IfSome, None, Some, is_some, IsSome, false, OnOk, OnErr, vec_len, vec_capacity};
+ghost use Rattle.std.specs.Prelude.{◌≡◌, ◌≢◌, ◌+◌, ◌++◌, ◌<◌, ◌≤◌, ◌^◌, ◌-◌, ◌*◌, [], List, length, take, map, option_map, IfOk, IfSome, None, Some, is_some, IsSome, false, true, OnOk, OnErr, vec_len, vec_capacity};
 ghost use Rattle.dw_leb.specs.Number.{uleb};
 ghost use Rattle.dw_leb.specs.View.{uleb_of};
 ghost use Rattle.dw_form.specs.Form.{IsContext, Attribute};
@@ -104,16 +104,17 @@ impl TreeDraft {
         ensures ok { OnOk result (self.new ≡ begun_at (uleb_of code) self.old) }
         ensures err { OnErr result (self.new ≡ self.old) }
     {
-        self.rows.reserve(1)?;
-        self.nested.reserve(1)?;
         if let Some(decl) = self.table.get(code.value) {
+            let children = decl.has_children();
+            make_row(&mut self.rows, children)?;
+            make_place(&mut self.nested, children)?;
             let unfinished = Unfinished {
                 code,
                 offset: self.here,
                 first: self.heads.len(),
                 given: 0,
                 count: decl.pairs().len(),
-                children: decl.has_children(),
+                children,
                 pool: self.pool.len(),
             };
             self.table.pairs_are_few();
@@ -199,8 +200,9 @@ impl TreeDraft {
             → IfOk result (λ all. self.new ≡ with_values (given_if all vs) (begun_at (uleb_of code) self.old)) }
         ensures err { OnErr result (self.new ≡ self.old) }
     {
+        let children = decl.has_children();
         self.rows.reserve(1)?;
-        self.nested.reserve(1)?;
+        make_place(&mut self.nested, children)?;
         let first = self.heads.len();
         if let Err(_refused) = append_front(&mut self.heads, bytes, size) {
             return self.begin_alone(code);
@@ -211,7 +213,7 @@ impl TreeDraft {
             first,
             given: count,
             count: decl.pairs().len(),
-            children: decl.has_children(),
+            children,
             pool: self.pool.len(),
         };
         self.table.pairs_are_few();
@@ -592,13 +594,37 @@ fn append_front(list: &mut Vec<u8>, bytes: &[u8], size: usize) -> Result<(), All
     Ok(())
 }
 
+/// Room for the row of an entry. That of a root without children is the tree's only one: then there is room for no
+/// other.
+fn make_row(rows: &mut Vec<Row>, children: bool) -> Result<(), AllocError>
+    ensures items { rows.new.items ≡ rows.old.items }
+    ensures len { vec_len rows.new ≡ vec_len rows.old }
+    ensures room { OnOk result (vec_len rows.new < vec_capacity rows.new) }
+{
+    if children || rows.len() > 0 {
+        rows.reserve(1)
+    } else {
+        rows.reserve_exact(1)
+    }
+}
+
+/// Room for one more open entry, where an entry has children.
+#[inline(always)]
+fn make_place(nested: &mut Vec<usize>, children: bool) -> Result<(), AllocError>
+    ensures items { nested.new.items ≡ nested.old.items }
+    ensures len { vec_len nested.new ≡ vec_len nested.old }
+    ensures room { OnOk result (children ≡ true → vec_len nested.new < vec_capacity nested.new) }
+{
+    if children { nested.reserve(1) } else { Ok(()) }
+}
+
 /// The unfinished entry has one value more. Where it has all then, its row is put; else it is read on, and
 /// nothing else of it is touched.
 #[inline(always)]
 fn count_value(rows: &mut Vec<Row>, nested: &mut Vec<usize>, unfinished: &mut Option<Unfinished>)
     requires short { IfSome unfinished.old (λ r. r.given < r.count) }
     requires row { vec_len rows.old < vec_capacity rows.old }
-    requires place { vec_len nested.old < vec_capacity nested.old }
+    requires place { IfSome unfinished.old (λ r. r.children ≡ true → vec_len nested.old < vec_capacity nested.old) }
     requires level { vec_len nested.old < 2 ^ 15 }
     ensures rows { IfSome unfinished.old (λ r. rows.new.items
         ≡ settled_rows (one_given r) (vec_len nested.old + 1) rows.old.items) }
@@ -606,7 +632,7 @@ fn count_value(rows: &mut Vec<Row>, nested: &mut Vec<usize>, unfinished: &mut Op
         ≡ settled_open (one_given r) (vec_len rows.old) nested.old.items) }
     ensures unfinished { IfSome unfinished.old (λ r. unfinished.new ≡ settled_unfinished (one_given r)) }
     ensures room { IsSome unfinished.new → (vec_len rows.new < vec_capacity rows.new) }
-    ensures open_room { IsSome unfinished.new → (vec_len nested.new < vec_capacity nested.new) }
+    ensures open_room { IfSome unfinished.new (λ r. r.children ≡ true → vec_len nested.new < vec_capacity nested.new) }
 {
     if let Some(entry) = unfinished {
         let count = entry.count;
@@ -637,13 +663,13 @@ fn settle(
     unfinished: Unfinished,
 ) -> Option<Unfinished>
     requires row { vec_len rows.old < vec_capacity rows.old }
-    requires place { vec_len nested.old < vec_capacity nested.old }
+    requires place { unfinished.children ≡ true → vec_len nested.old < vec_capacity nested.old }
     requires level { vec_len nested.old < 2 ^ 15 }
     ensures rows { rows.new.items ≡ settled_rows unfinished (vec_len nested.old + 1) rows.old.items }
     ensures nested { nested.new.items ≡ settled_open unfinished (vec_len rows.old) nested.old.items }
     ensures unfinished { result ≡ settled_unfinished unfinished }
     ensures room { IsSome result → (vec_len rows.new < vec_capacity rows.new) }
-    ensures open_room { IsSome result → (vec_len nested.new < vec_capacity nested.new) }
+    ensures open_room { IfSome result (λ r. r.children ≡ true → vec_len nested.new < vec_capacity nested.new) }
 {
     if unfinished.given != unfinished.count {
         return Some(unfinished);

@@ -1,21 +1,33 @@
-use Rattle.std.proofs.Common.{◌≡◌, ◌++◌, ◌<◌, List, ℕ, [], take, drop, length, Some, refl, ap, subst, ◌∙◌, arith, append_assoc, append-nil, length-append, length-take, length-drop, inl, inr}
-use Rattle.std.proofs.lemmas.List.{take-append-le}
+use Rattle.std.proofs.Common.{◌≡◌, ◌++◌, ◌<◌, List, ℕ, [], take, drop, length, Some, refl, sym, ap, subst, ◌∙◌, arith, append_assoc, append-nil, length-append, length-take, length-drop, inl, inr}
+use Rattle.std.proofs.lemmas.List.{take-append-le, take_all}
 use Rattle.std.proofs.KnownBytes.{Consumes-kept}
-use Rattle.dw_leb.specs.Transfers.{consumes_none, consumes_more}
+use Rattle.dw_leb.specs.Transfers.{consumes_more}
 use Rattle.dw_feed.specs.declared.progress.Progress.TheVariants as answers
 use Rattle.dw_feed.specs.BodyFeed.{PartialUnit, BodyFeed, started, stream, EndsBody}
 use Rattle.dw_feed.specs.FedUnit.{done_says}
 use Rattle.dw_feed.proofs.BodyReads.{pushed, more_feeds, fault_feeds, done_all, fault_all, more_all, end_all}
-use Rattle.dw_feed.specs.Taking.{consumes_nothing, got_within}
+use Rattle.dw_feed.specs.Taking.{behind_taken, starts_longer, consumes_nothing, got_within}
 use Rattle.dw_feed.proofs.reader.body_through.Goals as goal
 
 pub loop-unit-init : goal.loop-unit-init
-loop-unit-init g c = record {
-  at = (started c.args.header c.args.unit_length c.args.table.value, c.new-feed.ensures, (refl, refl, refl));
-  taken = ([], consumes_none _, refl, omega (arith, c.behind_header-left.ensures));
-  chunk = (refl, omega arith, c.requires.room);
-  clear = c.requires.clear;
-}
+loop-unit-init g c =
+    let first : List ℕ = c.args.first.now in
+    let start : List ℕ = stream (started c.args.header c.args.unit_length c.args.table.value) in
+    let others : List ℕ = drop (length first) c.args.chunk.now in
+    let own : List ℕ = c.copy_from_slice.new.self in
+    let is : own ≡ first = c.copy_from_slice.ensures.after in
+    record {
+      at = (started c.args.header c.args.unit_length c.args.table.value, c.new-feed.ensures, (refl, refl, refl));
+      taken = (
+        first,
+        behind_taken first _,
+        ap (λ (bs : List ℕ). start ++ bs) (take-append-le (length first) own others (omega (arith, ap length is)) ∙ take_all (length first) own (omega (arith, ap length is)) ∙ is),
+        omega (arith, c.behind_header.ensures, c.requires.inside),
+        ([], sym (append-nil first)),
+      );
+      chunk = (omega (arith, ap length is, length-append own others, length-drop (length first) c.args.chunk.now, c.requires.fits), c.requires.fits, c.requires.room);
+      clear = c.requires.clear;
+    }
 
 pub returns-in-Done-clause-found : goal.returns-in-Done-clause-found
 returns-in-Done-clause-found g c =
@@ -26,6 +38,7 @@ returns-in-Done-clause-found g c =
     record {
       taken = i.taken.0;
       consumed = i.taken.1;
+      front = i.taken.4;
       header_is = says.header_is ∙ i.at.2.0;
       table_is = says.table_is ∙ i.at.2.2;
       fits = says.fits;
@@ -42,12 +55,13 @@ returns-in-Fault-clause-broken g c =
       i.taken.1,
       omega (arith, i.taken.3),
       (fault_all c.args.header c.args.unit_length c.args.table.value c.requires.spelled now i.at.2 piece i.taken.0 i.taken.2 c.feed-answer.result.0 c.in-Fault.fault says, inl says.for_good),
+      i.taken.4,
     )
 
 pub returns-in-Err-clause-broken : goal.returns-in-Err-clause-broken
 returns-in-Err-clause-broken g c =
     let i = c.loop-unit.invariant in
-    (i.taken.0, Consumes-kept _ _ _ i.taken.0 i.taken.1 c.in-Err.ensures.bytes, omega (arith, i.taken.3), tt {0})
+    (i.taken.0, Consumes-kept _ _ _ i.taken.0 i.taken.1 c.in-Err.ensures.bytes, omega (arith, i.taken.3), tt {0}, i.taken.4)
 
 pub returns-then-got-eq0-clause-broken : goal.returns-then-got-eq0-clause-broken
 returns-then-got-eq0-clause-broken g c =
@@ -63,6 +77,7 @@ returns-then-got-eq0-clause-broken g c =
       took,
       omega (arith, i.taken.3),
       (end_all c.args.header c.args.unit_length c.args.table.value c.requires.spelled next.0 more.0 [] i.taken.0 (append-nil (stream next.0) ∙ more.1) c.in-Some.fault more.1 ends, inr (c.in-Ok.ensures.bytes.1 c.if-got-eq0.true some)),
+      i.taken.4,
     )
 
 pub loop-unit-preserved : goal.loop-unit-preserved
@@ -85,6 +100,7 @@ loop-unit-preserved g c =
         consumes_more _ _ _ i.taken.0 got i.taken.1 c.in-Ok.ensures.bytes.0,
         ap (λ (bs : List ℕ). stream next.0 ++ bs) same ∙ ap (λ (bs : List ℕ). bs ++ got) more.1 ∙ append_assoc start i.taken.0 got,
         omega (arith, length-append i.taken.0 got, within, c.min-want.ensures, i.taken.3),
+        starts_longer c.args.first.now i.taken.0 got i.taken.4,
       );
       chunk = (
         omega (arith, length-append c.read_part.new.part others, length-drop c.min-want.result c.loop-unit.chunk, buf, length-take c.min-want.result c.loop-unit.chunk, i.chunk.0, c.min-want.ensures),

@@ -1,6 +1,5 @@
-use Rattle.std.proofs.Common.{◌≡◌, ◌∙◌, ◌≤◌, ◌⊎◌, Bool, refl, true, false, List, [], ℕ, length, sym, ap, subst, arith, inl, inr}
+use Rattle.std.proofs.Common.{◌≡◌, ◌∙◌, Bool, true, false, List, [], ℕ, length, sym, ap, subst, arith}
 use Rattle.std.proofs.lemmas.Result.{err_from_is_err_and, IfOk-weaker, IfErr-weaker}
-use Rattle.std.specs.Io.KnownBytes.{IsAtEnd}
 use Rattle.dw_leb.specs.Watch.{inner_of}
 use Rattle.dw_leb.specs.declared.errors.ReadError.{ReadError}
 use Rattle.dw_feed.specs.Feed.{behind}
@@ -9,143 +8,147 @@ use Rattle.dw_section.specs.declared.item.Item.{Item as TheItem}
 use Rattle.dw_section.specs.Item.{version_and_type, ShowsKind}
 use Rattle.dw_section.specs.ItemView.{item_of}
 use Rattle.dw_section.specs.Reads.{HasKind, TakesNoItem}
-use Rattle.dw_section.proofs.ItemReads.{behind_field, both_taken, enough, item_from, kept_from, kind_cut, kind_taken, no_item_from, rest_failed}
+use Rattle.dw_section.proofs.ItemReads.{begins_size, length_few, behind_field, both_taken, item_from, kept_from, kind_cut, kind_taken, no_item_from, rest_failed}
 use Rattle.dw_section.proofs.reader.item_behind.Goals as goal
 
-pub returns-in_err-read_up_to-clause-broken : goal.returns-in_err-read_up_to-clause-broken
-returns-in_err-read_up_to-clause-broken g c =
+pub returns-in_err-take_marks-clause-broken : goal.returns-in_err-take_marks-clause-broken
+returns-in_err-take_marks-clause-broken g c =
     let p = err_from_is_err_and c.from_residual.result c.from_residual.ensures.1 in
     rw (p.1, p.2)
-    (rest_failed c.args.start.versions c.args.start.order c.args.tables.now c.args.start.offset _ _ c.args.taken.now.items _ c.in_err-read_up_to.field-0.0 c.in_err-read_up_to.ensures.bytes
-    c.requires.begun.format c.args.n [] c.requires.begun.begins (omega (arith, c.min.ensures)))
+    (rest_failed c.args.start.versions c.args.start.order c.args.tables.now c.args.start.offset _ _ c.args.taken.now.items _ c.in_err-take_marks.field-0.0 c.in_err-take_marks.ensures.bytes
+    c.requires.begun.format c.args.n [] c.requires.begun.begins (omega arith))
 
-pub returns-in_err-read_up_to-clause-memory : goal.returns-in_err-read_up_to-clause-memory
-returns-in_err-read_up_to-clause-memory g c =
+pub returns-in_err-take_marks-clause-memory : goal.returns-in_err-take_marks-clause-memory
+returns-in_err-take_marks-clause-memory g c =
     let p = err_from_is_err_and c.from_residual.result c.from_residual.ensures.1 in
-    rw (p.1, p.2) (kept_more _ _ _ c.args.taken.now.items c.in_err-read_up_to.field-0.0 (behind_taken c.args.taken.now.items _) c.in_err-read_up_to.ensures.memory)
+    rw (p.1, p.2) (kept_more _ _ _ c.args.taken.now.items c.in_err-take_marks.field-0.0 (behind_taken c.args.taken.now.items _) c.in_err-take_marks.ensures.memory)
 
-pub short_item-requires-clause-begun : goal.short_item-requires-clause-begun
-short_item-requires-clause-begun g c =
-    let h = c.in_ok-read_up_to.ensures.bytes in
+pub whole_item-requires : goal.whole_item-requires
+whole_item-requires g c =
+    let h = c.in_ok-take_marks.ensures.bytes in
     let bytes : List ℕ = c.args.taken.now.items in
     let field : length c.as_slice-field.result.now ≡ length bytes = ap length c.as_slice-field.ensures.value in
     let marked = behind_field bytes h.0 c.as_slice.result.now (length c.as_slice-field.result.now) field (c.as_slice.ensures.value ∙ h.1) in
     let shows : ShowsKind c.args.start.versions c.args.start.order c.args.n h.0 true = subst (λ (v : Bool). ShowsKind c.args.start.versions c.args.start.order c.args.n h.0 v) c.in-Ok-true.field-0-test (subst (λ (b : List ℕ). ShowsKind c.args.start.versions c.args.start.order c.args.n b c.in-Ok-true.field-0) marked c.in-Ok-true.ensures.found) in
-    let there = kind_taken c.args.start.versions c.args.start.order c.args.start.offset c.args.n (length c.as_slice-field.result.now) bytes h.0 true c.requires.begun field (omega (arith, h.2, c.min.ensures)) (omega (arith, h.2, c.min.ensures)) shows in
-    (c.args.n, length c.as_slice-field.result.now, refl, subst (λ (b : List ℕ). HasKind c.args.start.versions c.args.start.order c.args.start.offset c.args.n (length c.as_slice-field.result.now) b true) (sym h.1) there)
+    let there = kind_taken c.args.start.versions c.args.start.order c.args.start.offset c.args.n (length c.as_slice-field.result.now) bytes h.0 true c.requires.begun field h.2 shows in
+    (c.args.n, length c.as_slice-field.result.now, subst (λ (b : List ℕ). HasKind c.args.start.versions c.args.start.order c.args.start.offset c.args.n (length c.as_slice-field.result.now) b true) (sym (c.as_slice-then-as_slice-field.ensures.value ∙ h.1)) there, omega (arith, c.if-as_slice-field.true, ap length c.as_slice-in-Ok-true.ensures.value, ap length c.as_slice-then-as_slice-field.ensures.value))
+
+pub known_item-requires-clause-few : goal.known_item-requires-clause-few
+known_item-requires-clause-few g c =
+    let b = c.requires.begun in
+    omega (arith, c.in_ok-take_marks.ensures.few, ap length c.as_slice-in-Ok-true-2.ensures.value, begins_size c.args.start.order c.args.start.offset c.args.taken.now.items b.format c.args.n [] b.begins, length_few b.format)
 
 pub known_item-requires-clause-begun : goal.known_item-requires-clause-begun
 known_item-requires-clause-begun g c =
-    let h = c.in_ok-read_up_to.ensures.bytes in
+    let h = c.in_ok-take_marks.ensures.bytes in
     let bytes : List ℕ = c.args.taken.now.items in
-    let now : List ℕ = c.read_up_to.new.bytes.items in
+    let now : List ℕ = c.take_marks.new.taken.items in
     let field : length c.as_slice-field.result.now ≡ length bytes = ap length c.as_slice-field.ensures.value in
     let marked = behind_field bytes h.0 c.as_slice.result.now (length c.as_slice-field.result.now) field (c.as_slice.ensures.value ∙ h.1) in
     let shows : ShowsKind c.args.start.versions c.args.start.order c.args.n h.0 true = subst (λ (v : Bool). ShowsKind c.args.start.versions c.args.start.order c.args.n h.0 v) c.in-Ok-true.field-0-test (subst (λ (b : List ℕ). ShowsKind c.args.start.versions c.args.start.order c.args.n b c.in-Ok-true.field-0) marked c.in-Ok-true.ensures.found) in
-    let there = kind_taken c.args.start.versions c.args.start.order c.args.start.offset c.args.n (length c.as_slice-field.result.now) bytes h.0 true c.requires.begun field (omega (arith, h.2, c.min.ensures)) (omega (arith, h.2, c.min.ensures)) shows in
-    (c.args.n, length c.as_slice-field.result.now, subst (λ (b : List ℕ). HasKind c.args.start.versions c.args.start.order c.args.start.offset c.args.n (length c.as_slice-field.result.now) b true) (sym (c.as_slice-in-Ok-true.ensures.value ∙ h.1)) there)
+    let there = kind_taken c.args.start.versions c.args.start.order c.args.start.offset c.args.n (length c.as_slice-field.result.now) bytes h.0 true c.requires.begun field h.2 shows in
+    (c.args.n, length c.as_slice-field.result.now, subst (λ (b : List ℕ). HasKind c.args.start.versions c.args.start.order c.args.start.offset c.args.n (length c.as_slice-field.result.now) b true) (sym (c.as_slice-in-Ok-true-2.ensures.value ∙ h.1)) there)
 
 pub other_item-requires-clause-begun : goal.other_item-requires-clause-begun
 other_item-requires-clause-begun g c =
-    let h = c.in_ok-read_up_to.ensures.bytes in
+    let h = c.in_ok-take_marks.ensures.bytes in
     let bytes : List ℕ = c.args.taken.now.items in
-    let now : List ℕ = c.read_up_to.new.bytes.items in
+    let now : List ℕ = c.take_marks.new.taken.items in
     let field : length c.as_slice-field.result.now ≡ length bytes = ap length c.as_slice-field.ensures.value in
     let marked = behind_field bytes h.0 c.as_slice.result.now (length c.as_slice-field.result.now) field (c.as_slice.ensures.value ∙ h.1) in
     let shows : ShowsKind c.args.start.versions c.args.start.order c.args.n h.0 false = subst (λ (v : Bool). ShowsKind c.args.start.versions c.args.start.order c.args.n h.0 v) c.in-Ok-false.field-0-test (subst (λ (b : List ℕ). ShowsKind c.args.start.versions c.args.start.order c.args.n b c.in-Ok-false.field-0) marked c.in-Ok-false.ensures.found) in
-    let there = kind_taken c.args.start.versions c.args.start.order c.args.start.offset c.args.n (length c.as_slice-field.result.now) bytes h.0 false c.requires.begun field (omega (arith, h.2, c.min.ensures)) (omega (arith, h.2, c.min.ensures)) shows in
+    let there = kind_taken c.args.start.versions c.args.start.order c.args.start.offset c.args.n (length c.as_slice-field.result.now) bytes h.0 false c.requires.begun field h.2 shows in
     subst (λ (b : List ℕ). HasKind c.args.start.versions c.args.start.order c.args.start.offset c.args.n (length c.as_slice-field.result.now) b false) (sym h.1) there
 
-pub returns-else-n-le-SHORT-clause-found : goal.returns-else-n-le-SHORT-clause-found
-returns-else-n-le-SHORT-clause-found g c =
-    let h = c.in_ok-read_up_to.ensures.bytes in
-    let now : List ℕ = c.as_slice-in-Ok-true.result.now in
+pub returns-else-as_slice-field-clause-found : goal.returns-else-as_slice-field-clause-found
+returns-else-as_slice-field-clause-found g c =
+    let h = c.in_ok-take_marks.ensures.bytes in
+    let now : List ℕ = c.as_slice-in-Ok-true-2.result.now in
     let old = g.R.Read.remaining (inner_of c.args.reader.now) in
-    let mid = g.R.Read.remaining (inner_of c.read_up_to.new.reader) in
-    let took = both_taken old mid c.args.taken.now.items h.0 now (c.as_slice-in-Ok-true.ensures.value ∙ h.1) h.3 in
+    let mid = g.R.Read.remaining (inner_of c.take_marks.new.reader) in
+    let took = both_taken old mid c.args.taken.now.items h.0 now (c.as_slice-in-Ok-true-2.ensures.value ∙ h.1) h.3 in
     IfOk-weaker c.known_item.result _ _ (λ x. item_from c.args.start.versions c.args.start.order c.args.tables.now c.args.start.offset (behind c.args.taken.now.items old) mid _ now (item_of x) took) c.known_item.ensures.found
 
-pub returns-else-n-le-SHORT-clause-broken : goal.returns-else-n-le-SHORT-clause-broken
-returns-else-n-le-SHORT-clause-broken g c =
-    let h = c.in_ok-read_up_to.ensures.bytes in
-    let now : List ℕ = c.as_slice-in-Ok-true.result.now in
+pub returns-else-as_slice-field-clause-broken : goal.returns-else-as_slice-field-clause-broken
+returns-else-as_slice-field-clause-broken g c =
+    let h = c.in_ok-take_marks.ensures.bytes in
+    let now : List ℕ = c.as_slice-in-Ok-true-2.result.now in
     let old = g.R.Read.remaining (inner_of c.args.reader.now) in
-    let mid = g.R.Read.remaining (inner_of c.read_up_to.new.reader) in
-    let took = both_taken old mid c.args.taken.now.items h.0 now (c.as_slice-in-Ok-true.ensures.value ∙ h.1) h.3 in
+    let mid = g.R.Read.remaining (inner_of c.take_marks.new.reader) in
+    let took = both_taken old mid c.args.taken.now.items h.0 now (c.as_slice-in-Ok-true-2.ensures.value ∙ h.1) h.3 in
     IfErr-weaker c.known_item.result _ _ (λ e. no_item_from c.args.start.versions c.args.start.order c.args.tables.now c.args.start.offset (behind c.args.taken.now.items old) mid _ now e took) c.known_item.ensures.broken
 
-pub returns-else-n-le-SHORT-clause-memory : goal.returns-else-n-le-SHORT-clause-memory
-returns-else-n-le-SHORT-clause-memory g c =
-    let h = c.in_ok-read_up_to.ensures.bytes in
-    let now : List ℕ = c.as_slice-in-Ok-true.result.now in
+pub returns-else-as_slice-field-clause-memory : goal.returns-else-as_slice-field-clause-memory
+returns-else-as_slice-field-clause-memory g c =
+    let h = c.in_ok-take_marks.ensures.bytes in
+    let now : List ℕ = c.as_slice-in-Ok-true-2.result.now in
     let old = g.R.Read.remaining (inner_of c.args.reader.now) in
-    let mid = g.R.Read.remaining (inner_of c.read_up_to.new.reader) in
-    let took = both_taken old mid c.args.taken.now.items h.0 now (c.as_slice-in-Ok-true.ensures.value ∙ h.1) h.3 in
+    let mid = g.R.Read.remaining (inner_of c.take_marks.new.reader) in
+    let took = both_taken old mid c.args.taken.now.items h.0 now (c.as_slice-in-Ok-true-2.ensures.value ∙ h.1) h.3 in
     kept_from TheItem (behind c.args.taken.now.items old) mid _ now c.known_item.result took c.known_item.ensures.memory
 
 pub returns-in-Ok-false-clause-found : goal.returns-in-Ok-false-clause-found
 returns-in-Ok-false-clause-found g c =
-    let h = c.in_ok-read_up_to.ensures.bytes in
-    let now : List ℕ = c.read_up_to.new.bytes.items in
+    let h = c.in_ok-take_marks.ensures.bytes in
+    let now : List ℕ = c.take_marks.new.taken.items in
     let old = g.R.Read.remaining (inner_of c.args.reader.now) in
-    let mid = g.R.Read.remaining (inner_of c.read_up_to.new.reader) in
+    let mid = g.R.Read.remaining (inner_of c.take_marks.new.reader) in
     let took = both_taken old mid c.args.taken.now.items h.0 now h.1 h.3 in
     IfOk-weaker c.other_item.result _ _ (λ x. item_from c.args.start.versions c.args.start.order c.args.tables.now c.args.start.offset (behind c.args.taken.now.items old) mid _ now (item_of x) took) (c.other_item.ensures.found c.args.tables.now)
 
 pub returns-in-Ok-false-clause-broken : goal.returns-in-Ok-false-clause-broken
 returns-in-Ok-false-clause-broken g c =
-    let h = c.in_ok-read_up_to.ensures.bytes in
-    let now : List ℕ = c.read_up_to.new.bytes.items in
+    let h = c.in_ok-take_marks.ensures.bytes in
+    let now : List ℕ = c.take_marks.new.taken.items in
     let old = g.R.Read.remaining (inner_of c.args.reader.now) in
-    let mid = g.R.Read.remaining (inner_of c.read_up_to.new.reader) in
+    let mid = g.R.Read.remaining (inner_of c.take_marks.new.reader) in
     let took = both_taken old mid c.args.taken.now.items h.0 now h.1 h.3 in
     IfErr-weaker c.other_item.result _ _ (λ e. no_item_from c.args.start.versions c.args.start.order c.args.tables.now c.args.start.offset (behind c.args.taken.now.items old) mid _ now e took) (c.other_item.ensures.broken c.args.tables.now)
 
 pub returns-in-Ok-false-clause-memory : goal.returns-in-Ok-false-clause-memory
 returns-in-Ok-false-clause-memory g c =
-    let h = c.in_ok-read_up_to.ensures.bytes in
-    let now : List ℕ = c.read_up_to.new.bytes.items in
+    let h = c.in_ok-take_marks.ensures.bytes in
+    let now : List ℕ = c.take_marks.new.taken.items in
     let old = g.R.Read.remaining (inner_of c.args.reader.now) in
-    let mid = g.R.Read.remaining (inner_of c.read_up_to.new.reader) in
+    let mid = g.R.Read.remaining (inner_of c.take_marks.new.reader) in
     let took = both_taken old mid c.args.taken.now.items h.0 now h.1 h.3 in
     kept_from TheItem (behind c.args.taken.now.items old) mid _ now c.other_item.result took c.other_item.ensures.memory
 
 pub returns-in-Err-clause-broken : goal.returns-in-Err-clause-broken
 returns-in-Err-clause-broken g c =
-    let h = c.in_ok-read_up_to.ensures.bytes in
+    let h = c.in_ok-take_marks.ensures.bytes in
     let bytes : List ℕ = c.args.taken.now.items in
     let old = g.R.Read.remaining (inner_of c.args.reader.now) in
-    let mid = g.R.Read.remaining (inner_of c.read_up_to.new.reader) in
+    let mid = g.R.Read.remaining (inner_of c.take_marks.new.reader) in
     let field : length c.as_slice-field.result.now ≡ length bytes = ap length c.as_slice-field.ensures.value in
     let marked = behind_field bytes h.0 c.as_slice.result.now (length c.as_slice-field.result.now) field (c.as_slice.ensures.value ∙ h.1) in
     let breaks = subst (λ (b : List ℕ). (version_and_type c.args.start.versions c.args.start.order c.args.n).Break b c.args.n c.in-Err.e.offset c.in-Err.e.reason) marked c.in-Err.ensures.broken in
-    let whole : ((c.args.n ≤ length h.0) ⊎ (3 ≤ length h.0)) ⊎ IsAtEnd mid = elim h.4 [ inl all ↦ inl (enough c.args.n (length h.0) c.min.result all c.min.ensures) | inr end ↦ inr end ] in
     subst (λ (e : ReadError). TakesNoItem c.args.start.versions c.args.start.order c.args.tables.now c.args.start.offset (behind bytes old) mid e) (sym c.fault_at.ensures)
-    (kind_cut c.args.start.versions c.args.start.order c.args.tables.now c.args.start.offset c.args.n (length c.as_slice-field.result.now) old mid bytes h.0 c.requires.begun field (omega (arith, h.2, c.min.ensures)) h.3 whole c.in-Err.e.offset c.in-Err.e.reason breaks)
+    (kind_cut c.args.start.versions c.args.start.order c.args.tables.now c.args.start.offset c.args.n (length c.as_slice-field.result.now) old mid bytes h.0 c.requires.begun field h.2 h.3 h.4 c.in-Err.e.offset c.in-Err.e.reason breaks)
 
-pub returns-then-n-le-SHORT-clause-found : goal.returns-then-n-le-SHORT-clause-found
-returns-then-n-le-SHORT-clause-found g c =
-    let h = c.in_ok-read_up_to.ensures.bytes in
-    let now : List ℕ = c.read_up_to.new.bytes.items in
+pub returns-then-as_slice-field-clause-found : goal.returns-then-as_slice-field-clause-found
+returns-then-as_slice-field-clause-found g c =
+    let h = c.in_ok-take_marks.ensures.bytes in
+    let now : List ℕ = c.as_slice-then-as_slice-field.result.now in
     let old = g.R.Read.remaining (inner_of c.args.reader.now) in
-    let mid = g.R.Read.remaining (inner_of c.read_up_to.new.reader) in
-    let took = both_taken old mid c.args.taken.now.items h.0 now h.1 h.3 in
-    IfOk-weaker c.short_item.result _ _ (λ x. item_from c.args.start.versions c.args.start.order c.args.tables.now c.args.start.offset (behind c.args.taken.now.items old) mid _ now (item_of x) took) c.short_item.ensures.found
+    let mid = g.R.Read.remaining (inner_of c.take_marks.new.reader) in
+    let took = both_taken old mid c.args.taken.now.items h.0 now (c.as_slice-then-as_slice-field.ensures.value ∙ h.1) h.3 in
+    IfOk-weaker c.whole_item.result _ _ (λ x. item_from c.args.start.versions c.args.start.order c.args.tables.now c.args.start.offset (behind c.args.taken.now.items old) mid mid now (item_of x) took) (c.whole_item.ensures.found mid)
 
-pub returns-then-n-le-SHORT-clause-broken : goal.returns-then-n-le-SHORT-clause-broken
-returns-then-n-le-SHORT-clause-broken g c =
-    let h = c.in_ok-read_up_to.ensures.bytes in
-    let now : List ℕ = c.read_up_to.new.bytes.items in
+pub returns-then-as_slice-field-clause-broken : goal.returns-then-as_slice-field-clause-broken
+returns-then-as_slice-field-clause-broken g c =
+    let h = c.in_ok-take_marks.ensures.bytes in
+    let now : List ℕ = c.as_slice-then-as_slice-field.result.now in
     let old = g.R.Read.remaining (inner_of c.args.reader.now) in
-    let mid = g.R.Read.remaining (inner_of c.read_up_to.new.reader) in
-    let took = both_taken old mid c.args.taken.now.items h.0 now h.1 h.3 in
-    IfErr-weaker c.short_item.result _ _ (λ e. no_item_from c.args.start.versions c.args.start.order c.args.tables.now c.args.start.offset (behind c.args.taken.now.items old) mid _ now e took) c.short_item.ensures.broken
+    let mid = g.R.Read.remaining (inner_of c.take_marks.new.reader) in
+    let took = both_taken old mid c.args.taken.now.items h.0 now (c.as_slice-then-as_slice-field.ensures.value ∙ h.1) h.3 in
+    IfErr-weaker c.whole_item.result _ _ (λ e. no_item_from c.args.start.versions c.args.start.order c.args.tables.now c.args.start.offset (behind c.args.taken.now.items old) mid mid now e took) (c.whole_item.ensures.broken mid)
 
-pub returns-then-n-le-SHORT-clause-memory : goal.returns-then-n-le-SHORT-clause-memory
-returns-then-n-le-SHORT-clause-memory g c =
-    let h = c.in_ok-read_up_to.ensures.bytes in
-    let now : List ℕ = c.read_up_to.new.bytes.items in
+pub returns-then-as_slice-field-clause-memory : goal.returns-then-as_slice-field-clause-memory
+returns-then-as_slice-field-clause-memory g c =
+    let h = c.in_ok-take_marks.ensures.bytes in
+    let now : List ℕ = c.as_slice-then-as_slice-field.result.now in
     let old = g.R.Read.remaining (inner_of c.args.reader.now) in
-    let mid = g.R.Read.remaining (inner_of c.read_up_to.new.reader) in
-    let took = both_taken old mid c.args.taken.now.items h.0 now h.1 h.3 in
-    kept_from TheItem (behind c.args.taken.now.items old) mid _ now c.short_item.result took c.short_item.ensures.memory
+    let mid = g.R.Read.remaining (inner_of c.take_marks.new.reader) in
+    let took = both_taken old mid c.args.taken.now.items h.0 now (c.as_slice-then-as_slice-field.ensures.value ∙ h.1) h.3 in
+    kept_from TheItem (behind c.args.taken.now.items old) mid mid now c.whole_item.result took (c.whole_item.ensures.memory mid)

@@ -19,7 +19,7 @@ use Rattle.dw_tree.proofs.Begins.{idle_is, partial_none, given_is, view_free, pl
 use Rattle.dw_tree.proofs.draft.TreeDraft.begin.Goals as goal
 
 pub settle-self-inside-requires-clause-level : goal.settle-self-inside-requires-clause-level
-settle-self-inside-requires-clause-level c = omega (arith, few_open c.self.inside.nested.items c.self.invariant.given.lists.deep, c.self.inside.nested.ok.0, c.reserve-2.ensures.len)
+settle-self-inside-requires-clause-level c = omega (arith, few_open c.self.inside.nested.items c.self.invariant.given.lists.deep, c.self.inside.nested.ok.0, c.make_place.ensures.len)
 
 pub overflow_add-self : goal.overflow_add-self
 overflow_add-self c =
@@ -51,16 +51,16 @@ invariant_of-self-in-Some c =
     let l : AreLists k t a.start rows hs pool a.nested.items None a.here g.tokens g.values = subst (λ (o : Option Unfinished). AreLists k t a.start rows hs pool a.nested.items o a.here g.tokens g.values) idle g.lists in
     let q = c.settle-self-inside in
     let d = c.in-Some.decl.now in
-    let r : Unfinished = record { code = c.args.code; offset = a.here; first = c.len.result; given = 0; count = length c.pairs.result.now; children = c.has_children.result; pool = c.len-in-Some.result } in
+    let r : Unfinished = record { code = c.args.code; offset = a.here; first = c.len.result; given = 0; count = length c.pairs.result.now; children = c.has_children-children.result; pool = c.len-in-Some.result } in
     let known : declared t c.args.code.value ≡ Some d = ap (λ t. declared t c.args.code.value) (sym c.deref.ensures) ∙ sym c.in-Some.ensures.value in
     let count : length d.pairs ≡ length c.pairs.result.now = ap length (sym c.pairs.ensures) ∙ length-map c.pairs.result.now pair_of in
     let level : length (spot_after g.tokens).above < nesting = subst (λ (w : Growing). length w.place.spot.above < nesting) (sym view) c.requires.level in
-    let n = vec_len c.reserve-2.new.self + 1 in
-    let m = vec_len c.reserve.new.self in
-    let s = entry_begun k t a.start rows hs pool a.nested.items a.here g.tokens g.values l r d known (sym c.has_children.ensures) count refl refl (c.len.ensures ∙ a.heads.ok.0) (c.len-in-Some.ensures ∙ a.pool.ok.0)
+    let n = vec_len c.make_place.new.nested + 1 in
+    let m = vec_len c.make_row.new.rows in
+    let s = entry_begun k t a.start rows hs pool a.nested.items a.here g.tokens g.values l r d known (sym c.has_children-children.ensures) count refl refl (c.len.ensures ∙ a.heads.ok.0) (c.len-in-Some.ensures ∙ a.pool.ok.0)
     (uleb_fits (uleb_of c.args.code) c.args.code.fits) (ne_eqb c.args.code.value 0 (omega (arith, c.requires.some))) level (a.here + c.args.code.width) refl
-    q.new.rows.items q.new.nested.items q.result n m (c.reserve.ensures.len ∙ a.rows.ok.0) (ap (λ (i : ℕ). i + 1) (c.reserve-2.ensures.len ∙ a.nested.ok.0))
-    (q.ensures.rows ∙ ap (settled_rows r n) c.reserve.ensures.items) (q.ensures.nested ∙ ap (settled_open r m) c.reserve-2.ensures.items) q.ensures.unfinished in
+    q.new.rows.items q.new.nested.items q.result n m (c.make_row.ensures.len ∙ a.rows.ok.0) (ap (λ (i : ℕ). i + 1) (c.make_place.ensures.len ∙ a.nested.ok.0))
+    (q.ensures.rows ∙ ap (settled_rows r n) c.make_row.ensures.items) (q.ensures.nested ∙ ap (settled_open r m) c.make_place.ensures.items) q.ensures.unfinished in
     draft_of _ free (record {
       context_fits = g.context_fits;
       tokens = s.tokens;
@@ -71,8 +71,8 @@ invariant_of-self-in-Some c =
       counted = begun_counted t (spot_after g.tokens) (uleb_of r.code) d known [] a.entries a.asked r.count _ s.place count (counted_with a pool g None idle);
     })
 
-pub returns-in-Some-clause-ok : goal.returns-in-Some-clause-ok
-returns-in-Some-clause-ok c =
+pub returns-in_ok-make_place-clause-ok : goal.returns-in_ok-make_place-clause-ok
+returns-in_ok-make_place-clause-ok c =
     let a = c.self.inside in
     let idle : a.unfinished ≡ None = idle_is a (ap (λ (v : Growing). v.place.unfinished) c.self.view_is ∙ c.requires.free) in
     let free = partial_none a c.self.invariant idle in
@@ -86,16 +86,16 @@ returns-in-Some-clause-ok c =
     let l : AreLists k t a.start rows hs pool a.nested.items None a.here g.tokens g.values = subst (λ (o : Option Unfinished). AreLists k t a.start rows hs pool a.nested.items o a.here g.tokens g.values) idle g.lists in
     let q = c.settle-self-inside in
     let d = c.in-Some.decl.now in
-    let r : Unfinished = record { code = c.args.code; offset = a.here; first = c.len.result; given = 0; count = length c.pairs.result.now; children = c.has_children.result; pool = c.len-in-Some.result } in
+    let r : Unfinished = record { code = c.args.code; offset = a.here; first = c.len.result; given = 0; count = length c.pairs.result.now; children = c.has_children-children.result; pool = c.len-in-Some.result } in
     let known : declared t c.args.code.value ≡ Some d = ap (λ t. declared t c.args.code.value) (sym c.deref.ensures) ∙ sym c.in-Some.ensures.value in
     let count : length d.pairs ≡ length c.pairs.result.now = ap length (sym c.pairs.ensures) ∙ length-map c.pairs.result.now pair_of in
     let level : length (spot_after g.tokens).above < nesting = subst (λ (w : Growing). length w.place.spot.above < nesting) (sym view) c.requires.level in
-    let n = vec_len c.reserve-2.new.self + 1 in
-    let m = vec_len c.reserve.new.self in
-    let s = entry_begun k t a.start rows hs pool a.nested.items a.here g.tokens g.values l r d known (sym c.has_children.ensures) count refl refl (c.len.ensures ∙ a.heads.ok.0) (c.len-in-Some.ensures ∙ a.pool.ok.0)
+    let n = vec_len c.make_place.new.nested + 1 in
+    let m = vec_len c.make_row.new.rows in
+    let s = entry_begun k t a.start rows hs pool a.nested.items a.here g.tokens g.values l r d known (sym c.has_children-children.ensures) count refl refl (c.len.ensures ∙ a.heads.ok.0) (c.len-in-Some.ensures ∙ a.pool.ok.0)
     (uleb_fits (uleb_of c.args.code) c.args.code.fits) (ne_eqb c.args.code.value 0 (omega (arith, c.requires.some))) level (a.here + c.args.code.width) refl
-    q.new.rows.items q.new.nested.items q.result n m (c.reserve.ensures.len ∙ a.rows.ok.0) (ap (λ (i : ℕ). i + 1) (c.reserve-2.ensures.len ∙ a.nested.ok.0))
-    (q.ensures.rows ∙ ap (settled_rows r n) c.reserve.ensures.items) (q.ensures.nested ∙ ap (settled_open r m) c.reserve-2.ensures.items) q.ensures.unfinished in
+    q.new.rows.items q.new.nested.items q.result n m (c.make_row.ensures.len ∙ a.rows.ok.0) (ap (λ (i : ℕ). i + 1) (c.make_place.ensures.len ∙ a.nested.ok.0))
+    (q.ensures.rows ∙ ap (settled_rows r n) c.make_row.ensures.items) (q.ensures.nested ∙ ap (settled_open r m) c.make_place.ensures.items) q.ensures.unfinished in
     let build : Place → Growing = λ p. record { context = k; table = t; start = a.start; place = p } in
     ap build (sym (place_given a.partial k t q.new.rows.items hs pool q.result free))
     ∙ (ap build (place_stood k t a.start q.new.rows.items hs pool q.new.nested.items q.result (a.here + c.args.code.width) _ s)

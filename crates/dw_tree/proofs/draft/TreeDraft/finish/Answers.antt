@@ -1,4 +1,4 @@
-use Rattle.std.proofs.Common.{◌≡◌, ◌+◌, ◌-◌, List, [], length, sym, ap, subst, ◌∙◌, arith, Some, Option, option_map}
+use Rattle.std.proofs.Common.{◌≡◌, ◌+◌, List, [], length, sym, ap, subst, ◌∙◌, arith, Some, Option, option_map}
 use Rattle.std.specs.Prelude.{IsSome}
 use Rattle.dw_form.specs.Form.{Attribute}
 use Rattle.dw_tree.specs.declared.row.Unfinished.{Unfinished}

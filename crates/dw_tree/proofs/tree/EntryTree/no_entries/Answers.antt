@@ -1,4 +1,4 @@
-use Rattle.std.proofs.Common.{sym, ◌∙◌}
+use Rattle.std.proofs.Common.{◌∙◌}
 use Rattle.dw_tree.proofs.EntryRows.{none_left}
 use Rattle.dw_tree.proofs.tree.EntryTree.no_entries.Goals as goal
 

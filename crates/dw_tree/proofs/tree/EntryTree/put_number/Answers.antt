@@ -1,5 +1,5 @@
 use mir.Syntax.{w128}
-use Rattle.std.proofs.Common.{◌≡◌, ◌≢◌, ◌<◌, ℕ, List, length, get_or, refl, ap, subst, arith}
+use Rattle.std.proofs.Common.{◌≢◌, ◌<◌, ℕ, List, length, get_or, refl, ap, subst, arith}
 use Rattle.std.proofs.lemmas.Int.{to_z-of_z}
 use Rattle.dw_tree.specs.declared.row.Row.{Row}
 use Rattle.dw_tree.specs.Put.{Edit}
