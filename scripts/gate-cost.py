@@ -12,7 +12,8 @@ the checks of each crate's rounds. What `rt ci` does of one crate (its proofs, i
 
 Before it and behind it, the yardstick is measured: `rt lib` of dw_leb, from nothing with nothing beside it. The sum is told as it is and by the
 yardstick, that is divided by how much longer dw_leb took than its YARDSTICK minutes, in the mean of both: a machine may change while it runs.
-How much it changed is told beside it: all along, a short loop is timed every few seconds on the first processor.
+How much it changed is told beside it: all along, a short loop is timed every few seconds on the first processor. By how
+much slower that was within the run than beside a yardstick, the yardstick is told once more, as it would have been within.
 """
 
 import glob
@@ -127,6 +128,7 @@ def main():
     speed = Speed()
     speed.start()
     before, early = yardstick()
+    print(f"The library of dw_leb took {before:.2f} minutes alone, and the loop {speed.milliseconds([early]):.1f} milliseconds.", flush=True)
     began = time.monotonic()
     whole, passed, status, lines = minutes_of(sys.argv[1:] or [".ci/run"], ".")
     within = (began, time.monotonic())
@@ -134,9 +136,13 @@ def main():
     after, late = yardstick()
     speed.ends.set()
     stick = (before + after) / 2
+    beside, behind, inside = (speed.milliseconds([span]) for span in (early, late, within))
     print(f"| all | **{whole:.1f}** | {passed:.1f} |\n\nOn {len(os.sched_getaffinity(0))} processors ({processor()}).")
     print(f"The library of dw_leb took {before:.2f} minutes alone before it and {after:.2f} behind it, {stick / YARDSTICK:.2f} times the yardstick; by that all took {whole * YARDSTICK / stick:.1f}.")
-    print(f"The loop took {speed.milliseconds([early, late]):.1f} milliseconds beside the yardstick, {speed.milliseconds([early]):.1f} before the run, {speed.milliseconds([within]):.1f} within it.")
+    print(f"The loop took {beside:.1f} milliseconds beside the yardstick before the run, {inside:.1f} within it, {behind:.1f} beside the one behind it.")
+    if beside and behind and inside:
+        slowed = (before * inside / beside + after * inside / behind) / 2
+        print(f"As slow as the loop was within, the library would have taken {slowed:.2f} minutes; by that all took {whole * YARDSTICK / slowed:.1f}.")
     return status
 
 
