@@ -10,10 +10,10 @@ docs/proving.md holds one. The status is the command's.
 Whole commands are timed and nothing else: `.ci/run` tells what each step took, and `scripts/wrong_bodies.py` what each `rt lib` took and
 the checks of each crate's rounds. What `rt ci` does of one crate (its proofs, its tests, its must-fail edits, its programs) isn't told apart.
 
-Before it and behind it, the yardstick is measured: `rt lib` of dw_leb, from nothing with nothing beside it. The sum is told as it is and by the
-yardstick, that is divided by how much longer dw_leb took than its YARDSTICK minutes, in the mean of both: a machine may change while it runs.
-How much it changed is told beside it: all along, a short loop is timed every few seconds on the first processor. By how
-much slower that was within the run than beside a yardstick, the yardstick is told once more, as it would have been within.
+Before it and behind it, the yardstick is measured, TIMES times each: `rt lib` of dw_leb, from nothing with nothing beside it. The sum is told as it is and
+by the yardstick, that is divided by how much longer dw_leb took than its YARDSTICK minutes, in the mean of all: a machine may change while it runs, and one
+yardstick differs by a tenth from the next one. How much it changed is told beside it: all along, a short loop is timed every few seconds on the first
+processor. Nothing is divided by that: it varies four times as much as a yardstick does.
 """
 
 import glob
@@ -31,6 +31,9 @@ import clones
 # The minutes of processor that the library of dw_leb took on the machine by which the budget is set: its check took 1.25, and where that
 # takes 1.79, all of `rt lib` takes 2.16.
 YARDSTICK = 1.51
+
+# How many yardsticks are measured before a run, and behind it.
+TIMES = 3
 
 # The turns of the loop that is timed, some 30 milliseconds, and how many seconds lie between two.
 TURNS, APART = 1_000_000, 5.0
@@ -96,6 +99,16 @@ def yardstick():
         return ran.seconds / 60, (began, time.monotonic())
 
 
+def yardsticks(speed):
+    """The minutes of so many of them, each told with the milliseconds of the loop beside it."""
+    took = []
+    for _ in range(TIMES):
+        minutes, span = yardstick()
+        print(f"The library of dw_leb took {minutes:.2f} minutes alone, and the loop {speed.milliseconds([span]):.1f} milliseconds.", flush=True)
+        took.append(minutes)
+    return took
+
+
 def told_by(pattern, lines):
     """The minutes that lines tell, by what they are of."""
     found = {}
@@ -127,22 +140,17 @@ def main():
     os.chdir(clones.TOP)
     speed = Speed()
     speed.start()
-    before, early = yardstick()
-    print(f"The library of dw_leb took {before:.2f} minutes alone, and the loop {speed.milliseconds([early]):.1f} milliseconds.", flush=True)
+    before = yardsticks(speed)
     began = time.monotonic()
     whole, passed, status, lines = minutes_of(sys.argv[1:] or [".ci/run"], ".")
     within = (began, time.monotonic())
     print_table(lines)
-    after, late = yardstick()
+    after = yardsticks(speed)
     speed.ends.set()
-    stick = (before + after) / 2
-    beside, behind, inside = (speed.milliseconds([span]) for span in (early, late, within))
+    stick = sum(before + after) / (2 * TIMES)
     print(f"| all | **{whole:.1f}** | {passed:.1f} |\n\nOn {len(os.sched_getaffinity(0))} processors ({processor()}).")
-    print(f"The library of dw_leb took {before:.2f} minutes alone before it and {after:.2f} behind it, {stick / YARDSTICK:.2f} times the yardstick; by that all took {whole * YARDSTICK / stick:.1f}.")
-    print(f"The loop took {beside:.1f} milliseconds beside the yardstick before the run, {inside:.1f} within it, {behind:.1f} beside the one behind it.")
-    if beside and behind and inside:
-        slowed = (before * inside / beside + after * inside / behind) / 2
-        print(f"As slow as the loop was within, the library would have taken {slowed:.2f} minutes; by that all took {whole * YARDSTICK / slowed:.1f}.")
+    print(f"The library of dw_leb took {sum(before) / TIMES:.2f} minutes alone before it and {sum(after) / TIMES:.2f} behind it, {stick / YARDSTICK:.2f} times the yardstick; by that all took {whole * YARDSTICK / stick:.1f}.")
+    print(f"The loop took {speed.milliseconds([within]):.1f} milliseconds within the run.")
     return status
 
 
