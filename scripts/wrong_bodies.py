@@ -7,10 +7,12 @@ Usage: scripts/wrong_bodies.py [NAME..] [--must-fail] [--edit EDIT] [--from-noth
 A wrong body is a file crates/NAME/wrong/*.edit (with --must-fail crates/NAME/must-fail/*.edit too): lines `file: src/a.rt`, and then
 pairs `old: TEXT` and `new: TEXT`, where TEXT stands in that file exactly once. Where no body holds the text, a line `fn: a::T::f ..` names
 what is checked, all whose proofs the edit can change; without one it is tried alone, over the whole crate. A line `clause: GOAL` names a goal that
-has to be among the refused ones.
+has to be among the refused ones, or the clause of the function whose goal it is.
 
 The goals of a function stand on the contracts of what it calls, and not on the bodies. So a wrong body stands beside the right one, in a copy of the
-function that has its contract, its attributes and its proof files, and a name of its own: nothing calls the copy, so nothing else is proved anew. The copy of a
+function that has its contract, its attributes and its proof files, and a name of its own: nothing calls the copy, so nothing else is proved anew. Where the edit
+names a clause, the copy promises that clause alone, and those whose proofs its proof file needs for it: a goal is refused whether or not others stand beside it, and
+each costs its proof. The copy of a
 function of a cycle of calls is in no cycle: it calls those that are, by their contracts, and of the proof files of the cycle it has what is of that function. What can't
 be copied (a function of a trait, or one that calls itself, and what stands in no body) is changed in its place, at most one body a function in a
 round. One `rt check` tells what is refused of each function of a round. An edit passes where a goal of its own function is refused. It fails where
@@ -23,8 +25,8 @@ what `rt lib` and `rt check` kept in the tree at hand, where nothing may run the
 tried in another clone, as soon as the libraries stand that it needs. The clones are gone at the end, unless --clones names the folder that they
 are made in.
 
-With --unchanged each function that would be changed in a copy is copied as it is, once, and passes where the copy is proved. So it shows that a copy
-is refused for its body alone.
+With --unchanged each function that would be changed in a copy is copied as it is, once for each clause that is asked of it, and passes where the copy is
+proved. So it shows that a copy is refused for its body alone.
 
 What passed is kept by a sum of all that it stands on, and not tried again without --anew. The last line is `N passed, M failed`, and the
 status is 0 where none failed and some passed, else 1.
@@ -49,6 +51,9 @@ from clones import Stop
 PUB = r"(?:pub(?:\([\w: ]+\))? )?"
 FUNCTION = re.compile(rf"(?m)^( *){PUB}(?:(?:const|unsafe|extern \"C\") )*fn (\w+)")
 CYCLE = re.compile(r"#\[cycle\((\w+)\)\]\n *")
+ENSURES = re.compile(r"(?m)^ +ensures (\w+) \{")
+# Stands for the clauses that a copy isn't asked for: beside it a goal of the one that is goes by the name of its clause.
+NOTHING = "    ensures nothing { Prim.Unit {0} }\n"
 OWNER = re.compile(rf"(?m)^(?:unsafe )?(?:impl(?:<.*?>)? (.*?)(?: {{)?|{PUB}trait (\w+).*)$")
 
 # What a check says: of a function; of a goal in its proof file; of a goal of its code that is left; of a name that it doesn't know.
@@ -145,6 +150,7 @@ def text_of(crate, path):
     return clones.text_of(f"{crate.folder}/{path}")
 
 
+@functools.lru_cache(maxsize=None)
 def sources(crate):
     return [os.path.relpath(it, crate.folder) for it in clones.files_of(crate.folder) if it.endswith(".rt")]
 
@@ -248,10 +254,73 @@ def texts_with(crate, edits):
 
 
 def copy_of(crate, edit, path, name):
-    """The text of a function as the edit changes it, under a name of its own."""
+    """The text of a function as the edit changes it, under a name of its own, and with the clauses that are asked there."""
     text = applied(crate, [edit])[0].get(path) or text_of(crate, path)
     it = next(it for it in functions_in(crate, path, text) if it.name == name)
-    return f"{CYCLE.sub('', text[it.first : it.named])}_{edit.name}{text[it.named : behind(text, it)]}"
+    head, asked = text[it.named : it.begin], clauses_asked(crate, edit.clause, path, name)
+    gone = [one for one in clauses_in(head) if one[0] not in asked]
+    for clause, begin, end in reversed(gone):
+        head = head[:begin] + (NOTHING if clause == gone[0][0] else "") + head[end:]
+    return f"{CYCLE.sub('', text[it.first : it.named])}_{edit.name}{head}{text[it.begin : behind(text, it)]}"
+
+
+def clauses_in(head):
+    """The names of what a function ensures, each with where it begins and ends in the text before the body."""
+    found = []
+    for match in ENSURES.finditer(head):
+        end, depth = match.end(), 1
+        while depth and end < len(head):
+            depth += {"{": 1, "}": -1}.get(head[end], 0)
+            end += 1
+        found.append((match[1], match.start(), head.find("\n", end) + 1))
+    return found
+
+
+@functools.lru_cache(maxsize=None)
+def clauses_asked(crate, clause, path, name):
+    """The clauses of a function that a copy is asked to keep: that at which the edit has to be refused, and those whose proofs the rest of its proof file
+    stands on; all of them where the edit names none. The others cost their proofs, and say nothing of the edit."""
+    text = text_of(crate, path)
+    its = next(it for it in functions_in(crate, path, text) if it.name == name)
+    every = {it for it, _, _ in clauses_in(text[its.named : its.begin])}
+    if its.cycle or clause not in every:
+        return every
+    asked, parts = {clause}, parts_of(proof_of(crate, its))
+    if any(re.match(r"returns(?!\S*-clause-)", named) for part in parts for named in part.names):
+        # (there one answer is for all of them)
+        return every
+    while True:
+        gone = {named for part in parts for named in part.names if of_clause(named, every - asked)}
+        kept = [part for part in parts if not part.names or not gone.issuperset(part.names)]
+        more = {of_clause(named, every) for part in kept for named in gone & part.mentions}
+        if not more:
+            return asked
+        asked |= more
+
+
+def of_clause(named, clauses):
+    """Of which of these clauses of its own function this is a goal, if of one."""
+    found = re.fullmatch(r"returns(?:-\S+)?-clause-([a-z_]+)(?:-\d+)?", named)
+    return found[1] if found and found[1] in clauses else ""
+
+
+@dataclass
+class Part:
+    """A part of a proof file, with the goals that it answers, and those of the function's ends that it speaks of."""
+
+    text: str
+    names: list
+    mentions: set
+
+
+def parts_of(text):
+    return [Part(it, re.findall(r"(?m)^pub (\S+) : goal\.", it), set(re.findall(r"(?<![\w-])returns[\w-]*", it))) for it in re.split(r"\n\n(?! )", text)]
+
+
+def proof_of(crate, function):
+    """The answers of a function's proof file."""
+    path = f"proofs/{function.name.replace('::', '/')}/Answers.antt"
+    return text_of(crate, path) if os.path.isfile(f"{crate.folder}/{path}") else ""
 
 
 def behind(text, function):
@@ -269,8 +338,17 @@ def proofs_of_copy(crate, edit, name):
     for path in (f"{folder}/{it}.antt" for it in ("Answers", "Invariants", "Proof")):
         if os.path.isfile(f"{crate.folder}/{path}"):
             text = text_of(crate, path).replace(f".{folder.replace('/', '.')}.", f".{there.replace('/', '.')}.")
-            found[path.replace(folder, there)] = of_member(text, own, members) if its.cycle else text
+            found[path.replace(folder, there)] = of_member(text, own, members) if its.cycle else without_clauses(crate, edit, name, text)
     return {path: text for path, text in found.items() if text}
+
+
+def without_clauses(crate, edit, name, text):
+    """A proof file without the answers for clauses that a copy isn't asked for."""
+    path, its = next((path, it) for path, it in all_functions(crate) if it.name == name)
+    source = text_of(crate, path)
+    every = {clause for clause, _, _ in clauses_in(source[its.named : its.begin])}
+    gone = every - clauses_asked(crate, edit.clause, path, name)
+    return "\n\n".join(it.text for it in parts_of(text) if not any(of_clause(named, gone) for named in it.names))
 
 
 def of_member(text, own, members):
@@ -637,11 +715,12 @@ def work_in(top, given):
 
 
 def unchanged(edits):
-    """Of the edits that change copies one for each function, which then changes nothing."""
+    """Of the edits that change copies one for each function and clause, which then changes nothing."""
     found, seen = [], set()
     for edit in edits:
-        if edit.copied.keys() - seen:
-            seen |= edit.copied.keys()
+        asked = {(it, edit.clause) for it in edit.copied}
+        if asked - seen:
+            seen |= asked
             edit.pairs = []
             found.append(edit)
     return found
