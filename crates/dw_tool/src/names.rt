@@ -136,6 +136,15 @@ pub(crate) fn tag_label(tag: u64) -> Option<&'static str>
     ensures long { IfSome result (λ label. 32 ≤ length label.now) }
     ensures short { IfSome result (λ label. length label.now ≤ 56) }
 {
+    padded_tag(tag)
+}
+
+/// The same, of which the names tell how long it is.
+#[inline(always)]
+fn padded_tag(tag: u64) -> Option<&'static str>
+    ensures { option_map (λ label. label.now) result
+        ≡ option_map (λ name. tag_label name ++ padding) (name_in tag_names tag) }
+{
     named_tag!(tag, " DW_TAG_", "                        ")
 }
 
@@ -147,6 +156,15 @@ pub(crate) fn attribute_label(attribute: u64) -> Option<&'static str>
         ≡ option_map (λ name. attribute_label name ++ padding) (name_in attribute_names attribute) }
     ensures long { IfSome result (λ label. 32 ≤ length label.now) }
     ensures short { IfSome result (λ label. length label.now ≤ 56) }
+{
+    padded_attribute(attribute)
+}
+
+/// The same, of which the names tell how long it is.
+#[inline(always)]
+fn padded_attribute(attribute: u64) -> Option<&'static str>
+    ensures { option_map (λ label. label.now) result
+        ≡ option_map (λ name. attribute_label name ++ padding) (name_in attribute_names attribute) }
 {
     named_attribute!(attribute, "\n  DW_AT_", "                         ")
 }
