@@ -1,6 +1,6 @@
 -- An item that is read from a reader: what was taken of it, and from there to what the read says.
 use Rattle.std.proofs.Common.{Bool, true, false, ◌≡◌, ◌⊎◌, ℕ, ◌+◌, ◌-◌, ◌<◌, ◌≤◌, List, [], ◌∷◌, ◌++◌, length, take, drop, Option, Some, None, Result, Ok, Err, refl, sym, ap, subst, ◌∙◌, append_assoc, append-nil, arith, inl, inr}
-use Rattle.std.specs.Prelude.{min, nat_le, ◌==◌, ◌&&◌}
+use Rattle.std.specs.Prelude.{nat_le, OnOk, IfErr, ◌==◌, ◌&&◌}
 use Rattle.std.proofs.lemmas.Bool.{leb-true, leb-false}
 use Rattle.std.proofs.lemmas.List.{length-append, take_all}
 use Rattle.std.proofs.Math.Seq.{drop-append_seam}
@@ -20,18 +20,20 @@ use Rattle.dw_leb.specs.Number.{Short, fixed, fixed_bytes, length_field, initial
 use Rattle.dw_leb.specs.Digits.{length-fixed}
 use Rattle.dw_leb.specs.DecideNumber.{initial-size, initial_within, initial_length_stays}
 use Rattle.dw_leb.specs.Transfers.{consumes_more}
-use Rattle.dw_leb.specs.Watch.{KeptSome}
+use Rattle.dw_leb.specs.Watch.{KeptSome, reader_fault}
 use Rattle.dw_header.specs.declared.versions.Versions.{Versions}
 use Rattle.dw_header.specs.declared.versions.Versions.TheVariants.{Five, FourAndFive}
-use Rattle.dw_unit.specs.Unit.{WholeUnit, bytes_of, FailsUnder}
+use Rattle.dw_unit.specs.Unit.{WholeUnit, body_bytes, bytes_of, FailsUnder}
 use Rattle.dw_feed.specs.Feed.{Had, BeginsUnit, behind, StartsWith, Takes, InField, InUnit, IsField, FailsUpTo, FailsInField, TakesUnitUnder, TakesNoUnitBehind}
 use Rattle.dw_feed.specs.Taking.{left_of, left_at_end, takes_of, behind_taken, field_longer}
 use Rattle.dw_feed.specs.Cut.{field_never_truncated, field_size, same_length}
 use Rattle.dw_section.specs.Item.{Item, Known, Other, item_bytes, least_length, version_and_type_if, version_and_type, ShowsKind, HasInitialLength, ItemFits, IsKnown, ItemFails}
-use Rattle.dw_section.specs.ItemPlace.{fits_alone, length_some, shows_more, known_there, other_there}
+use Rattle.dw_section.specs.ItemPlace.{fits_alone, item_some, length_some, shows_more, known_there, other_there}
+use Rattle.dw_section.specs.Push.{with_item}
+use Rattle.dw_section.specs.Section.{WholeSection, section_bytes}
 use Rattle.dw_section.specs.Streamed.{length_fault, kind_fault, other_cut}
 use Rattle.dw_section.specs.FedItems.{fault_there}
-use Rattle.dw_section.specs.Reads.{TakesItem, TakesNoItem, InItem, IsItemError, HasLength, HasKind, moved_offset, moved, moved_error, fault_at}
+use Rattle.dw_section.specs.Reads.{TakesItem, AddsItem, EndsAt, TakesNoItem, InItem, IsItemError, HasLength, HasKind, moved_offset, moved, moved_error, fault_at}
 
 -- ---- bytes that were taken before
 
@@ -52,6 +54,15 @@ takes_from old mid new taken all h k = record { taken = k.taken; rest = k.rest; 
 pub item_from : (versions : Versions) (order : Order) (abbreviations : List ℕ) (start : ℕ) (old mid new : Option (List ℕ)) (taken : List ℕ) (x : Item) → Consumes old mid taken
     → TakesItem versions order abbreviations start (behind taken mid) new x → TakesItem versions order abbreviations start old new x
 item_from versions order abbreviations start old mid new taken x h k = record { fits = k.fits; place = k.place; consumed = consumes_from old mid new taken (item_bytes x) h k.consumed }
+
+pub adds_from : (versions : Versions) (order : Order) (abbreviations : List ℕ) (start : ℕ) (old mid new : Option (List ℕ)) (taken : List ℕ) (s t : WholeSection) → Consumes old mid taken
+    → AddsItem versions order abbreviations start (behind taken mid) new s t → AddsItem versions order abbreviations start old new s t
+adds_from versions order abbreviations start old mid new taken s t h (x, is, k) = (x, is, item_from versions order abbreviations start old mid new taken x h k)
+
+pub found_from : (versions : Versions) (order : Order) (abbreviations : List ℕ) (start : ℕ) (old mid new : Option (List ℕ)) (taken : List ℕ) (s t : WholeSection) (r : Result (Unit {0}) ReadError) → Consumes old mid taken
+    → OnOk r (AddsItem versions order abbreviations start (behind taken mid) new s t) → OnOk r (AddsItem versions order abbreviations start old new s t)
+found_from versions order abbreviations start old mid new taken s t (Ok x) h k = adds_from versions order abbreviations start old mid new taken s t h k
+found_from versions order abbreviations start old mid new taken s t (Err e) h k = tt
 
 pub no_item_from : (versions : Versions) (order : Order) (abbreviations : List ℕ) (start : ℕ) (old mid new : Option (List ℕ)) (taken : List ℕ) (e : ReadError) → Consumes old mid taken
     → TakesNoItem versions order abbreviations start (behind taken mid) new e → TakesNoItem versions order abbreviations start old new e
@@ -138,6 +149,59 @@ rest_failed versions order abbreviations start old new taken most e h format n r
     by reads.NoMemory (got, few, k) = ((taken ++ got) ++ left_of new, took got k, tt, inside got few)
     by (reads.Io kind) (got, few, k) = ((taken ++ got) ++ left_of new, took got k, tt, inside got few)
 
+-- ---- an item that is added to a section
+
+-- it fits where the section ends
+pub fits_there : (versions : Versions) (order : Order) (start : ℕ) (s : WholeSection) (x : Item) → EndsAt versions order start s → ItemFits versions order start x → ItemFits s.versions s.order (length (section_bytes s)) x
+fits_there versions order start s x (v, o, at) h =
+    subst (λ (w : Versions). ItemFits w s.order (length (section_bytes s)) x) (sym v)
+    (subst (λ (w : Order). ItemFits versions w (length (section_bytes s)) x) (sym o)
+    (subst (λ (q : ℕ). ItemFits versions order q x) (sym at) h))
+
+-- it is no longer than it says
+item_inside : (versions : Versions) (order : Order) (start : ℕ) (x : Item) (more : List ℕ) → ItemFits versions order start x → InItem order start (item_bytes x ++ more) (length (item_bytes x))
+item_inside versions order start (Known u) more h =
+    let body : List ℕ = body_bytes u in
+    let len : Order → List ℕ = λ o. (length_field o).spell (u.header.format, length body) in
+    inr (
+      u.header.format,
+      length body,
+      body ++ more,
+      record { fits = h.length_fits; split = append_assoc (len u.header.order) body more ∙ ap (λ (o : Order). len o ++ (body ++ more)) h.order_is },
+      omega (arith, length-append (len u.header.order) body, initial-size u.header.order 0 u.header.format (length body)),
+    )
+item_inside versions order start (Other bytes) more h =
+    inr (
+      h.format,
+      length h.content,
+      h.content ++ more,
+      begins_more order start bytes h.format (length h.content) h.content more h.begins,
+      omega (arith, begins_size order start bytes h.format (length h.content) h.content h.begins),
+    )
+
+module _ (versions : Versions) (order : Order) (abbreviations : List ℕ) (start : ℕ) (old new : Option (List ℕ)) (x : Item) (k : TakesItem versions order abbreviations start old new x) where
+  pub kept_found : (s t : WholeSection) (r : Result (Unit {0}) ReadError) → OnOk r (t ≡ with_item s x) → OnOk r (AddsItem versions order abbreviations start old new s t)
+  kept_found s t (Ok u) is = (x, is, k)
+  kept_found s t (Err e) h = tt
+
+  -- there is no memory for it
+  pub kept_broken : (r : Result (Unit {0}) ReadError) → IfErr r (λ e. e ≡ reads.NoMemory) → IfErr r (TakesNoItem versions order abbreviations start old new)
+  kept_broken (Ok u) h = tt
+  kept_broken (Err e) is = subst (λ (m : ReadError). TakesNoItem versions order abbreviations start old new m) (sym is) (
+    item_bytes x ++ left_of new,
+    takes_of old new (item_bytes x) k.consumed,
+    tt,
+    item_inside versions order start x (left_of new) k.fits,
+  )
+
+  pub kept_memory : (r : Result (Unit {0}) ReadError) → IfErr r (λ e. e ≡ reads.NoMemory) → KeptSome old new r
+  kept_memory (Ok u) h = tt
+  kept_memory (Err e) is = subst (λ (m : ReadError). KeptSome {X = Unit {0}} old new (Err m)) (sym is) (item_bytes x, item_some versions order start x k.fits, k.consumed)
+
+pub kept_clear : (r : Result (Unit {0}) ReadError) → IfErr r (λ e. e ≡ reads.NoMemory) → None ≡ reader_fault r
+kept_clear (Ok u) h = refl
+kept_clear (Err e) is = subst (λ (m : ReadError). None ≡ reader_fault {X = Unit {0}} (Err m)) (sym is) refl
+
 -- ---- what shows the kind
 
 -- where all bytes of it are there, it doesn't break
@@ -214,13 +278,13 @@ behind_field bytes got now field field_is is =
     let rest : drop field now ≡ got = ap (λ (k : ℕ). drop k now) field_is ∙ ap (drop (length bytes)) is ∙ drop-append_seam bytes got in
     ap (take (length now - field)) rest ∙ take_all (length now - field) got (omega (arith, field_is, ap length is, length-append bytes got))
 
--- all bytes of an item, or as many as show its kind
-pub enough : (n got most : ℕ) → got ≡ most → most ≡ min n 3 → (n ≤ got) ⊎ (3 ≤ got)
-enough n got most all is = by (nat_le n got) refl
-  where
-    by : (v : Bool) → nat_le n got ≡ v → (n ≤ got) ⊎ (3 ≤ got)
-    by true e = inl (leb-true n got e)
-    by false e = inr (omega (arith, leb-false n got e, all, is))
+-- and shows the kind
+pub kind_now : (versions : Versions) (order : Order) (start n field : ℕ) (bytes got front now : List ℕ) (seen known : Bool) → HasLength order start n bytes → field ≡ length bytes → length got ≤ n → front ≡ bytes ++ got
+    → ShowsKind versions order n (take (length front - field) (drop field front)) seen → seen ≡ known → now ≡ bytes ++ got → HasKind versions order start n field now known
+kind_now versions order start n field bytes got front now seen known begun field_is le front_is shows is now_is =
+    let marked : ShowsKind versions order n got seen = subst (λ (b : List ℕ). ShowsKind versions order n b seen) (behind_field bytes got front field field_is front_is) shows in
+    let there : ShowsKind versions order n got known = subst (λ (v : Bool). ShowsKind versions order n got v) is marked in
+    subst (λ (b : List ℕ). HasKind versions order start n field b known) (sym now_is) (kind_taken versions order start n field bytes got known begun field_is le there)
 
 pub both_taken : (old mid : Option (List ℕ)) (bytes got now : List ℕ) → now ≡ bytes ++ got → Consumes old mid got → Consumes (behind bytes old) mid now
 both_taken old mid bytes got now is took = subst (λ (b : List ℕ). Consumes (behind bytes old) mid b) (sym is) (consumes_more (behind bytes old) old mid bytes got (behind_taken bytes old) took)

@@ -1,5 +1,5 @@
 -- A section that is read item by item: what its loop keeps, and from there to what the read says.
-use Rattle.std.proofs.Common.{◌≡◌, ◌<◌, ◌-◌, ◌^◌, ℕ, List, [], ◌∷◌, ◌++◌, length, Option, Some, None, Err, inl, refl, sym, ap, subst, ◌∙◌, append_assoc, append-nil, arith}
+use Rattle.std.proofs.Common.{◌≡◌, ◌<◌, ◌-◌, ◌^◌, ℕ, List, [], ◌∷◌, ◌++◌, length, Option, Some, None, Err, refl, sym, ap, subst, ◌∙◌, append_assoc, append-nil, arith}
 use Rattle.std.proofs.lemmas.List.{length-append}
 use Rattle.std.specs.Io.KnownBytes.{Consumes, IsAtEnd}
 use Rattle.dw_leb.specs.declared.errors.ReadError.{ReadError}
@@ -9,14 +9,14 @@ use Rattle.dw_leb.specs.Transfers.{consumes_none, consumes_more}
 use Rattle.dw_leb.specs.Watch.{KeptSome}
 use Rattle.dw_header.specs.declared.versions.Versions.{Versions}
 use Rattle.dw_feed.specs.Feed.{Had}
-use Rattle.dw_feed.specs.Taking.{left_of, left_at_end, had_before, takes_of}
-use Rattle.dw_section.specs.Item.{Item, item_bytes, ItemFits}
+use Rattle.dw_feed.specs.Taking.{left_of, left_at_end, had_before}
+use Rattle.dw_section.specs.Item.{Item, item_bytes}
 use Rattle.dw_section.specs.ItemPlace.{item_some}
 use Rattle.dw_section.specs.Section.{WholeSection, SectionFits, HoldsTables, section_bytes}
 use Rattle.dw_section.specs.SectionView.{section_end}
 use Rattle.dw_section.specs.Push.{with_item}
 use Rattle.dw_section.specs.Streamed.{SoFar, items_end, one_more, at_end, first_fault}
-use Rattle.dw_section.specs.Reads.{TakesSection, TakesNoSection, IsSectionError, TakesItem, TakesNoItem, IsItemError}
+use Rattle.dw_section.specs.Reads.{TakesSection, TakesNoSection, IsSectionError, TakesItem, EndsAt, TakesNoItem, IsItemError}
 
 -- exactly the bytes of its items were taken of the reader
 pub record TakenSoFar (versions : Versions) (order : Order) (abbreviations : List ℕ) (old now : Option (List ℕ)) (s : WholeSection) : Type 0 where
@@ -40,9 +40,9 @@ module _ (versions : Versions) (order : Order) (abbreviations : List ℕ) (old n
     split = refl;
   }
 
-  -- the next item fits behind the others
-  pub next_fits : (x : Item) → TakesItem versions order abbreviations start now new x → ItemFits s.versions s.order start x
-  next_fits x k = subst (λ (o : Order). ItemFits s.versions o start x) (sym h.order_is) (subst (λ (v : Versions). ItemFits v order start x) (sym h.versions_is) k.fits)
+  -- the next item begins where the others end
+  pub ends_there : (at : ℕ) → at ≡ start → EndsAt versions order at s
+  ends_there at is = (h.versions_is, h.order_is, sym is)
 
   both_taken : (x : Item) → TakesItem versions order abbreviations start now new x → Consumes old new (section_bytes (with_item s x))
   both_taken x k = subst (λ (b : List ℕ). Consumes old new b) (sym (items_end s.items x)) (consumes_more old now new (section_bytes s) (item_bytes x) h.consumed k.consumed)
@@ -114,20 +114,6 @@ module _ (versions : Versions) (order : Order) (abbreviations : List ℕ) (old n
   item_kept X Y (reads.Fault f) k = tt
   item_kept X Y reads.NoMemory k = (section_bytes s ++ k.0, omega (arith, k.1, length-append (section_bytes s) k.0), consumes_more old now new (section_bytes s) k.0 h.consumed k.2)
   item_kept X Y (reads.Io kind) k = tt
-
-  -- there is no memory for an item that was taken
-  pub not_kept : (x : Item) → TakesItem versions order abbreviations start now new x → TakesNoSection versions order abbreviations old new reads.NoMemory
-  not_kept x k =
-      let more = with_next x k in
-      let bytes : List ℕ = section_bytes (with_item s x) in (
-        bytes ++ left_of new,
-        takes_of old new bytes (both_taken x k),
-        tt,
-        record { before = s.items ++ x ∷ []; rest = left_of new; own = []; fit = more.fit; tables = more.tables; split = refl; taken_are = sym (append-nil bytes); inside = inl (inl (omega arith)) },
-      )
-
-  pub some_kept : (X : Type 0) (x : Item) → TakesItem versions order abbreviations start now new x → KeptSome {X = X} old new (Err reads.NoMemory)
-  some_kept X x k = (section_bytes (with_item s x), omega (arith, ap length (items_end s.items x), length-append (section_bytes s) (item_bytes x), item_some versions order start x k.fits), both_taken x k)
 
 -- what is said of the same abbreviation section and start
 pub said_there : (P : List ℕ → ℕ → Type 0) (tables abbreviations : List ℕ) (at there : ℕ) → tables ≡ abbreviations → at ≡ there → P tables at → P abbreviations there

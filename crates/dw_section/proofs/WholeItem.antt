@@ -17,7 +17,6 @@ use Rattle.dw_unit.specs.DecideUnit.{unit_stays}
 use Rattle.dw_feed.specs.Feed.{behind, InUnit, IsFeedErrorUnder}
 use Rattle.dw_feed.specs.Taking.{left_of, takes_of, behind_taken, had_before}
 use Rattle.dw_feed.specs.Cut.{same_length, whole_fault}
-use Rattle.dw_section.specs.declared.item.Item.{Item as TheItem}
 use Rattle.dw_section.specs.Item.{Known, HasInitialLength}
 use Rattle.dw_section.specs.ItemPlace.{fits_alone}
 use Rattle.dw_section.specs.Reads.{TakesItem, TakesNoItem, HasKind, moved_error}
@@ -79,13 +78,13 @@ module _ (versions : Versions) (order : Order) (start n field : ℕ) (bytes : Li
       known_error versions order start n field bytes begun abbreviations old old e
       (all, takes_of (behind bytes old) old bytes took, stays e is, inside, (left_of old, refl))
 
-  pub whole_kept : (e : ReadError) → KeptSome {X = TheItem} (behind bytes old) old (Err (moved_error start e))
+  pub whole_kept : (e : ReadError) → KeptSome {X = Unit {0}} (behind bytes old) old (Err (moved_error start e))
   whole_kept (reads.Fault f) = tt
   whole_kept reads.NoMemory = (bytes, known_some versions order start n field bytes begun bytes ([], sym (append-nil bytes)), took)
   whole_kept (reads.Io kind) = tt
 
 -- no reader fails where the bytes are at hand
-pub whole_clear : (versions : Versions) (abbreviations : List ℕ) (order : Order) (bytes : List ℕ) (start : ℕ) (e : ReadError) → IsUnitErrorUnder versions abbreviations order bytes e → reader_fault {X = TheItem} (Err (moved_error start e)) ≡ None
+pub whole_clear : (versions : Versions) (abbreviations : List ℕ) (order : Order) (bytes : List ℕ) (start : ℕ) (e : ReadError) → IsUnitErrorUnder versions abbreviations order bytes e → reader_fault {X = Unit {0}} (Err (moved_error start e)) ≡ None
 whole_clear versions abbreviations order bytes start (reads.Fault f) h = refl
 whole_clear versions abbreviations order bytes start reads.NoMemory h = refl
 whole_clear versions abbreviations order bytes start (reads.Io kind) h = absurd h

@@ -1,5 +1,5 @@
 -- What a read of a section, or of an item of one, answers and takes.
-use Rattle.std.specs.Prelude.{◌≡◌, ℕ, ◌+◌, ◌≤◌, ◌<◌, List, [], ◌++◌, length, Option, Some, None, Bool, Result, Ok, Err, ◌⊎◌}
+use Rattle.std.specs.Prelude.{◌≡◌, ℕ, ◌+◌, ◌≤◌, ◌<◌, List, [], ◌++◌, length, Option, Bool, true, false, Result, Ok, Err, ◌⊎◌}
 use Rattle.std.specs.Io.KnownBytes.{Consumes, IsAtEnd}
 use Rattle.dw_leb.specs.declared.errors.Fault.{Fault}
 use Rattle.dw_leb.specs.declared.errors.Reason.{Reason}
@@ -12,10 +12,9 @@ use Rattle.dw_leb.specs.declared.order.Format.{Format}
 use Rattle.dw_leb.specs.Number.{length_size}
 use Rattle.dw_header.specs.declared.versions.Versions.{Versions}
 use Rattle.dw_feed.specs.Feed.{Had, Takes, InField, FailsUpTo}
-use Rattle.dw_section.specs.declared.item.Item.{Item as TheItem}
 use Rattle.dw_section.specs.Item.{Item, item_bytes, ShowsKind, HasInitialLength, ItemFits, HoldsTable, ItemFails}
-use Rattle.dw_section.specs.ItemView.{item_of}
-use Rattle.dw_section.specs.Section.{ItemsFit, HoldsTables, items_bytes, SectionIs, SectionFails, WholeSection}
+use Rattle.dw_section.specs.Push.{with_item}
+use Rattle.dw_section.specs.Section.{ItemsFit, HoldsTables, items_bytes, section_bytes, SectionIs, SectionFails, WholeSection}
 
 -- ---- how many bytes are taken where nothing is read
 
@@ -72,11 +71,23 @@ pub record TakesItem (versions : Versions) (order : Order) (abbreviations : List
   pub place : HoldsTable abbreviations x
   pub consumed : Consumes old new (item_bytes x)
 
--- or the reader had nothing left
-abbrev pub TakesNext : Versions → Order → List ℕ → ℕ → Option (List ℕ) → Option (List ℕ) → Option TheItem → Type 0
-TakesNext versions order abbreviations start old new (Some x) =
-    TakesItem versions order abbreviations start old new (item_of x)
-TakesNext versions order abbreviations start old new None = Consumes old new [] × IsAtEnd new
+-- it is one more item behind those of a section
+abbrev pub AddsItem : Versions → Order → List ℕ → ℕ → Option (List ℕ) → Option (List ℕ) → WholeSection → WholeSection
+    → Type 0
+AddsItem versions order abbreviations start old new before after =
+    (x : Item) × (after ≡ with_item before x) × TakesItem versions order abbreviations start old new x
+
+-- or the reader had nothing left, and there is none
+abbrev pub AddsNext : Versions → Order → List ℕ → ℕ → Option (List ℕ) → Option (List ℕ) → WholeSection → WholeSection
+    → Bool → Type 0
+AddsNext versions order abbreviations start old new before after true =
+    AddsItem versions order abbreviations start old new before after
+AddsNext versions order abbreviations start old new before after false =
+    (after ≡ before) × Consumes old new [] × IsAtEnd new
+
+-- the section has these versions and this order, and ends at the start
+abbrev pub EndsAt : Versions → Order → ℕ → WholeSection → Type 0
+EndsAt versions order start s = (s.versions ≡ versions) × (s.order ≡ order) × (length (section_bytes s) ≡ start)
 
 -- a fault is that of the item at the front, of which at least a byte is there
 abbrev pub IsItemError : Versions → Order → List ℕ → ℕ → List ℕ → ReadError → Type 0

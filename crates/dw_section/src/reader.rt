@@ -1,12 +1,16 @@
 //! Reading a section from a reader.
 ghost use Rattle.std.specs.Prelude.{◌≡◌, ◌<◌, ◌≤◌, ◌+◌, ◌^◌, List, ℕ, Option, length, true, false, None, IfOk, IfErr, OnOk};
 ghost use Rattle.dw_leb.specs.declared.errors.SectionId.TheVariants.{Info};
+ghost use Rattle.dw_abbrev.specs.TableErrors.{refused_memory};
 ghost use Rattle.dw_leb.specs.Watch.{inner_of, fault_of, reader_fault, KeptSome};
 ghost use Rattle.dw_header.specs.declared.versions.Versions.TheVariants.{Five};
 ghost use Rattle.dw_unit.specs.UnitView.{FaultWithin};
 ghost use Rattle.dw_feed.specs.Feed.{behind};
+ghost use Rattle.dw_section.specs.Item.{ItemFits};
 ghost use Rattle.dw_section.specs.ItemView.{item_of};
-ghost use Rattle.dw_section.specs.Reads.{TakesSection, TakesNoSection, TakesItem, TakesNext, TakesNoItem, ReadsMarks, HasLength, HasKind, moved, moved_error, fault_at};
+ghost use Rattle.dw_section.specs.Push.{with_item};
+ghost use Rattle.dw_section.specs.Reads.{TakesSection, TakesNoSection, AddsItem, AddsNext, EndsAt, TakesNoItem, ReadsMarks, HasLength, HasKind, moved, moved_error, fault_at};
+ghost use Rattle.dw_section.specs.Section.{section_bytes};
 
 use crate::item::Item;
 use crate::kind::shows_known;
@@ -110,13 +114,9 @@ fn read_items<R: Read>(
             versions,
             offset: section.size(),
         };
-        match next_item(alloc, start, &mut taken, tables, reader)? {
-            Some(item) => {
-                if section.keep(item).is_err() {
-                    return Err(ReadError::NoMemory);
-                }
-            }
-            None => return Ok(section),
+        let more = next_item(alloc, start, &mut taken, tables, reader, &mut section)?;
+        if !more {
+            return Ok(section);
         }
     }
 }
@@ -130,19 +130,23 @@ struct Start {
     offset: u64,
 }
 
-/// The item that begins there, and at the front of what the reader has left; None where that is nothing. `taken` is
-/// room for bytes of it.
+/// Adds the item that begins there, and at the front of what the reader has left, to a section that ends there; false
+/// where that is nothing. `taken` is room for bytes of it. It is added where it is read, since handing it from call
+/// to call would cost more than a small one.
 fn next_item<R: Read>(
     alloc: Global,
     start: Start,
     taken: &mut Vec<u8>,
     tables: &mut Tables<'_>,
     reader: &mut Watched<R>,
-) -> Result<Option<Item>, ReadError>
-    requires { fault_of reader.old ≡ None }
-    ensures found { IfOk result (TakesNext start.versions start.order tables.old start.offset
+    section: &mut Section,
+) -> Result<bool, ReadError>
+    requires clear { fault_of reader.old ≡ None }
+    requires there { EndsAt start.versions start.order start.offset section.old }
+    ensures found { IfOk result (AddsNext start.versions start.order tables.old start.offset
         (R.remaining (inner_of reader.old))
-        (R.remaining (inner_of reader.new))) }
+        (R.remaining (inner_of reader.new))
+        section.old section.new) }
     ensures broken { IfErr result (TakesNoItem start.versions start.order tables.old start.offset
         (R.remaining (inner_of reader.old))
         (R.remaining (inner_of reader.new))) }
@@ -153,12 +157,12 @@ fn next_item<R: Read>(
     taken.clear();
     read_field(reader, taken)?;
     if taken.as_slice().is_empty() {
-        return Ok(None);
+        return Ok(false);
     }
     match read_length(start.order, start.offset, taken.as_slice()) {
         Ok((_, n)) => {
-            let item = item_behind(alloc, start, n, taken, tables, reader)?;
-            Ok(Some(item))
+            item_behind(alloc, start, n, taken, tables, reader, section)?;
+            Ok(true)
         }
         Err(reason) => Err(fault_at(start.offset, reason)),
     }
@@ -175,7 +179,19 @@ fn fault_at(offset: u64, reason: Reason) -> ReadError
     })
 }
 
-/// The item of which these bytes, its length field, were taken, with `n` bytes behind them.
+/// Adds an item that was taken.
+fn keep_taken(section: &mut Section, item: Item) -> Result<(), ReadError>
+    requires { ItemFits section.old.versions section.old.order (length (section_bytes section.old)) (item_of item) }
+    ensures kept { OnOk result (section.new ≡ with_item section.old (item_of item)) }
+    ensures refused { IfErr result (λ e. e ≡ refused_memory) }
+{
+    match section.keep(item) {
+        Ok(()) => Ok(()),
+        Err(_) => Err(ReadError::NoMemory),
+    }
+}
+
+/// Adds the item of which these bytes, its length field, were taken, with `n` bytes behind them.
 fn item_behind<R: Read>(
     alloc: Global,
     start: Start,
@@ -183,12 +199,15 @@ fn item_behind<R: Read>(
     taken: &mut Vec<u8>,
     tables: &mut Tables<'_>,
     reader: &mut Watched<R>,
-) -> Result<Item, ReadError>
+    section: &mut Section,
+) -> Result<(), ReadError>
     requires clear { fault_of reader.old ≡ None }
     requires begun { HasLength start.order start.offset n taken.old.items }
-    ensures found { IfOk result (λ x. TakesItem start.versions start.order tables.old start.offset
+    requires there { EndsAt start.versions start.order start.offset section.old }
+    ensures found { OnOk result (AddsItem start.versions start.order tables.old start.offset
         (behind taken.old.items (R.remaining (inner_of reader.old)))
-        (R.remaining (inner_of reader.new)) (item_of x)) }
+        (R.remaining (inner_of reader.new))
+        section.old section.new) }
     ensures broken { IfErr result (TakesNoItem start.versions start.order tables.old start.offset
         (behind taken.old.items (R.remaining (inner_of reader.old)))
         (R.remaining (inner_of reader.new))) }
@@ -202,11 +221,11 @@ fn item_behind<R: Read>(
     match shows_known(start.versions, start.order, n, &taken.as_slice()[field..]) {
         Ok(true) => {
             if taken.as_slice().len() as u64 == field as u64 + n {
-                return whole_item(alloc, start, taken.as_slice(), tables);
+                return whole_item(alloc, start, taken.as_slice(), tables, section);
             }
-            known_item(alloc, start, taken.as_slice(), tables, reader)
+            known_item(alloc, start, taken.as_slice(), tables, reader, section)
         }
-        Ok(false) => other_item(alloc, start, field, n, taken, reader),
+        Ok(false) => other_item(alloc, start, field, n, taken, reader, section),
         Err(e) => Err(fault_at(start.offset + field as u64 + e.offset as u64, e.reason)),
     }
 }
@@ -236,17 +255,19 @@ fn take_marks<R: Read>(
     read_up_to(reader, n.min(MARKS).saturating_sub(got), taken)
 }
 
-/// The item of a known kind that these bytes are.
+/// Adds the item of a known kind that these bytes are.
 fn whole_item(
     alloc: Global,
     start: Start,
     bytes: &[u8],
     tables: &mut Tables<'_>,
-) -> Result<Item, ReadError>
-    requires { (n : ℕ) × (field : ℕ) × HasKind start.versions start.order start.offset n field bytes.now true
+    section: &mut Section,
+) -> Result<(), ReadError>
+    requires begun { (n : ℕ) × (field : ℕ) × HasKind start.versions start.order start.offset n field bytes.now true
         × (length bytes.now ≡ field + n) }
-    ensures found { (old : Option (List ℕ)) → IfOk result (λ x. TakesItem start.versions start.order tables.old
-        start.offset (behind bytes.now old) old (item_of x)) }
+    requires there { EndsAt start.versions start.order start.offset section.old }
+    ensures found { (old : Option (List ℕ)) → OnOk result (AddsItem start.versions start.order tables.old
+        start.offset (behind bytes.now old) old section.old section.new) }
     ensures broken { (old : Option (List ℕ)) → IfErr result (TakesNoItem start.versions start.order tables.old
         start.offset (behind bytes.now old) old) }
     ensures memory { (old : Option (List ℕ)) → KeptSome (behind bytes.now old) old result }
@@ -254,25 +275,28 @@ fn whole_item(
     ensures fault { reader_fault result ≡ None }
 {
     match read_unit_as(alloc, start.order, start.versions, tables, bytes) {
-        Ok((unit, _)) => Ok(Item::Known(unit)),
+        Ok((unit, _)) => keep_taken(section, Item::Known(unit)),
         Err(e) => Err(moved_error(start.offset, e)),
     }
 }
 
-/// The item of a known kind of which these bytes were taken.
+/// Adds the item of a known kind of which these bytes were taken.
 fn known_item<R: Read>(
     alloc: Global,
     start: Start,
     taken: &[u8],
     tables: &mut Tables<'_>,
     reader: &mut Watched<R>,
-) -> Result<Item, ReadError>
+    section: &mut Section,
+) -> Result<(), ReadError>
     requires clear { fault_of reader.old ≡ None }
     requires begun { (n : ℕ) × (field : ℕ) × HasKind start.versions start.order start.offset n field taken.now true }
     requires few { length taken.now ≤ 65536 }
-    ensures found { IfOk result (λ x. TakesItem start.versions start.order tables.old start.offset
+    requires there { EndsAt start.versions start.order start.offset section.old }
+    ensures found { OnOk result (AddsItem start.versions start.order tables.old start.offset
         (behind taken.now (R.remaining (inner_of reader.old)))
-        (R.remaining (inner_of reader.new)) (item_of x)) }
+        (R.remaining (inner_of reader.new))
+        section.old section.new) }
     ensures broken { IfErr result (TakesNoItem start.versions start.order tables.old start.offset
         (behind taken.now (R.remaining (inner_of reader.old)))
         (R.remaining (inner_of reader.new))) }
@@ -282,12 +306,12 @@ fn known_item<R: Read>(
     ensures fault { fault_of reader.new ≡ reader_fault result }
 {
     match read_unit_begun(alloc, start.order, start.versions, taken, tables, reader) {
-        Ok(unit) => Ok(Item::Known(unit)),
+        Ok(unit) => keep_taken(section, Item::Known(unit)),
         Err(error) => Err(moved_error(start.offset, error)),
     }
 }
 
-/// The item of no known kind of which these bytes were taken: its length field of so many bytes, and some of the
+/// Adds the item of no known kind of which these bytes were taken: its length field of so many bytes, and some of the
 /// `n` behind it.
 fn other_item<R: Read>(
     alloc: Global,
@@ -296,13 +320,16 @@ fn other_item<R: Read>(
     n: u64,
     taken: &mut Vec<u8>,
     reader: &mut Watched<R>,
-) -> Result<Item, ReadError>
+    section: &mut Section,
+) -> Result<(), ReadError>
     requires clear { fault_of reader.old ≡ None }
     requires begun { HasKind start.versions start.order start.offset n field taken.old.items false }
-    ensures found { (abbreviations : List ℕ) → IfOk result
-        (λ x. TakesItem start.versions start.order abbreviations start.offset
+    requires there { EndsAt start.versions start.order start.offset section.old }
+    ensures found { (abbreviations : List ℕ) → OnOk result
+        (AddsItem start.versions start.order abbreviations start.offset
         (behind taken.old.items (R.remaining (inner_of reader.old)))
-        (R.remaining (inner_of reader.new)) (item_of x)) }
+        (R.remaining (inner_of reader.new))
+        section.old section.new) }
     ensures broken { (abbreviations : List ℕ) → IfErr result
         (TakesNoItem start.versions start.order abbreviations start.offset
         (behind taken.old.items (R.remaining (inner_of reader.old)))
@@ -318,7 +345,8 @@ fn other_item<R: Read>(
         return Err(fault_at(start.offset + field as u64, Reason::Truncated));
     }
     let none = Vec::new(alloc);
-    Ok(Item::Other(std::mem::replace(taken, none)))
+    let bytes = std::mem::replace(taken, none);
+    keep_taken(section, Item::Other(bytes))
 }
 
 /// The fault of a unit that stands alone, where the unit begins at this start of the section. A table's isn't

@@ -1,14 +1,12 @@
-use Rattle.std.proofs.Common.{◌≡◌, ◌∙◌, Bool, true, false, List, [], ℕ, length, sym, ap, subst, arith}
-use Rattle.std.proofs.lemmas.Result.{err_from_is_err_and, IfOk-weaker, IfErr-weaker}
+use Rattle.std.proofs.Common.{◌≡◌, ◌∙◌, true, false, List, [], ℕ, length, sym, ap, subst, arith}
+use Rattle.std.proofs.lemmas.Result.{err_from_is_err_and, IfErr-weaker}
 use Rattle.dw_leb.specs.Watch.{inner_of}
 use Rattle.dw_leb.specs.declared.errors.ReadError.{ReadError}
 use Rattle.dw_feed.specs.Feed.{behind}
 use Rattle.dw_feed.specs.Taking.{behind_taken, kept_more}
-use Rattle.dw_section.specs.declared.item.Item.{Item as TheItem}
-use Rattle.dw_section.specs.Item.{version_and_type, ShowsKind}
-use Rattle.dw_section.specs.ItemView.{item_of}
-use Rattle.dw_section.specs.Reads.{HasKind, TakesNoItem}
-use Rattle.dw_section.proofs.ItemReads.{begins_size, length_few, behind_field, both_taken, item_from, kept_from, kind_cut, kind_taken, no_item_from, rest_failed}
+use Rattle.dw_section.specs.Item.{version_and_type}
+use Rattle.dw_section.specs.Reads.{TakesNoItem}
+use Rattle.dw_section.proofs.ItemReads.{begins_size, length_few, behind_field, both_taken, found_from, kept_from, kind_cut, kind_now, no_item_from, rest_failed}
 use Rattle.dw_section.proofs.reader.item_behind.Goals as goal
 
 pub returns-in_err-take_marks-clause-broken : goal.returns-in_err-take_marks-clause-broken
@@ -23,15 +21,13 @@ returns-in_err-take_marks-clause-memory g c =
     let p = err_from_is_err_and c.from_residual.result c.from_residual.ensures.1 in
     rw (p.1, p.2) (kept_more _ _ _ c.args.taken.now.items c.in_err-take_marks.field-0.0 (behind_taken c.args.taken.now.items _) c.in_err-take_marks.ensures.memory)
 
-pub whole_item-requires : goal.whole_item-requires
-whole_item-requires g c =
+pub whole_item-requires-clause-begun : goal.whole_item-requires-clause-begun
+whole_item-requires-clause-begun g c =
     let h = c.in_ok-take_marks.ensures.bytes in
-    let bytes : List ℕ = c.args.taken.now.items in
-    let field : length c.as_slice-field.result.now ≡ length bytes = ap length c.as_slice-field.ensures.value in
-    let marked = behind_field bytes h.0 c.as_slice.result.now (length c.as_slice-field.result.now) field (c.as_slice.ensures.value ∙ h.1) in
-    let shows : ShowsKind c.args.start.versions c.args.start.order c.args.n h.0 true = subst (λ (v : Bool). ShowsKind c.args.start.versions c.args.start.order c.args.n h.0 v) c.in-Ok-true.field-0-test (subst (λ (b : List ℕ). ShowsKind c.args.start.versions c.args.start.order c.args.n b c.in-Ok-true.field-0) marked c.in-Ok-true.ensures.found) in
-    let there = kind_taken c.args.start.versions c.args.start.order c.args.start.offset c.args.n (length c.as_slice-field.result.now) bytes h.0 true c.requires.begun field h.2 shows in
-    (c.args.n, length c.as_slice-field.result.now, subst (λ (b : List ℕ). HasKind c.args.start.versions c.args.start.order c.args.start.offset c.args.n (length c.as_slice-field.result.now) b true) (sym (c.as_slice-then-as_slice-field.ensures.value ∙ h.1)) there, omega (arith, c.if-as_slice-field.true, ap length c.as_slice-in-Ok-true.ensures.value, ap length c.as_slice-then-as_slice-field.ensures.value))
+    let there =
+    kind_now c.args.start.versions c.args.start.order c.args.start.offset c.args.n (length c.as_slice-field.result.now) c.args.taken.now.items h.0 c.as_slice.result.now c.as_slice-then-as_slice-field.result.now c.in-Ok-true.field-0 true
+    c.requires.begun (ap length c.as_slice-field.ensures.value) h.2 (c.as_slice.ensures.value ∙ h.1) c.in-Ok-true.ensures.found c.in-Ok-true.field-0-test (c.as_slice-then-as_slice-field.ensures.value ∙ h.1) in
+    (c.args.n, length c.as_slice-field.result.now, there, omega (arith, c.if-as_slice-field.true, ap length c.as_slice-in-Ok-true.ensures.value, ap length c.as_slice-then-as_slice-field.ensures.value))
 
 pub known_item-requires-clause-few : goal.known_item-requires-clause-few
 known_item-requires-clause-few g c =
@@ -40,25 +36,18 @@ known_item-requires-clause-few g c =
 
 pub known_item-requires-clause-begun : goal.known_item-requires-clause-begun
 known_item-requires-clause-begun g c =
-    let h = c.in_ok-take_marks.ensures.bytes in
-    let bytes : List ℕ = c.args.taken.now.items in
-    let now : List ℕ = c.take_marks.new.taken.items in
-    let field : length c.as_slice-field.result.now ≡ length bytes = ap length c.as_slice-field.ensures.value in
-    let marked = behind_field bytes h.0 c.as_slice.result.now (length c.as_slice-field.result.now) field (c.as_slice.ensures.value ∙ h.1) in
-    let shows : ShowsKind c.args.start.versions c.args.start.order c.args.n h.0 true = subst (λ (v : Bool). ShowsKind c.args.start.versions c.args.start.order c.args.n h.0 v) c.in-Ok-true.field-0-test (subst (λ (b : List ℕ). ShowsKind c.args.start.versions c.args.start.order c.args.n b c.in-Ok-true.field-0) marked c.in-Ok-true.ensures.found) in
-    let there = kind_taken c.args.start.versions c.args.start.order c.args.start.offset c.args.n (length c.as_slice-field.result.now) bytes h.0 true c.requires.begun field h.2 shows in
-    (c.args.n, length c.as_slice-field.result.now, subst (λ (b : List ℕ). HasKind c.args.start.versions c.args.start.order c.args.start.offset c.args.n (length c.as_slice-field.result.now) b true) (sym (c.as_slice-in-Ok-true-2.ensures.value ∙ h.1)) there)
+    let h = c.in_ok-take_marks.ensures.bytes in (
+      c.args.n,
+      length c.as_slice-field.result.now,
+      kind_now c.args.start.versions c.args.start.order c.args.start.offset c.args.n (length c.as_slice-field.result.now) c.args.taken.now.items h.0 c.as_slice.result.now c.as_slice-in-Ok-true-2.result.now c.in-Ok-true.field-0 true
+          c.requires.begun (ap length c.as_slice-field.ensures.value) h.2 (c.as_slice.ensures.value ∙ h.1) c.in-Ok-true.ensures.found c.in-Ok-true.field-0-test (c.as_slice-in-Ok-true-2.ensures.value ∙ h.1),
+    )
 
 pub other_item-requires-clause-begun : goal.other_item-requires-clause-begun
 other_item-requires-clause-begun g c =
     let h = c.in_ok-take_marks.ensures.bytes in
-    let bytes : List ℕ = c.args.taken.now.items in
-    let now : List ℕ = c.take_marks.new.taken.items in
-    let field : length c.as_slice-field.result.now ≡ length bytes = ap length c.as_slice-field.ensures.value in
-    let marked = behind_field bytes h.0 c.as_slice.result.now (length c.as_slice-field.result.now) field (c.as_slice.ensures.value ∙ h.1) in
-    let shows : ShowsKind c.args.start.versions c.args.start.order c.args.n h.0 false = subst (λ (v : Bool). ShowsKind c.args.start.versions c.args.start.order c.args.n h.0 v) c.in-Ok-false.field-0-test (subst (λ (b : List ℕ). ShowsKind c.args.start.versions c.args.start.order c.args.n b c.in-Ok-false.field-0) marked c.in-Ok-false.ensures.found) in
-    let there = kind_taken c.args.start.versions c.args.start.order c.args.start.offset c.args.n (length c.as_slice-field.result.now) bytes h.0 false c.requires.begun field h.2 shows in
-    subst (λ (b : List ℕ). HasKind c.args.start.versions c.args.start.order c.args.start.offset c.args.n (length c.as_slice-field.result.now) b false) (sym h.1) there
+    kind_now c.args.start.versions c.args.start.order c.args.start.offset c.args.n (length c.as_slice-field.result.now) c.args.taken.now.items h.0 c.as_slice.result.now c.take_marks.new.taken.items c.in-Ok-false.field-0 false
+    c.requires.begun (ap length c.as_slice-field.ensures.value) h.2 (c.as_slice.ensures.value ∙ h.1) c.in-Ok-false.ensures.found c.in-Ok-false.field-0-test h.1
 
 pub returns-else-as_slice-field-clause-found : goal.returns-else-as_slice-field-clause-found
 returns-else-as_slice-field-clause-found g c =
@@ -67,7 +56,7 @@ returns-else-as_slice-field-clause-found g c =
     let old = g.R.Read.remaining (inner_of c.args.reader.now) in
     let mid = g.R.Read.remaining (inner_of c.take_marks.new.reader) in
     let took = both_taken old mid c.args.taken.now.items h.0 now (c.as_slice-in-Ok-true-2.ensures.value ∙ h.1) h.3 in
-    IfOk-weaker c.known_item.result _ _ (λ x. item_from c.args.start.versions c.args.start.order c.args.tables.now c.args.start.offset (behind c.args.taken.now.items old) mid _ now (item_of x) took) c.known_item.ensures.found
+    found_from c.args.start.versions c.args.start.order c.args.tables.now c.args.start.offset (behind c.args.taken.now.items old) mid _ now c.args.section.now c.known_item.new.section c.known_item.result took c.known_item.ensures.found
 
 pub returns-else-as_slice-field-clause-broken : goal.returns-else-as_slice-field-clause-broken
 returns-else-as_slice-field-clause-broken g c =
@@ -85,7 +74,7 @@ returns-else-as_slice-field-clause-memory g c =
     let old = g.R.Read.remaining (inner_of c.args.reader.now) in
     let mid = g.R.Read.remaining (inner_of c.take_marks.new.reader) in
     let took = both_taken old mid c.args.taken.now.items h.0 now (c.as_slice-in-Ok-true-2.ensures.value ∙ h.1) h.3 in
-    kept_from TheItem (behind c.args.taken.now.items old) mid _ now c.known_item.result took c.known_item.ensures.memory
+    kept_from (Unit {0}) (behind c.args.taken.now.items old) mid _ now c.known_item.result took c.known_item.ensures.memory
 
 pub returns-in-Ok-false-clause-found : goal.returns-in-Ok-false-clause-found
 returns-in-Ok-false-clause-found g c =
@@ -94,7 +83,7 @@ returns-in-Ok-false-clause-found g c =
     let old = g.R.Read.remaining (inner_of c.args.reader.now) in
     let mid = g.R.Read.remaining (inner_of c.take_marks.new.reader) in
     let took = both_taken old mid c.args.taken.now.items h.0 now h.1 h.3 in
-    IfOk-weaker c.other_item.result _ _ (λ x. item_from c.args.start.versions c.args.start.order c.args.tables.now c.args.start.offset (behind c.args.taken.now.items old) mid _ now (item_of x) took) (c.other_item.ensures.found c.args.tables.now)
+    found_from c.args.start.versions c.args.start.order c.args.tables.now c.args.start.offset (behind c.args.taken.now.items old) mid _ now c.args.section.now c.other_item.new.section c.other_item.result took (c.other_item.ensures.found c.args.tables.now)
 
 pub returns-in-Ok-false-clause-broken : goal.returns-in-Ok-false-clause-broken
 returns-in-Ok-false-clause-broken g c =
@@ -112,7 +101,7 @@ returns-in-Ok-false-clause-memory g c =
     let old = g.R.Read.remaining (inner_of c.args.reader.now) in
     let mid = g.R.Read.remaining (inner_of c.take_marks.new.reader) in
     let took = both_taken old mid c.args.taken.now.items h.0 now h.1 h.3 in
-    kept_from TheItem (behind c.args.taken.now.items old) mid _ now c.other_item.result took c.other_item.ensures.memory
+    kept_from (Unit {0}) (behind c.args.taken.now.items old) mid _ now c.other_item.result took c.other_item.ensures.memory
 
 pub returns-in-Err-clause-broken : goal.returns-in-Err-clause-broken
 returns-in-Err-clause-broken g c =
@@ -133,7 +122,7 @@ returns-then-as_slice-field-clause-found g c =
     let old = g.R.Read.remaining (inner_of c.args.reader.now) in
     let mid = g.R.Read.remaining (inner_of c.take_marks.new.reader) in
     let took = both_taken old mid c.args.taken.now.items h.0 now (c.as_slice-then-as_slice-field.ensures.value ∙ h.1) h.3 in
-    IfOk-weaker c.whole_item.result _ _ (λ x. item_from c.args.start.versions c.args.start.order c.args.tables.now c.args.start.offset (behind c.args.taken.now.items old) mid mid now (item_of x) took) (c.whole_item.ensures.found mid)
+    found_from c.args.start.versions c.args.start.order c.args.tables.now c.args.start.offset (behind c.args.taken.now.items old) mid mid now c.args.section.now c.whole_item.new.section c.whole_item.result took (c.whole_item.ensures.found mid)
 
 pub returns-then-as_slice-field-clause-broken : goal.returns-then-as_slice-field-clause-broken
 returns-then-as_slice-field-clause-broken g c =
@@ -151,4 +140,4 @@ returns-then-as_slice-field-clause-memory g c =
     let old = g.R.Read.remaining (inner_of c.args.reader.now) in
     let mid = g.R.Read.remaining (inner_of c.take_marks.new.reader) in
     let took = both_taken old mid c.args.taken.now.items h.0 now (c.as_slice-then-as_slice-field.ensures.value ∙ h.1) h.3 in
-    kept_from TheItem (behind c.args.taken.now.items old) mid mid now c.whole_item.result took (c.whole_item.ensures.memory mid)
+    kept_from (Unit {0}) (behind c.args.taken.now.items old) mid mid now c.whole_item.result took (c.whole_item.ensures.memory mid)
