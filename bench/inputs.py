@@ -1,5 +1,5 @@
 #!/usr/bin/env python3
-"""Makes sections over which a change for speed can make calls dearer: bare entries, tables, long rows, look-ups, types, values one by one.
+"""Makes sections over which a change for speed can make calls dearer: bare entries, tables, long rows, look-ups, types, values one by one, small units.
 
 usage: bench/inputs.py OUT [NAME..]
 
@@ -8,6 +8,7 @@ over them. The tables of `tables` are those of the units in this folder.
 """
 
 import os
+import random
 import struct
 import sys
 
@@ -170,6 +171,49 @@ def functions(count, *children):
     return {"info": unit(body) * 50, "abbrev": TYPES}
 
 
+# A root without children of a language, a table of 12 bytes for it with two numbers more, and that of a type unit: its root, a structure and a member.
+LEAF = declaration(1, 0x11, 0, (0x13, 0x0B)) + b"\0"
+LEAF_OF_THREE = declaration(1, 0x11, 0, (0x13, 0x05), (0x36, 0x0B), (0x17, 0x0B)) + b"\0"
+OF_A_TYPE = declaration(1, 0x41, 1, (0x13, 0x05)) + declaration(2, 0x13, 1, (0x03, 0x08), (0x0B, 0x0B)) + declaration(3, 0x0D, 0, (0x03, 0x08), (0x49, 0x13)) + b"\0"
+
+
+def small():
+    """Units of 14 bytes over one table."""
+    return {"info": unit(b"\1\x1d") * 300_000, "abbrev": LEAF}
+
+
+def small_tables():
+    """Units of 17 bytes with a table each."""
+    count, size = 147_000, len(LEAF_OF_THREE)
+    return {"info": b"".join(unit(b"\1\x1d\0\1\2", at * size) for at in range(count)), "abbrev": LEAF_OF_THREE * count}
+
+
+def small_types():
+    """Type units of 56 bytes: a structure whose two members are of it."""
+    at = 27
+    members = b"".join(b"\3" + name + b"\0" + four(at) for name in (b"a", b"b"))
+
+    def one(number):
+        body = b"\1\x1d\0" + b"\2S%09d\0\x08" % number + members + b"\0\0"
+        return struct.pack("<IHBBIQI", len(body) + 20, 5, 2, 8, 0, 0x1234567800000000 + number, at) + body
+
+    return {"info": b"".join(map(one, range(80_000))), "abbrev": OF_A_TYPE}
+
+
+def leb_rows():
+    """Rows of six numbers of one to five bytes, four without and two with a sign, in units of 100,000 bytes."""
+    chance = random.Random(1)
+
+    def number():
+        return uleb(chance.getrandbits(chance.choice([3, 7, 10, 14, 20, 30])))
+
+    body = b"\1"
+    while len(body) < 100_000:
+        body += b"\2" + b"".join(number() for _ in range(6))
+    pairs = [(0x3A, 0x0F), (0x3B, 0x0F), (0x39, 0x0F), (0x0B, 0x0F), (0x38, 0x0D), (0x1C, 0x0D)]
+    return {"info": unit(body + b"\0") * 40, "abbrev": ROOT + declaration(2, 0x34, 0, *pairs) + b"\0"}
+
+
 MADE = {
     "bare": bare,
     "chains": chains,
@@ -189,6 +233,10 @@ MADE = {
     "labels": lambda: functions(20_000, (7, POINTER), *[(8,)] * 35),
     "many": lambda: functions(3_000, *[(7, BASE)] * 187, *[(7, TO_ARRAY)] * 3),
     "arrays": lambda: functions(20_000, *[(7, TO_ARRAY)] * 10),
+    "small": small,
+    "small-tables": small_tables,
+    "small-types": small_types,
+    "leb-rows": leb_rows,
     **{f"look-{many}": lambda many=many: looked_up(1, many) for many in (300, 8_000, 32_768, 65_534, 300_000)},
     **{f"look-{trees}x{many}": lambda trees=trees, many=many: looked_up(trees, many) for trees, many in ((2_000, 1_000), (200, 10_000), (20_000, 100))},
 }

@@ -15,9 +15,10 @@ crate are put into its files at once and looked at by `rt check --only ''`, whic
     not judged  only its proof file names what is gone, or nothing is told of it
     accepted    it is proved
 
-An early return that isn't judged is tried with its value at the end instead, behind the whole body, of which nothing is gone then. --again tries once more what wasn't judged.
+An early return that isn't judged is tried with its value at the end instead, behind the whole body, of which nothing is gone then. What isn't judged then is tried without the answers of its
+proof file that name what is gone, so that their goals are searched for: it is refused "by a search" where one isn't found. --again tries once more what wasn't judged.
 
-A verdict is kept in mutants/NAME.tsv, by a sum of the mutant's text and of the sources of its crate but for proofs (what its contracts say); what stands there isn't tried again. Of each accepted
+A verdict is kept in mutants/NAME.tsv, by a sum of the mutant's text and one of what its crate and those below say, besides proofs, comments and bodies (which are the mutants'); what stands there isn't tried again. Of each accepted
 one a line of mutants/lines.tsv says why (`ID reason`, or `CRATE::FUNCTION reason` for all of a function): it means the same, or no clause can say it and a case or a test is named that
 catches it. --report writes docs/mutants.md out of both, and its status is 1 where an accepted one has no line. The libraries begin with what `rt lib` and `rt check` kept in the tree at hand, where nothing may run then. `.ci/run` doesn't
 run this: a crate takes minutes to an hour, and all of them hours.
@@ -26,10 +27,12 @@ run this: a crate takes minutes to an hour, and all of them hours.
 import argparse
 import collections
 import csv
+import dataclasses
 import hashlib
 import itertools
 import os
 import re
+import shutil
 import sys
 from concurrent.futures import ThreadPoolExecutor
 
@@ -42,6 +45,10 @@ LINES = f"{FOLDER}/lines.tsv"
 COLUMNS = ["id", "sum", "function", "kind", "change", "verdict", "goals"]
 REFUSED, NOT_JUDGED, ACCEPTED, BROKEN = "refused", "not judged", "accepted", "doesn't compile"
 VERDICTS = {rounds.REFUSED: REFUSED, rounds.ACCEPTED: ACCEPTED, rounds.BAD: BROKEN, rounds.WEAK: NOT_JUDGED, rounds.UNCLEAR: NOT_JUDGED}
+
+# How often answers that name what is gone are left out: without one another may do so.
+SEARCHES = 3
+BY_SEARCH = "by a search"
 
 # What an error of the front end says of a place.
 ERROR = re.compile(r"(?m)^(?:rattle: )?(?:\./)?(src/\S+?):(\d+):\d+: error")
@@ -280,14 +287,22 @@ def in_rounds(edits, size):
 
 
 def sum_of(crate, top):
-    """A sum of what the contracts of a crate stand on: all sources but proofs, of it and of those below."""
+    """A sum of what the verdicts of a crate stand on: what it and those below it say, besides comments, proofs and the bodies of functions."""
     found = hashlib.sha256(clones.version().encode())
     for one in [*crate.below, crate]:
-        for file in clones.files_of(one.path(top)):
+        judged = rounds.Judged(one.name, one.path(top))
+        for file in clones.files_of(judged.folder):
             if file.endswith(clones.READ) and "/proofs/" not in file:
-                with open(file, "rb") as opened:
-                    found.update(repr((os.path.relpath(file, top), opened.read())).encode())
+                found.update(repr((os.path.relpath(file, top), said_by(judged, os.path.relpath(file, judged.folder)))).encode())
     return found.hexdigest()[:16]
+
+
+def said_by(crate, path):
+    """What a file says besides comments and the bodies of its functions."""
+    text = rounds.text_of(crate, path)
+    for it in reversed(rounds.functions_in(crate, path, text) if path.endswith(".rt") else []):
+        text = text[: it.begin] + text[it.end :]
+    return re.sub(r"(?m)^ *(?://|--).*\n", "", text)
 
 
 def kept(name):
@@ -326,10 +341,19 @@ def try_crate(name, room, given):
     for some in in_rounds(compiled, given.round):
         rounds.try_round(judged, some)
         try_at_end(judged, [it for it in some if it.at_end and VERDICTS[it.kind] == NOT_JUDGED])
+        try_by_search(judged, [it for it in some if VERDICTS[it.kind] == NOT_JUDGED])
         rows |= {it.name: row_of(it, base) for it in some}
         keep(name, rows)
         print(f"{name}: {counts(rows)}", flush=True)
     print(f"{name}: {counts(rows)}; {judged.checks} checks, {judged.seconds:.0f} s of processor", flush=True)
+
+
+def try_apart(crate, first, room, given):
+    """Tries the mutants of a crate in a clone of its own, which is gone then."""
+    clones.clone(clones.TOP, room)
+    clones.take_kept(first, room, [*crate.below, crate])
+    try_crate(crate.name, room, given)
+    shutil.rmtree(room)
 
 
 def try_at_end(judged, edits):
@@ -341,6 +365,42 @@ def try_at_end(judged, edits):
         other = others[it.name]
         if VERDICTS[other.kind] in (REFUSED, ACCEPTED):
             it.kind, it.what, it.change = other.kind, other.what, f"{it.change} at the end"
+
+
+def try_by_search(judged, edits):
+    """Tries these mutants without the answers that name what is gone, and takes over what is told of them so."""
+    left = [(it, it) for it in edits]
+    for _ in range(SEARCHES):
+        left = [(it, other) for it, other in ((it, searched(judged, last)) for it, last in left) if other]
+        if left:
+            rounds.try_round(judged, [other for _, other in left])
+        for it, other in left:
+            if VERDICTS[other.kind] in (REFUSED, ACCEPTED):
+                it.kind, it.what = other.kind, f" at {BY_SEARCH}:{other.what.removeprefix(' at')}"
+        left = [(it, other) for it, other in left if VERDICTS[other.kind] == NOT_JUDGED]
+
+
+def searched(judged, edit):
+    """The mutant with its proof files without the answers that name what is gone, and all that cites them; None where that leaves out nothing."""
+    proofs = dict(edit.proofs)
+    for name in edit.copied if not proofs else []:
+        proofs |= rounds.proofs_of_copy(judged, edit, name)
+    for key in edit.within if not edit.copied and not proofs else []:
+        path = f"proofs/{key.replace('::', '/')}/Answers.antt"
+        proofs |= {path: rounds.text_of(judged, path)} if os.path.isfile(f"{judged.folder}/{path}") else {}
+    fewer = {path: without(text, set(edit.gone)) if path.endswith("/Answers.antt") else text for path, text in proofs.items()}
+    return dataclasses.replace(edit, proofs=fewer, gone=[], kind="", what="") if edit.gone and fewer != proofs else None
+
+
+def without(text, gone):
+    """A proof file without these answers, and without all that cites them."""
+    head, *parts = rounds.parts_of(text)
+    while True:
+        kept = [it for it in parts if gone.isdisjoint(re.findall(r"[^\s(){}\[\],.:]+", it.text))]
+        if len(kept) == len(parts):
+            return "\n\n".join(it.text for it in [head, *kept])
+        gone = gone | {name for it in parts if it not in kept for name in re.findall(r"(?m)^(?:abbrev )?(?:pub )?(\S+) :", it.text)}
+        parts = kept
 
 
 def counts(rows):
@@ -357,15 +417,18 @@ def report():
     with open(LINES, encoding="utf-8") as file:
         lines = dict(it.rstrip("\n").split("\t", 1) for it in file if "\t" in it)
     out = ["# Mutants", "", "Small changes of functions, made by `scripts/mutants.py`, and what the prover says of them. What doesn't compile doesn't count.", ""]
-    out += ["| Crate | Tried | Refused | Not judged | Accepted |", "|---|--:|--:|--:|--:|"]
+    out += ["Refused by a search is where an answer of the proof file named what was gone, and without it no proof of the goal was found.", ""]
+    out += ["| Crate | Tried | Refused | of these by a search | Not judged | Accepted |", "|---|--:|--:|--:|--:|--:|"]
     total, accepted = collections.Counter(), []
     for name in names:
         rows = [it for it in kept(name).values() if it["verdict"] != BROKEN]
         found = collections.Counter(it["verdict"] for it in rows)
+        found[BY_SEARCH] = sum(it["verdict"] == REFUSED and it["goals"].startswith(BY_SEARCH) for it in rows)
         total += found
         accepted += [(name, it) for it in rows if it["verdict"] == ACCEPTED]
-        out.append(f"| `{name}` | {len(rows)} | {found[REFUSED]} | {found[NOT_JUDGED]} | {found[ACCEPTED]} |")
-    out.append(f"| all | {total.total()} | {total[REFUSED]} | {total[NOT_JUDGED]} | {total[ACCEPTED]} |")
+        out.append(f"| `{name}` | {len(rows)} | {found[REFUSED]} | {found[BY_SEARCH]} | {found[NOT_JUDGED]} | {found[ACCEPTED]} |")
+    tried = total.total() - total[BY_SEARCH]
+    out.append(f"| all | {tried} | {total[REFUSED]} | {total[BY_SEARCH]} | {total[NOT_JUDGED]} | {total[ACCEPTED]} |")
     out += ["", "## Accepted", "", "| Function | Changes | Why they pass |", "|---|---|---|"]
     missing, told = 0, collections.defaultdict(list)
     for name, it in accepted:
@@ -411,13 +474,7 @@ def main():
         for crate in libraries:
             print(f"{crate.name}: library, {clones.build(first, crate):.0f} s of processor", flush=True)
         with ThreadPoolExecutor(max(1, given.side_by_side)) as pool:
-            runs = []
-            for number, crate in enumerate(wanted, 2):
-                room = f"{folder}/{number}"
-                clones.clone(clones.TOP, room)
-                clones.take_kept(first, room, libraries)
-                runs.append(pool.submit(try_crate, crate.name, room, given))
-            for it in runs:
+            for it in [pool.submit(try_apart, crate, first, f"{folder}/{number}", given) for number, crate in enumerate(wanted, 2)]:
                 it.result()
     return 0
 

@@ -3,11 +3,11 @@
 
 Usage: scripts/peers.py PROGRAM FILE [--gimli WALK] [--turns N] [--csv OUT]
 
-PROGRAM is the built `dwarf` (crates/dwarf/out/dwarf), and FILE a linked ELF file of version 5. The peers are `readelf` and `llvm-dwarfdump`, where they are
-there, and with --gimli a program that walks (`raw`), checks and shows such sections by gimli, called `WALK JOB DIR` over a folder of files `info`, `abbrev`, `str`,
-`line_str` and `str_offsets`. They take turns, N of them (by default nine), and the middle one counts. What is told of each job and reader are the seconds of
-processor and the megabytes of .debug_info a second, as a table, and with --csv as lines `job,reader,seconds,megabytes_a_second`, of which
-scripts/chart.py draws a chart.
+PROGRAM is the built `dwarf` (crates/dwarf/out/dwarf), and FILE a linked ELF file of version 5, or a folder that bench/inputs.py made. The peers are `readelf` and
+`llvm-dwarfdump`, where they are there and FILE is no folder, and with --gimli a program that walks (`raw`), checks and shows such sections by gimli, called `WALK JOB DIR` over
+a folder of files `info`, `abbrev`, `str`, `line_str` and `str_offsets`. They take turns, N of them (by default nine), and the middle one counts. What is told of each job and
+reader are the seconds of processor, the megabytes of .debug_info a second, and the most memory that it took at any time for each byte of all sections, as a table, and
+with --csv as lines `job,reader,seconds,megabytes_a_second`, of which scripts/chart.py draws a chart.
 """
 
 import argparse
@@ -23,12 +23,26 @@ import elf_sections
 NAMES = {"debug_info": "info", "debug_abbrev": "abbrev", "debug_str": "str", "debug_line_str": "line_str", "debug_str_offsets": "str_offsets"}
 
 
-def seconds_of(words):
-    """The seconds of processor of a command whose output is thrown away, or nothing where it fails."""
+def taken_by(words):
+    """The seconds of processor of a command whose output is thrown away and its peak of memory in bytes, or nothing where it fails."""
     ran = subprocess.Popen(words, stdin=subprocess.DEVNULL, stdout=subprocess.DEVNULL, stderr=subprocess.DEVNULL)
     _, status, used = os.wait4(ran.pid, 0)
     ran.returncode = os.waitstatus_to_exitcode(status)
-    return used.ru_utime + used.ru_stime if ran.returncode in (0, 1) else None
+    return (used.ru_utime + used.ru_stime, used.ru_maxrss * 1024) if ran.returncode in (0, 1) else None
+
+
+def put_sections(file, folder):
+    """Puts the sections of an ELF file, or of a folder of inputs, into a folder, those that aren't there empty."""
+    if not os.path.isdir(file):
+        elf_sections.extract(file, folder)
+    for name, short in NAMES.items():
+        there, given = f"{folder}/{short}", os.path.join(file, short.replace("_", "-"))
+        if not os.path.isdir(file):
+            os.rename(f"{folder}/{name}", there)
+        elif os.path.isfile(given):
+            shutil.copyfile(given, there)
+        else:
+            open(there, "wb").close()
 
 
 def commands(given, folder):
@@ -38,6 +52,8 @@ def commands(given, folder):
     if given.gimli:
         for job, word in (("walk", "raw"), ("check", "check"), ("text", "show")):
             found[job, "gimli"] = [given.gimli, word, folder]
+    if os.path.isdir(given.file):
+        return found
     if shutil.which("readelf"):
         found["text", "readelf"] = ["readelf", "--debug-dump=info", given.file]
     if shutil.which("llvm-dwarfdump"):
@@ -54,22 +70,24 @@ def main():
     ask.add_argument("--csv")
     given = ask.parse_args()
     with tempfile.TemporaryDirectory(prefix="peers-") as folder:
-        elf_sections.extract(given.file, folder)
-        for name, short in NAMES.items():
-            os.rename(f"{folder}/{name}", f"{folder}/{short}")
-        size = os.path.getsize(f"{folder}/info") / 1e6
+        put_sections(given.file, folder)
+        sizes = [os.path.getsize(f"{folder}/{short}") for short in NAMES.values()]
         of_each = commands(given, folder)
         taken = {key: [] for key in of_each}
         for _ in range(given.turns):
             for key, words in of_each.items():
-                taken[key].append(seconds_of(words))
-    rows = [(*key, statistics.median(all_of), size / statistics.median(all_of)) for key, all_of in taken.items() if None not in all_of]
-    print(f"{size:.1f} MB of .debug_info; the middle one of {given.turns} turns\n\n| Job | Reader | Seconds | MB a second |\n|---|---|--:|--:|")
-    for job, reader, seconds, speed in rows:
-        print(f"| {job} | {reader} | {seconds:.3f} | {speed:.1f} |")
+                taken[key].append(taken_by(words))
+    size, rows = sizes[0] / 1e6, []
+    for key, all_of in taken.items():
+        if None not in all_of:
+            seconds = statistics.median(it for it, _ in all_of)
+            rows.append((*key, seconds, size / seconds, max(it for _, it in all_of) / sum(sizes)))
+    print(f"{size:.1f} MB of .debug_info; the middle one of {given.turns} turns\n\n| Job | Reader | Seconds | MB a second | Bytes a byte |\n|---|---|--:|--:|--:|")
+    for job, reader, seconds, speed, peak in rows:
+        print(f"| {job} | {reader} | {seconds:.3f} | {speed:.1f} | {peak:.1f} |")
     if given.csv:
         with open(given.csv, "w", encoding="utf-8", newline="") as out:
-            csv.writer(out, lineterminator="\n").writerows([("job", "reader", "seconds", "megabytes_a_second"), *((j, r, f"{s:.3f}", f"{m:.1f}") for j, r, s, m in rows)])
+            csv.writer(out, lineterminator="\n").writerows([("job", "reader", "seconds", "megabytes_a_second"), *((j, r, f"{s:.3f}", f"{m:.1f}") for j, r, s, m, _ in rows)])
 
 
 if __name__ == "__main__":

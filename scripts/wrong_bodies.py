@@ -123,6 +123,10 @@ class Edit:
     within: set = field(default_factory=set)
     # The functions that it changes in copies, by their names, each with its file.
     copied: dict = field(default_factory=dict)
+    # Proof files that are put in the place of those that are there, by their paths.
+    proofs: dict = field(default_factory=dict)
+    # What its proof files have that only names what it took away, by the names there.
+    gone: list = field(default_factory=list)
     is_alone: bool = False
     kind: str = ""
     what: str = ""
@@ -250,6 +254,8 @@ def texts_with(crate, edits):
             at = behind(text, it)
             text = text[:at] + "".join(f"\n{one}" for one in of_file.get(it.name, [])) + text[at:]
         texts[path] = text
+    for edit in edits:
+        texts |= edit.proofs
     return texts
 
 
@@ -539,6 +545,7 @@ def judge(edit, said, refused):
         edit.set(WEAK, f": refused at {', '.join(real)} and not at {edit.clause}")
     elif goals:
         edit.set(WEAK, ": only its proof file names what the edit took away")
+        edit.gone = sorted({goal for goal, _ in goals if goal})
     elif is_proved:
         edit.set(ACCEPTED)
     else:
