@@ -736,10 +736,10 @@ def unchanged(edits):
 def try_all(work, folder, given):
     """Tries the edits of all these crates in clones in this folder, and returns what went wrong with the script itself. The libraries are built
     in the first clone, from the lowest on. The rounds of a crate begin as soon as those stand that it needs, in another clone."""
-    first, kept = f"{folder}/1", f"{folder}/kept"
-    clones.clone(clones.TOP, first)
-    # (nothing ever runs in this one, so it may be copied at any time)
-    clones.clone(clones.TOP, kept)
+    # (nothing ever runs in the second one, so it may be copied at any time; where one runs at a time, the first is at rest by then)
+    first, kept = f"{folder}/1", f"{folder}/{'1' if given.side_by_side <= 1 else 'kept'}"
+    for clone in {first, kept}:
+        clones.clone(clones.TOP, clone)
     taken = [] if given.from_nothing else clones.take_kept(clones.TOP, first, clones.with_all_below([it.crate for it in work]))
     if taken:
         print(f"taken over from the tree at hand: what was kept of {', '.join(taken)}", flush=True)
@@ -759,7 +759,8 @@ def try_all(work, folder, given):
         for count, crate in enumerate(libraries):
             begin_what_can(libraries[:count])
             print(f"{crate.name}: library, {clones.build(first, crate):.0f} s of processor", flush=True)
-            clones.take_kept(first, kept, [crate])
+            if kept != first:
+                clones.take_kept(first, kept, [crate])
         begin_what_can(libraries)
 
     with tempfile.TemporaryDirectory(prefix="wrong-bodies-self-") as own, ThreadPoolExecutor(max(1, given.side_by_side)) as pool:
