@@ -19,8 +19,8 @@ An early return that isn't judged is tried with its value at the end instead, be
 proof file that name what is gone, so that their goals are searched for: it is refused "by a search" where one isn't found. --again tries once more what wasn't judged.
 
 A verdict is kept in mutants/NAME.tsv, by a sum of the mutant's text and one of what its crate and those below say, besides proofs, comments and bodies (which are the mutants'); what stands there isn't tried again. Of each accepted
-one a line of mutants/lines.tsv says why (`ID reason`, or `CRATE::FUNCTION reason` for all of a function): it means the same, or no clause can say it and a case or a test is named that
-catches it. --report writes docs/mutants.md out of both, and its status is 1 where an accepted one has no line. The libraries begin with what `rt lib` and `rt check` kept in the tree at hand, where nothing may run then. `.ci/run` doesn't
+one a line of mutants/lines.tsv says why (`ID reason`, or `CRATE::FUNCTION reason` for all of a function): it means the same, or costs time or memory alone, or no clause can say it and a
+case or a test is named that catches it. --report writes docs/mutants.md out of both, and its status is 1 where an accepted one has no line. The libraries begin with what `rt lib` and `rt check` kept in the tree at hand, where nothing may run then. `.ci/run` doesn't
 run this: a crate takes minutes to an hour, and all of them hours.
 """
 
@@ -49,6 +49,9 @@ VERDICTS = {rounds.REFUSED: REFUSED, rounds.ACCEPTED: ACCEPTED, rounds.BAD: BROK
 # How often answers that name what is gone are left out: without one another may do so.
 SEARCHES = 3
 BY_SEARCH = "by a search"
+
+# What a line says of a mutant whose answers are the same.
+SAME = re.compile(r"means the same|a faster way|costs (?:time|memory|time or memory) alone")
 
 # What an error of the front end says of a place.
 ERROR = re.compile(r"(?m)^(?:rattle: )?(?:\./)?(src/\S+?):(\d+):\d+: error")
@@ -411,29 +414,36 @@ def counts(rows):
 # ---- the report
 
 
+def row_of_table(name, found):
+    told = [found["tried"], found[REFUSED], found[BY_SEARCH], found[NOT_JUDGED], found["same"], found[ACCEPTED] - found["same"]]
+    return f"| {name} | {' | '.join(map(str, told))} |"
+
+
 def report():
     """Writes docs/mutants.md, and returns how many accepted mutants have no line."""
     names = sorted(it.removesuffix(".tsv") for it in os.listdir(FOLDER) if it.endswith(".tsv") and it != "lines.tsv")
     with open(LINES, encoding="utf-8") as file:
         lines = dict(it.rstrip("\n").split("\t", 1) for it in file if "\t" in it)
     out = ["# Mutants", "", "Small changes of functions, made by `scripts/mutants.py`, and what the prover says of them. What doesn't compile doesn't count.", ""]
-    out += ["Refused by a search is where an answer of the proof file named what was gone, and without it no proof of the goal was found.", ""]
-    out += ["| Crate | Tried | Refused | of these by a search | Not judged | Accepted |", "|---|--:|--:|--:|--:|--:|"]
+    out += ["Refused by a search is where an answer of the proof file named what was gone, and without it no proof of the goal was found. The prover accepts those of the last two columns:"]
+    out += ["those of the first answer the same, though some cost time or memory, and of the others the list below says which case or test fails, where one can.", ""]
+    out += ["| Crate | Tried | Refused | of these by a search | Not judged | Same answers | Others accepted |", "|---|--:|--:|--:|--:|--:|--:|"]
     total, accepted = collections.Counter(), []
     for name in names:
         rows = [it for it in kept(name).values() if it["verdict"] != BROKEN]
+        passed = [it | {"why": lines.get(it["id"]) or lines.get(f"{name}::{it['function']}", "")} for it in rows if it["verdict"] == ACCEPTED]
         found = collections.Counter(it["verdict"] for it in rows)
         found[BY_SEARCH] = sum(it["verdict"] == REFUSED and it["goals"].startswith(BY_SEARCH) for it in rows)
+        found["tried"], found["same"] = len(rows), sum(bool(SAME.search(it["why"])) for it in passed)
         total += found
-        accepted += [(name, it) for it in rows if it["verdict"] == ACCEPTED]
-        out.append(f"| `{name}` | {len(rows)} | {found[REFUSED]} | {found[BY_SEARCH]} | {found[NOT_JUDGED]} | {found[ACCEPTED]} |")
-    tried = total.total() - total[BY_SEARCH]
-    out.append(f"| all | {tried} | {total[REFUSED]} | {total[BY_SEARCH]} | {total[NOT_JUDGED]} | {total[ACCEPTED]} |")
+        accepted += [(name, it) for it in passed]
+        out.append(row_of_table(f"`{name}`", found))
+    out.append(row_of_table("all", total))
     out += ["", "## Accepted", "", "| Function | Changes | Why they pass |", "|---|---|---|"]
     missing, told = 0, collections.defaultdict(list)
     for name, it in accepted:
         function = f"{name}::{it['function']}"
-        why = lines.get(it["id"]) or lines.get(function, "")
+        why = it["why"]
         missing += not why
         told[function, why].append("`" + it["change"].replace("|", "\\|") + "`")
     out += [f"| `{function}` | {'; '.join(changes)} | {why or '**nothing is written of it**'} |" for (function, why), changes in told.items()]
