@@ -334,7 +334,8 @@ def try_crate(name, room, given):
     base, rows = sum_of(crate, clones.TOP), kept(name)
     judged = rounds.Judged(name, crate.path(room), given.logs)
     edits = list(all_mutants(judged, given))
-    ids = {it.name for it in edits}
+    # (those that another --most took stay)
+    ids = {it.name for it in all_mutants(judged, argparse.Namespace(function=given.function, most=10**6))}
     if not given.function:
         rows = {key: row for key, row in rows.items() if key in ids}
     left = [it for it in edits if rows.get(it.name, {}).get("sum") != base or given.again and rows[it.name]["verdict"] == NOT_JUDGED]
