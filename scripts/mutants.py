@@ -20,7 +20,7 @@ proof file that name what is gone, so that their goals are searched for: it is r
 
 A verdict is kept in mutants/NAME.tsv, by a sum of the mutant's text and one of what its crate and those below say, besides proofs, comments and bodies (which are the mutants'); what stands there isn't tried again. Of each accepted
 one a line of mutants/lines.tsv says why (`ID reason`, or `CRATE::FUNCTION reason` for all of a function): it means the same, or costs time or memory alone, or no clause can say it and a
-case or a test is named that catches it. --report writes docs/mutants.md out of both, and its status is 1 where an accepted one has no line. The libraries begin with what `rt lib` and `rt check` kept in the tree at hand, where nothing may run then. `.ci/run` doesn't
+case or a test is named that catches it. --report writes docs/mutants.md out of both, and its status is 1 where an accepted one has no line, or the README has other sums. The libraries begin with what `rt lib` and `rt check` kept in the tree at hand, where nothing may run then. `.ci/run` doesn't
 run this: a crate takes minutes to an hour, and all of them hours.
 """
 
@@ -450,6 +450,11 @@ def report():
     out += [f"| `{function}` | {'; '.join(changes)} | {why or '**nothing is written of it**'} |" for (function, why), changes in told.items()]
     with open(f"{clones.TOP}/docs/mutants.md", "w", encoding="utf-8") as file:
         file.write("\n".join(out) + "\n")
+    own = [total["tried"], total[REFUSED], total[NOT_JUDGED], total["same"], total[ACCEPTED] - total["same"]]
+    row = f"| {' | '.join(f'{it:,}' for it in own)} |"
+    if row not in clones.text_of(f"{clones.TOP}/README.md").split("\n"):
+        print(f"README.md doesn't have the sums: {row}")
+        missing += 1
     print(f"{len(accepted) - missing} passed, {missing} failed")
     return missing
 
