@@ -427,7 +427,7 @@ def report():
         lines = dict(it.rstrip("\n").split("\t", 1) for it in file if "\t" in it)
     out = ["# Mutants", "", "Small changes of functions, made by `scripts/mutants.py`, and what the prover says of them. What doesn't compile doesn't count.", ""]
     out += ["Refused by a search is where an answer of the proof file named what was gone, and without it no proof of the goal was found. The prover accepts those of the last two columns:"]
-    out += ["those of the first answer the same, though some cost time or memory, and of the others the list below says which case or test fails, where one can.", ""]
+    out += ["those of the first answer the same, though some cost time or memory, and of the others the list below says why no clause refuses them, and which case or test should fail (where it was tried, it says so).", ""]
     out += ["| Crate | Tried | Refused | of these by a search | Not judged | Same answers | Others accepted |", "|---|--:|--:|--:|--:|--:|--:|"]
     total, accepted = collections.Counter(), []
     for name in names:
