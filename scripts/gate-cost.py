@@ -8,8 +8,8 @@ COMMAND stands in the place of `.ci/run`, as `scripts/wrong_bodies.py dw_leb`. W
 docs/proving.md holds one. The status is the command's.
 
 Whole commands are timed and nothing else: `.ci/run` tells what each step took, and `scripts/wrong_bodies.py` what each `rt lib` took and
-the checks of each crate's rounds. `rt ci` prints a line as it ends with a crate, or with its tests: by when these come, the clock tells what
-it took of each, since it has one processor. Where this is interrupted, it ends what it runs and prints that table so far.
+the checks of each crate's rounds. `rt ci` prints a line as it ends with a crate, or with its tests: a table tells by the clock when these came.
+Where this is interrupted, it ends what it runs and prints that table so far.
 
 Before it and behind it, the yardstick is measured, TIMES times each: `rt lib` of dw_leb, from nothing with nothing beside it. The sum is told as it is and
 by the yardstick, that is divided by how much longer dw_leb took than its YARDSTICK minutes, in the mean of all: a machine may change while it runs, and one
@@ -88,10 +88,10 @@ def minutes_of(words, folder, ended):
 
 
 def print_ends(began, ended):
-    """What `rt ci` took by the clock up to each of these lines from the one before it."""
-    print("| `rt ci`, up to its line | By the clock |\n|---|--:|")
-    for (before, _), (at, line) in zip([(began, ""), *ended], ended):
-        print(f"| {line} | {(at - before) / 60:.1f} |")
+    """The minutes by the clock after which `rt ci` printed each of these lines."""
+    print("| `rt ci` | After, by the clock |\n|---|--:|")
+    for at, line in ended:
+        print(f"| {line} | {(at - began) / 60:.1f} |")
     print(flush=True)
 
 
