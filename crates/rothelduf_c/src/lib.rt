@@ -9,6 +9,7 @@
 //! - `ask`, `fill`: what the exports do with a section
 //! - `feeding`, `pushing`: what a feed of C is about, and its pieces
 //! - `section`, `entries`, `names`, `edits`, `feeds`: the exports
+//! - `laws`: where the bytes of texts and blocks are
 #![tactic(auto)]
 
 mod ask;
@@ -19,6 +20,7 @@ mod feeding;
 mod feeds;
 mod fill;
 mod handle;
+mod laws;
 mod names;
 mod numbers;
 mod parts;
