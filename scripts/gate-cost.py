@@ -8,7 +8,8 @@ COMMAND stands in the place of `.ci/run`, as `scripts/wrong_bodies.py dw_leb`. W
 docs/proving.md holds one. The status is the command's.
 
 Whole commands are timed and nothing else: `.ci/run` tells what each step took, and `scripts/wrong_bodies.py` what each `rt lib` took and
-the checks of each crate's rounds. What `rt ci` does of one crate (its proofs, its tests, its must-fail edits, its programs) isn't told apart.
+the checks of each crate's rounds. `rt ci` prints a line as it ends with a crate, or with its tests: a table tells by the clock when these came.
+Where this is interrupted, it ends what it runs and prints that table so far.
 
 Before it and behind it, the yardstick is measured, TIMES times each: `rt lib` of dw_leb, from nothing with nothing beside it. The sum is told as it is and
 by the yardstick, that is divided by how much longer dw_leb took than its YARDSTICK minutes, in the mean of all: a machine may change while it runs, and one
@@ -20,6 +21,7 @@ import glob
 import os
 import re
 import shutil
+import signal
 import subprocess
 import sys
 import tempfile
@@ -38,6 +40,7 @@ TIMES = 3
 # The turns of the loop that is timed, some 30 milliseconds, and how many seconds lie between two.
 TURNS, APART = 1_000_000, 5.0
 
+ENDS = re.compile(r"rt: (.*)")
 STEP = re.compile(r"gate: (.*): ([0-9.]+) \+ ([0-9.]+) s of processor, ([0-9.]+) s by the clock")
 LIBRARY = re.compile(r"(\w+): library, ([0-9]+) s of processor")
 ROUNDS = re.compile(r"(\w+): [0-9]+ rounds, [0-9]+ checks, ([0-9]+) s of processor")
@@ -64,18 +67,32 @@ class Speed(threading.Thread):
         return 1000 * len(took) / sum(1 / it for it in took) if took else 0.0
 
 
-def minutes_of(words, folder):
+def minutes_of(words, folder, ended):
     """The minutes of processor that a command takes with all that it starts, those by the clock, its status, and the lines that it prints,
-    which go through."""
+    which go through. What `rt ci` ends with, and when, is put into `ended`."""
     began, lines = time.monotonic(), []
-    ran = subprocess.Popen(words, cwd=folder, stdin=subprocess.DEVNULL, stdout=subprocess.PIPE, stderr=subprocess.STDOUT, text=True, errors="replace")
+    how = {"stdin": subprocess.DEVNULL, "stdout": subprocess.PIPE, "stderr": subprocess.STDOUT, "text": True, "errors": "replace"}
+    ran = subprocess.Popen(words, cwd=folder, start_new_session=True, **how)
     with ran:
-        for line in ran.stdout:
-            print(line, end="", flush=True)
-            lines.append(line.rstrip())
+        try:
+            for line in ran.stdout:
+                print(line, end="", flush=True)
+                lines.append(line.rstrip())
+                ended += [(time.monotonic(), it[1]) for it in [ENDS.fullmatch(lines[-1])] if it]
+        except BaseException:
+            os.killpg(ran.pid, signal.SIGTERM)
+            raise
         _, status, used = os.wait4(ran.pid, 0)
         ran.returncode = os.waitstatus_to_exitcode(status)
     return (used.ru_utime + used.ru_stime) / 60, (time.monotonic() - began) / 60, ran.returncode, lines
+
+
+def print_ends(began, ended):
+    """The minutes by the clock after which `rt ci` printed each of these lines."""
+    print("| `rt ci` | After, by the clock |\n|---|--:|")
+    for at, line in ended:
+        print(f"| {line} | {(at - began) / 60:.1f} |")
+    print(flush=True)
 
 
 def yardstick():
@@ -141,9 +158,12 @@ def main():
     speed = Speed()
     speed.start()
     before = yardsticks(speed)
-    began = time.monotonic()
-    whole, passed, status, lines = minutes_of(sys.argv[1:] or [".ci/run"], ".")
-    within = (began, time.monotonic())
+    began, ended = time.monotonic(), []
+    try:
+        whole, passed, status, lines = minutes_of(sys.argv[1:] or [".ci/run"], ".", ended)
+    finally:
+        within = (began, time.monotonic())
+        print_ends(began, ended)
     print_table(lines)
     after = yardsticks(speed)
     speed.ends.set()
