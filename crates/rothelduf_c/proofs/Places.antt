@@ -185,8 +185,8 @@ values_hold k (p ∷ ps) (v ∷ vs) at a fits there =
           place = 0;
           offset_is = omega arith;
           lies =
-              lies_at (own ++ others) (seen_attr first).front (0 + (seen_attr first).front) (content_of v) (omega arith)
-              (lies_before own others (seen_attr first).front (content_of v) lies);
+              lies_at (own ++ others) (seen_attr first).front (0 + (seen_attr first).front) (content_of v.value) (omega arith)
+              (lies_before own others (seen_attr first).front (content_of v.value) lies);
         })
     by (inr there) later =
         let h = later there in
