@@ -137,6 +137,8 @@ typedef struct rothelduf_entry {
     size_t attributes; /* of rothelduf_walk: the place behind its last attribute */
 } rothelduf_entry;
 
+/* An attribute. The bytes of a BLOCK or TEXT are in those that rothelduf_open was given, and in those that rothelduf_write
+ * writes: so many as `length` says, from unit.start + offset + front on. */
 typedef struct rothelduf_attribute {
     uint64_t name;         /* DW_AT_.. */
     uint64_t form;         /* DW_FORM_.. in effect: of an indirect value the one that it names */
@@ -144,7 +146,7 @@ typedef struct rothelduf_attribute {
     uint64_t number;       /* NUMBER, ULEB; WIDE: its lower half */
     int64_t signed_number; /* SLEB, IMPLICIT */
     uint64_t high;         /* WIDE: its upper half */
-    size_t length;         /* BLOCK, TEXT: so many bytes from info[unit.start + offset + front] on */
+    size_t length;         /* BLOCK, TEXT: the count of its bytes, else 0 */
     uint32_t front;        /* bytes of the value before its content */
     uint32_t kind;         /* enum rothelduf_kind */
 } rothelduf_attribute;

@@ -8,6 +8,7 @@
 -- - Headed: a header that came
 -- - Feeds: what C is told of a unit that it pushes in pieces
 -- - Texts: where a text stands, as C is told
+-- - Places: where the contents of texts and blocks stand in the bytes that C has
 
 pub mod Owned
 pub mod FeedOwned
@@ -19,3 +20,4 @@ pub mod Walked
 pub mod Headed
 pub mod Feeds
 pub mod Texts
+pub mod Places

@@ -6,7 +6,7 @@ ghost use Rattle.dw_unit.specs.Unit.{WholeUnit};
 ghost use Rattle.dw_section.specs.Lookup.{start_of, unit_at};
 ghost use Rattle.dw_section.specs.Reads.{IsSectionError};
 ghost use Rattle.dw_section.specs.Reference.{named};
-ghost use Rattle.dw_section.specs.Section.{section_bytes};
+ghost use Rattle.dw_section.specs.Section.{SectionFits, section_bytes};
 ghost use Rattle.dw_strings.specs.TextView.{sections_of};
 ghost use Rattle.dw_ctype.specs.Answer.{answer, IsRefusal};
 ghost use Rattle.dw_ctype.specs.View.{source_of};
@@ -190,6 +190,7 @@ fn fill_findings(found: &[Finding], out: &mut [CFinding]) -> usize
 /// The bytes of a section; None where memory was refused.
 pub fn written(alloc: Global, section: &Section) -> Option<Vec<u8>>
     ensures found { IfSome result (λ v. v.items ≡ section_bytes section.now) }
+    ensures fits { SectionFits section.now }
     ensures memory { IfNone result (0 < length (section_bytes section.now)) }
 {
     if section.size() == 0 {

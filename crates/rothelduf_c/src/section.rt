@@ -4,6 +4,7 @@ ghost use Rattle.dw_unit.specs.Unit.{WholeUnit};
 ghost use Rattle.dw_section.specs.Lookup.{start_of, unit_at};
 ghost use Rattle.dw_section.specs.Section.{WholeSection, section_bytes};
 ghost use Rattle.rothelduf_c.specs.Opens.{IsOpened, IsFaultOf, order_of, versions_of};
+ghost use Rattle.rothelduf_c.specs.Places.{ContentsStand};
 ghost use Rattle.rothelduf_c.specs.Seen.{seen_unit};
 ghost use Rattle.rothelduf_c.specs.Status as status;
 
@@ -28,6 +29,7 @@ pub extern "C" fn rothelduf_open(
 ) -> u32
     ensures opened { result ≡ status.OK → (x : WholeSection) × (s.new.handle.value ≡ Some x)
         × IsOpened (versions_of four) (order_of big) abbreviations.now info.now x }
+    ensures contents { (x : WholeSection) → s.new.handle.value ≡ Some x → ContentsStand info.now x }
     ensures refused { result ≡ status.FAULT
         → IsFaultOf (versions_of four) (order_of big) abbreviations.now info.now fault.new }
     ensures memory { result ≢ status.OK → result ≢ status.FAULT → result ≡ status.NO_MEMORY }
@@ -129,10 +131,13 @@ pub extern "C" fn rothelduf_size(alloc: Global, s: &mut Slot) -> u64
 
 /// Writes the section's bytes to the front of `out`.
 #[unsafe(no_mangle)]
+#[tactic(auto, using(crate::proofs::Places::contents_of_written))]
 pub extern "C" fn rothelduf_write(alloc: Global, s: &mut Slot, out: &mut [u8]) -> u32
     ensures same { s.new.handle.value ≡ s.old.handle.value }
     ensures written { (x : WholeSection) → s.old.handle.value ≡ Some x → result ≡ status.OK
         → take (length (section_bytes x)) out.new ≡ section_bytes x }
+    ensures contents { (x : WholeSection) → s.old.handle.value ≡ Some x → result ≡ status.OK
+        → ContentsStand out.new x }
     ensures short { (x : WholeSection) → s.old.handle.value ≡ Some x → result ≡ status.SHORT
         → length out.old < length (section_bytes x) }
     ensures memory { (x : WholeSection) → s.old.handle.value ≡ Some x → result ≢ status.OK → result ≢ status.SHORT

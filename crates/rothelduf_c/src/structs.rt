@@ -1,12 +1,13 @@
 //! The structs that cross to C.
 ghost use Rattle.std.specs.Prelude.{◌≡◌, ◌≤◌};
+ghost use Rattle.dw_form.specs.Head.{via_width};
 ghost use Rattle.dw_form.specs.Lent.{attribute_of};
 ghost use Rattle.dw_tree.specs.Lent.{attr_of};
 ghost use Rattle.dw_feed.specs.HeldView.{held_of};
 ghost use Rattle.rothelduf_c.specs.Numbers.{section_number, reason_number};
 ghost use Rattle.rothelduf_c.specs.Opens.{order_of, versions_of};
 ghost use Rattle.rothelduf_c.specs.Seen as seen;
-ghost use Rattle.rothelduf_c.specs.Seen.{seen_attr, seen_entry, seen_finding, seen_held, seen_unit, signed_by, via_width, wide};
+ghost use Rattle.rothelduf_c.specs.Seen.{seen_attr, seen_entry, seen_finding, seen_held, seen_unit, signed_by, wide};
 
 use crate::numbers;
 use dw_check::Finding;

@@ -1,6 +1,6 @@
 use Rattle.std.proofs.Common.{◌≡◌, ℕ, ap, sym, ◌∙◌, refl}
 use Rattle.std.specs.Borrow.{Bor}
-use Rattle.std.specs.Prelude.{List, Result, Ok, Err, length}
+use Rattle.std.specs.Prelude.{List, Result, Ok, length}
 use Rattle.dw_form.specs.Form.{Value, Num}
 use Rattle.dw_unit.specs.Unit.{WholeUnit}
 use Rattle.dw_strings.specs.Text.{StringSections, Placed, named_place, text_if_placed, text_in_place}
