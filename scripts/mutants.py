@@ -221,7 +221,7 @@ def mutants_of(crate, path, function, most):
 
 def all_mutants(crate, given):
     for path, function in rounds.all_functions(crate):
-        if given.function in function.name and function.name != "main" and not path.startswith("src/laws"):
+        if re.search(given.function, function.name) and function.name != "main" and not path.startswith("src/laws"):
             yield from mutants_of(crate, path, function, given.most)
 
 
@@ -465,7 +465,7 @@ def main():
     ask.add_argument("--most", type=int, default=8, metavar="N", help="how many mutants of a function at most")
     ask.add_argument("--round", type=int, default=60, metavar="N", help="how many in one check")
     ask.add_argument("--side-by-side", type=int, default=1, metavar="N", help="how many crates at one time")
-    ask.add_argument("--function", default="", metavar="WORD", help="functions alone in whose name this stands")
+    ask.add_argument("--function", default="", metavar="WORD", help="functions alone in whose name this expression is found")
     ask.add_argument("--again", action="store_true", help="try what wasn't judged once more")
     ask.add_argument("--logs", default="")
     ask.add_argument("--list", action="store_true", help="print the mutants, and try none")
@@ -488,7 +488,9 @@ def main():
         libraries = clones.with_all_below(wanted)
         clones.take_kept(clones.TOP, first, libraries)
         for crate in libraries:
-            print(f"{crate.name}: library, {clones.build(first, crate):.0f} s of processor", flush=True)
+            # (a program is no library: its first round proves it)
+            if not os.path.isfile(f"{crate.path(first)}/src/main.rt"):
+                print(f"{crate.name}: library, {clones.build(first, crate):.0f} s of processor", flush=True)
         with ThreadPoolExecutor(max(1, given.side_by_side)) as pool:
             for it in [pool.submit(try_apart, crate, first, f"{folder}/{number}", given) for number, crate in enumerate(wanted, 2)]:
                 it.result()
