@@ -1,8 +1,8 @@
 #!/usr/bin/env python3
 """Tries wrong bodies in rounds, many of them in one check: the prover has to refuse each.
 
-Usage: scripts/wrong_bodies.py [NAME..] [--must-fail] [--edit EDIT] [--from-nothing] [--clones FOLDER] [--side-by-side N] [--anew]
-                               [--cache FOLDER] [--logs FOLDER] [--unchanged]
+Usage: scripts/wrong_bodies.py [NAME..] [--must-fail] [--edit EDIT] [--from-nothing] [--clones FOLDER] [--side-by-side N] [--processors N]
+                               [--anew] [--cache FOLDER] [--logs FOLDER] [--unchanged]
 
 A wrong body is a file crates/NAME/wrong/*.edit (with --must-fail crates/NAME/must-fail/*.edit too): lines `file: src/a.rt`, and then
 pairs `old: TEXT` and `new: TEXT`, where TEXT stands in that file exactly once. Where no body holds the text, a line `fn: a::T::f ..` names
@@ -27,6 +27,8 @@ are made in.
 
 With --unchanged each function that would be changed in a copy is copied as it is, once for each clause that is asked of it, and passes where the copy is
 proved. So it shows that a copy is refused for its body alone.
+
+With --processors it sees the last so many of the processors alone, so that what runs beside it on the first ones (scripts/rt_ci.py) has these for itself.
 
 What passed is kept by a sum of all that it stands on, and not tried again without --anew. The last line is `N passed, M failed`, and the
 status is 0 where none failed and some passed, else 1.
@@ -694,6 +696,7 @@ def asked():
     ask.add_argument("--from-nothing", action="store_true", help="take nothing over from the tree at hand")
     ask.add_argument("--clones", default="", metavar="FOLDER", help="make the clones in this folder, and leave them there: 1, in which the libraries are built, 2 and so on")
     ask.add_argument("--side-by-side", type=int, default=len(os.sched_getaffinity(0)), metavar="N", help="how many at one time, the libraries or crates")
+    ask.add_argument("--processors", type=int, default=0, metavar="N", help="on the last so many processors, or else on all")
     ask.add_argument("--anew", action="store_true", help="try what passed before, too")
     ask.add_argument("--cache", default=f"{os.environ.get('XDG_CACHE_HOME') or os.path.expanduser('~/.cache')}/wrong_bodies")
     ask.add_argument("--logs", default="", help="a folder for what each check says")
@@ -814,6 +817,8 @@ def libraries_for(work):
 
 def main():
     given = asked()
+    if given.processors:
+        os.sched_setaffinity(0, sorted(os.sched_getaffinity(0))[-given.processors :])
     given.cache, right = ("", ACCEPTED) if given.unchanged else (given.cache, REFUSED)
     for folder in filter(None, (given.cache, given.logs)):
         os.makedirs(folder, exist_ok=True)
