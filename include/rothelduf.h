@@ -138,8 +138,8 @@ typedef struct rothelduf_entry {
 } rothelduf_entry;
 
 /* An attribute. The bytes of a BLOCK or TEXT are in those that rothelduf_open was given, and in those that rothelduf_write
- * writes: so many as `length` says, from unit.start + offset + front on. rothelduf_set_number moves none of them; what is
- * proved after it is where they are in the bytes that rothelduf_write writes, and no more of those that were opened. */
+ * writes: so many as `length` says, from unit.start + offset + front on. rothelduf_set_number moves none of them: after
+ * it, that they are there is proved of the bytes that rothelduf_write writes, and no longer of those that were opened. */
 typedef struct rothelduf_attribute {
     uint64_t name;         /* DW_AT_.. */
     uint64_t form;         /* DW_FORM_.. in effect: of an indirect value the one that it names */
