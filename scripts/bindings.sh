@@ -1,11 +1,10 @@
 #!/usr/bin/env bash
 # Builds the library for C, C++, Rust and Python, and compares what each sees with what the program prints.
 #
-# Usage: scripts/bindings.sh [PROGRAM [CLONE]]
+# Usage: scripts/bindings.sh [PROGRAM]
 #
-# PROGRAM is the built `dwarf` (crates/dwarf/out/dwarf). CLONE is one in which the libraries stand and nothing runs, as scripts/wrong_bodies.py --clones leaves
-# it, and `rt lib` proves and builds crates/rothelduf_c there; where there is none, one is made by scripts/clones.py, over what the tree at hand kept. The
-# archive, with the kit's heap in it, and the shared object lie in a temporary folder. Over it are built, with warnings as errors, the examples in C and
+# PROGRAM is the built `dwarf` (crates/dwarf/out/dwarf). `rt lib` proves and builds crates/rothelduf_c in a clone of this tree, over its libraries
+# (scripts/clones.py). The archive, with the kit's heap in it, and the shared object lie in a temporary folder. Over it are built, with warnings as errors, the examples in C and
 # C++ and the crate in bindings/rust with its tests. Compared are the functions that both examples print of the shipped sections, and by
 # scripts/bindings.py all that bindings/python tells of them. Driven over 20,000 changed sections, and with each request for memory refused, is
 # examples/c/hostile.c, under the sanitizers of addresses and of undefined behaviour. What passed isn't tried again while all that it stands on is the
@@ -13,7 +12,6 @@
 set -euo pipefail
 
 program=$(realpath "${1:-$(dirname "$0")/../crates/dwarf/out/dwarf}")
-clone=${2:+$(realpath -m "$2")}
 top=$(cd "$(dirname "$0")/.." && pwd)
 room=$(mktemp -d)
 trap 'rm -rf "$room"' EXIT
@@ -42,11 +40,9 @@ judge() {
 
 # ---- the library
 
-if [ -z "$clone" ] || [ ! -d "$clone" ]; then
-    clone=$room/clone
-    "$top/scripts/clones.py" make --kept "$clone" rothelduf_c
-fi
-if ! (cd "$clone/crates/rothelduf_c" && rt lib > "$room/built" 2>&1); then
+clone=$room/clone
+words=$("$top/scripts/clones.py" make --below "$clone" rothelduf_c)
+if ! (cd "$clone/crates/rothelduf_c" && rt lib $words > "$room/built" 2>&1); then
     tail -n 20 "$room/built"
     echo "0 passed, 1 failed"
     exit 1

@@ -1,12 +1,15 @@
 #!/usr/bin/env python3
 """Clones of the tree at hand, with the libraries of its crates, for scripts that change sources and check them.
 
-Usage: scripts/clones.py make FOLDER NAME..   makes the clone FOLDER, with the libraries NAME and all below them
-       scripts/clones.py sum NAME..           prints a sum of all that a check above these crates reads
+Usage: scripts/clones.py make [--below] FOLDER NAME..   makes the clone FOLDER for a check above the libraries NAME, and prints the words that this wants
+       scripts/clones.py sum NAME..                     prints a sum of all that a check above these crates reads
 
-A clone has the files that git knows in the tree at hand, and those that it doesn't ignore, as they are now. The libraries are built in
-it by `rt lib`, from the lowest on. With --kept it begins with what `rt lib` and `rt check` kept in the tree at hand, so that no more is proved
-than what has changed; nothing may run in the tree meanwhile. The tree at hand is never changed.
+With --below the libraries are those below the crates NAME.
+
+A clone has the files that git knows in the tree at hand, and those that it doesn't ignore, as they are now. Where `rt ci` has passed over this very tree
+(scripts/rt_ci.py), the libraries are those that it left in it, `crates/NAME/out/rlib/NAME.rlib`: `rt check` and `rt lib` in the clone are told of each by
+`--extern NAME=FOLDER`, and the clone's crates.txt names no library of the repository, so that none is proved once more. Else they are built in the clone by
+`rt lib`, from the lowest on, over what `rt lib` and `rt check` kept in the tree at hand: nothing may run in the tree meanwhile. The tree at hand is never changed.
 """
 
 import argparse
@@ -34,11 +37,10 @@ class Stop(Exception):
 
 @dataclass
 class Crate:
-    """A crate of the repository, the crates below it, lowest first, and whether it is a library for C."""
+    """A crate of the repository, and the crates below it, lowest first."""
 
     name: str
     below: list = field(default_factory=list)
-    is_for_c: bool = False
 
     def path(self, top):
         return os.path.join(top, "crates", self.name)
@@ -58,13 +60,11 @@ class Ran:
 
 def crates_in(top):
     """The crates that crates.txt lists, by their names, those below a crate before it."""
-    listed, for_c = {}, set()
+    listed = {}
     for line in text_of(os.path.join(top, "crates.txt")).split("\n"):
         name, colon, rest = line.partition(":")
         if colon and not line.startswith("#"):
-            name, *kind = name.split()
-            listed[name] = rest.split()
-            for_c |= {name} if kind == ["staticlib"] else set()
+            listed[name.split()[0]] = rest.split()
     made = {}
 
     def make(name):
@@ -72,7 +72,7 @@ def crates_in(top):
             below = []
             for crate in [make(it) for it in listed[name] if it in listed]:
                 below += [it for it in [*crate.below, crate] if it not in below]
-            made[name] = Crate(name, below, name in for_c)
+            made[name] = Crate(name, below)
         return made[name]
 
     for name in listed:
@@ -187,12 +187,8 @@ def interrupted(number, _frame):
 
 
 @contextlib.contextmanager
-def folder_for_clones(given=""):
-    """The folder that the caller names, or else one that is gone at the end."""
-    if given:
-        os.makedirs(given, exist_ok=True)
-        yield os.path.realpath(given)
-        return
+def folder_for_clones():
+    """A folder that is gone at the end."""
     folder = os.path.realpath(tempfile.mkdtemp(prefix="clones-"))
     try:
         yield folder
@@ -242,6 +238,26 @@ def take_kept(top, folder, crates):
     return taken
 
 
+def library_of(top, crate):
+    """The library of a crate, where `rt ci` or `rt lib` leaves it."""
+    return os.path.join(crate.path(top), "out", "rlib", f"{crate.name}.rlib")
+
+
+def words_for(top, crates):
+    """The words by which `rt check` and `rt lib` are told of these libraries and all below them, where they stand in a tree."""
+    return [word for crate in with_all_below(crates) for word in ("--extern", f"{crate.name}={library_of(top, crate)}")]
+
+
+def name_no_libraries(folder):
+    """Changes the crates.txt of a clone so that no crate there stands on one of the repository."""
+    path = os.path.join(folder, "crates.txt")
+    known = crates_in(folder)
+    lines = [line.partition(":") for line in text_of(path).split("\n")]
+    lines = [line if line[0].startswith("#") else (*line[:2], "".join(f" {it}" for it in line[2].split() if it not in known)) for line in lines]
+    with open(path, "w", encoding="utf-8") as file:
+        file.write("\n".join("".join(line) for line in lines))
+
+
 def build(folder, crate):
     """Builds the library of a crate in a clone, over those below it. One job takes two thirds of the minutes of processor that four take: each
     loads what it needs by itself."""
@@ -256,19 +272,26 @@ def main():
     ask = argparse.ArgumentParser(description=__doc__, formatter_class=argparse.RawDescriptionHelpFormatter)
     ask.add_argument("what", choices=("make", "sum"))
     ask.add_argument("words", nargs="+")
-    ask.add_argument("--kept", action="store_true", help="begin with what the tree at hand kept")
+    ask.add_argument("--below", action="store_true", help="the libraries below these crates")
     given = ask.parse_args()
     crates = crates_in(TOP)
     if given.what == "sum":
         print(sum_of(TOP, [known(crates, it) for it in given.words]))
         return 0
+    # (it stands on this module)
+    import rt_ci
+
     folder, *names = given.words
-    wanted = with_all_below([known(crates, it) for it in names])
+    named = [known(crates, it) for it in names]
+    wanted = with_all_below([below for it in named for below in it.below] if given.below else named)
     clone(TOP, folder)
-    if given.kept:
-        take_kept(TOP, folder, wanted)
+    if rt_ci.has_passed():
+        name_no_libraries(folder)
+        print(" ".join(words_for(TOP, wanted)))
+        return 0
+    take_kept(TOP, folder, wanted)
     for crate in wanted:
-        print(f"{crate.name}: library, {build(folder, crate):.0f} s of processor")
+        print(f"{crate.name}: library, {build(folder, crate):.0f} s of processor", file=sys.stderr)
     return 0
 
 

@@ -1,14 +1,12 @@
 #!/usr/bin/env python3
-"""What the gate costs: runs `.ci/run`, and says how many minutes of processor each of its steps took, and of the wrong bodies each crate's
-library and rounds.
+"""What the gate costs: runs `.ci/run`, and says how many minutes of processor each of its steps took, and of the wrong bodies each crate's rounds.
 
 Usage: scripts/gate-cost.py [COMMAND WORD..]
 
 COMMAND stands in the place of `.ci/run`, as `scripts/wrong_bodies.py dw_leb`. What the command prints goes through, and the table follows it;
 docs/proving.md holds one. The status is the command's.
 
-Whole commands are timed and nothing else: `.ci/run` tells what each step took, and `scripts/wrong_bodies.py` what each `rt lib` took and
-the checks of each crate's rounds. `rt ci` prints a line as it ends with a crate, or with its tests: a table tells by the clock when these came.
+Whole commands are timed and nothing else: `.ci/run` tells what each step took, and `scripts/wrong_bodies.py` what the checks of each crate's rounds took. `rt ci` prints a line as it ends with a crate, or with its tests: a table tells by the clock when these came.
 Where this is interrupted, it ends what it runs and prints that table so far.
 
 Before it and behind it, the yardstick is measured, TIMES times each: `rt lib` of dw_leb, from nothing with nothing beside it. The sum is told as it is and
@@ -42,7 +40,6 @@ TURNS, APART = 1_000_000, 5.0
 
 ENDS = re.compile(r"rt: (.*)")
 STEP = re.compile(r"gate: (.*): ([0-9.]+) \+ ([0-9.]+) s of processor, ([0-9.]+) s by the clock")
-LIBRARY = re.compile(r"(\w+): library, ([0-9]+) s of processor")
 ROUNDS = re.compile(r"(\w+): [0-9]+ rounds, [0-9]+ checks, ([0-9]+) s of processor")
 
 
@@ -135,13 +132,11 @@ def told_by(pattern, lines):
 
 
 def print_table(lines):
-    libraries, rounds = told_by(LIBRARY, lines), told_by(ROUNDS, lines)
-    print("| Crate | Library | Rounds | (how many) |\n|---|--:|--:|--:|")
-    for crate in clones.crates_in("."):
-        count = len(glob.glob(f"crates/{crate}/wrong/*.edit"))
-        if count or crate in libraries:
-            print(f"| `{crate}` | {libraries.get(crate, 0):.1f} | {rounds.get(crate, 0):.1f} | {count or ''} |")
-    print(f"| all | {sum(libraries.values()):.1f} | {sum(rounds.values()):.1f} | {len(glob.glob('crates/*/wrong/*.edit'))} |\n")
+    rounds = told_by(ROUNDS, lines)
+    print("| Crate | Rounds | Wrong bodies |\n|---|--:|--:|")
+    for crate, minutes in rounds.items():
+        print(f"| `{crate}` | {minutes:.1f} | {len(glob.glob(f'crates/{crate}/wrong/*.edit'))} |")
+    print(f"| all | {sum(rounds.values()):.1f} | {len(glob.glob('crates/*/wrong/*.edit'))} |\n")
     print("| Step | Minutes of processor | By the clock |\n|---|--:|--:|")
     for match in filter(None, map(STEP.fullmatch, lines)):
         print(f"| `{match[1]}` | {(float(match[2]) + float(match[3])) / 60:.1f} | {float(match[4]) / 60:.1f} |")

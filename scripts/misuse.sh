@@ -3,14 +3,12 @@
 # misuse/an_entry_outlives_its_section.txt and misuse/a_text_outlives_its_strings.txt have to be refused as a
 # borrow that still stands, and their sound counterparts have to pass.
 #
-# Usage: scripts/misuse.sh [CLONE]
+# Usage: scripts/misuse.sh
 #
-# They are modules of a small crate in a clone of this tree, over its libraries: one check judges the sound ones, another
-# the others. CLONE is one in which the libraries stand and nothing runs, as scripts/wrong_bodies.py --clones leaves it;
-# where there is none, one is made by scripts/clones.py, over what the tree at hand kept, and is gone at the end. What
-# passed isn't tried again while all that it stands on is the same. The last line counts the callers that were judged rightly.
+# They are modules of a small crate in a clone of this tree, over its libraries (scripts/clones.py): one check judges the
+# sound ones, another the others. The clone is gone at the end. What passed isn't tried again while all that it stands on
+# is the same. The last line counts the callers that were judged rightly.
 set -euo pipefail
-clone=${1:+$(realpath -m "$1")}
 cd "$(dirname "$0")/.."
 
 stop() {
@@ -29,13 +27,13 @@ if [ -f "$kept" ]; then
     cat "$kept"
     exit 0
 fi
-if [ -z "$clone" ] || [ ! -d "$clone" ]; then
-    clone=$scratch/clone
-    scripts/clones.py make --kept "$clone" $libraries
-fi
+clone=$scratch/clone
+words=$(scripts/clones.py make "$clone" $libraries)
 crate=$clone/crates/misuse
 mkdir -p "$crate/src"
-grep -q '^misuse:' "$clone/crates.txt" || echo "misuse: $libraries" >> "$clone/crates.txt"
+# (where words tell of the libraries, none of them is built)
+[ -z "$words" ] && needs=$libraries || needs=""
+echo "misuse: $needs" >> "$clone/crates.txt"
 
 # Puts these callers into the crate, each as a module of its own, and lets `rt check` judge them all.
 check() {
@@ -45,7 +43,7 @@ check() {
         grep -v '^#!\[tactic(auto)\]$' "misuse/$caller.txt" > "$crate/src/$caller.rt"
         echo "pub mod $caller;" >> "$crate/src/lib.rt"
     done
-    (cd "$crate" && rt check) > "$scratch/answer" 2>&1
+    (cd "$crate" && rt check $words) > "$scratch/answer" 2>&1
 }
 
 # What is lent of which owner, by the names of the callers' files.

@@ -5,7 +5,7 @@ Usage: scripts/rt_ci.py [--processors N] [--anew] [--cache FOLDER]
 
 Some kits prove all anew at each `rt ci`, an hour or more of processor. So that it passed is kept, by a sum of all that it reads: the files in
 crates/, crates.txt, HANDLES, each file elsewhere that it would refuse or read, and the line of `rt version`. It isn't run again where that sum was
-kept and the programs that it left are there, byte for byte, since other steps of the gate run them. --anew runs it in any case. With --processors it sees so many
+kept, the programs that it left are there, byte for byte, and the libraries are those that it left, since other steps of the gate run the ones and stand on the others. --anew runs it in any case. With --processors it sees so many
 of them: it gives each check as many jobs as there are, and each job loads anew what it needs. The last
 line is that of `rt ci`, `N passed, M failed`, and so is the status.
 """
@@ -18,6 +18,9 @@ import subprocess
 import sys
 
 import clones
+
+# Where it is kept that `rt ci` passed.
+CACHE = f"{os.environ.get('XDG_CACHE_HOME') or os.path.expanduser('~/.cache')}/rt_ci"
 
 # What `rt ci` reads, or refuses where no crate has it, wherever it lies.
 READ_ANYWHERE = (".rt", ".antt", ".edit", ".bazel")
@@ -54,13 +57,38 @@ def programs():
     return found
 
 
+def libraries():
+    """Sums of the libraries on which others stand, by their names: of their files' paths, sizes and times. One that is built anew has other times."""
+    found = {}
+    for crate in {it.name: it for above in clones.crates_in(clones.TOP).values() for it in above.below}.values():
+        files = [os.path.join(at, it) for at, _, names in os.walk(clones.library_of(clones.TOP, crate)) for it in names]
+        told = [(os.path.relpath(it, clones.TOP), os.stat(it).st_size, os.stat(it).st_mtime_ns) for it in sorted(files)]
+        found[crate.name] = hashlib.sha256(repr(told).encode()).hexdigest() if told else ""
+    return found
+
+
+def left():
+    """What stands in the tree of what `rt ci` leaves."""
+    return {"programs": programs(), "libraries": libraries()}
+
+
 def kept_in(place):
-    """The last line of a run that passed over this tree and left the programs that stand there."""
+    """The last line of a run that passed over this tree and left what stands there."""
     try:
         kept = json.loads(clones.text_of(place))
-        return kept["verdict"] if kept["programs"] == programs() else ""
-    except (OSError, ValueError, KeyError):
+        return kept.pop("verdict") if {**kept, **left()} == kept else ""
+    except (OSError, ValueError, KeyError, TypeError):
         return ""
+
+
+def place_in(cache=CACHE):
+    """Where it is kept that a run passed over this tree."""
+    return f"{cache}/{sum_of_tree()}"
+
+
+def has_passed():
+    """Whether `rt ci` has passed over this tree, and what it left stands there."""
+    return bool(kept_in(place_in()))
 
 
 def run_anew(place):
@@ -76,20 +104,21 @@ def run_anew(place):
             ran.terminate()
             raise
     # (what changed while it ran isn't judged)
-    if ran.returncode == 0 and place.endswith(sum_of_tree()) and all(programs().values()):
+    stands = left()
+    if ran.returncode == 0 and place.endswith(sum_of_tree()) and all(all(sums.values()) for sums in stands.values()):
         os.makedirs(os.path.dirname(place), exist_ok=True)
         with open(place, "w", encoding="utf-8") as file:
-            json.dump({"verdict": last, "programs": programs()}, file)
+            json.dump({"verdict": last, **stands}, file)
     return ran.returncode
 
 
 def main():
     ask = argparse.ArgumentParser(description=__doc__, formatter_class=argparse.RawDescriptionHelpFormatter)
     ask.add_argument("--anew", action="store_true", help="run it in any case")
-    ask.add_argument("--cache", default=f"{os.environ.get('XDG_CACHE_HOME') or os.path.expanduser('~/.cache')}/rt_ci")
+    ask.add_argument("--cache", default=CACHE)
     ask.add_argument("--processors", type=int, default=0, metavar="N", help="on so many processors, or else on all")
     given = ask.parse_args()
-    place = f"{given.cache}/{sum_of_tree()}"
+    place = place_in(given.cache)
     if given.processors:
         os.sched_setaffinity(0, sorted(os.sched_getaffinity(0))[: given.processors])
     verdict = "" if given.anew else kept_in(place)

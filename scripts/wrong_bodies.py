@@ -1,8 +1,7 @@
 #!/usr/bin/env python3
 """Tries wrong bodies in rounds, many of them in one check: the prover has to refuse each.
 
-Usage: scripts/wrong_bodies.py [NAME..] [--must-fail] [--edit EDIT] [--from-nothing] [--clones FOLDER] [--side-by-side N] [--processors N]
-                               [--anew] [--cache FOLDER] [--logs FOLDER] [--unchanged]
+Usage: scripts/wrong_bodies.py [NAME..] [--must-fail] [--edit EDIT] [--side-by-side N] [--anew] [--cache FOLDER] [--logs FOLDER] [--unchanged]
 
 A wrong body is a file crates/NAME/wrong/*.edit (with --must-fail crates/NAME/must-fail/*.edit too): lines `file: src/a.rt`, and then
 pairs `old: TEXT` and `new: TEXT`, where TEXT stands in that file exactly once. Where no body holds the text, a line `fn: a::T::f ..` names
@@ -20,21 +19,20 @@ the function is proved (NOT REFUSED); where only a callee is refused, or nothing
 away, or another goal than `clause:` is refused (WEAK); and where it can't be applied or compiled (BAD EDIT). A line is printed for each, with the
 function and the goals.
 
-The rounds work in clones of the tree at hand (scripts/clones.py), and never in the tree itself. The libraries are built in one of them, over
-what `rt lib` and `rt check` kept in the tree at hand, where nothing may run then; with --from-nothing all is proved anew. A crate is
-tried in another clone, as soon as the libraries stand that it needs. The clones are gone at the end, unless --clones names the folder that they
-are made in.
+The rounds work in clones of the tree at hand (scripts/clones.py), and never in the tree itself. Where `rt ci` has passed over this very tree
+(scripts/rt_ci.py), they stand on the libraries that it left there, and so do the functions that no edit of a round changes: a hole stands for the proof of
+each, so that a check takes it by its contract (`--allow-holes`). Else the libraries are built in one clone, over what `rt lib` and `rt check` kept in the tree
+at hand, where nothing may run then, and a crate is tried in another clone, as soon as the libraries stand that it needs. The clones are gone at the end.
 
 With --unchanged each function that would be changed in a copy is copied as it is, once for each clause that is asked of it, and passes where the copy is
 proved. So it shows that a copy is refused for its body alone.
-
-With --processors it sees the last so many of the processors alone, so that what runs beside it on the first ones (scripts/rt_ci.py) has these for itself.
 
 What passed is kept by a sum of all that it stands on, and not tried again without --anew. The last line is `N passed, M failed`, and the
 status is 0 where none failed and some passed, else 1.
 """
 
 import argparse
+import contextlib
 import functools
 import hashlib
 import os
@@ -48,6 +46,7 @@ from concurrent.futures import ThreadPoolExecutor
 from dataclasses import dataclass, field
 
 import clones
+import rt_ci
 from clones import Stop
 
 PUB = r"(?:pub(?:\([\w: ]+\))? )?"
@@ -59,7 +58,9 @@ NOTHING = "    ensures nothing { Prim.Unit {0} }\n"
 OWNER = re.compile(rf"(?m)^(?:unsafe )?(?:impl(?:<.*?>)? (.*?)(?: {{)?|{PUB}trait (\w+).*)$")
 
 # What a check says: of a function; of a goal in its proof file; of a goal of its code that is left; of a name that it doesn't know.
-VERDICT = re.compile(r"(?m)^fn \w+::(\S+): (proved|not proved|no proof|could not tell)(.*)$")
+VERDICT = re.compile(r"(?m)^fn \w+::(\S+): (proved|no holes|depends on a hole|not proved|no proof|could not tell)(.*)$")
+# (where holes stand for the proofs of what it calls, a function isn't told to be proved)
+PROVED = {"proved", "no holes", "depends on a hole"}
 PROOF_ERROR = re.compile(r"(?m)^(?:\./)?proofs/(\S+)/(?:Answers|Invariants|Proof)\.antt:\d+:\d+: error: (?:`([^`]+)`: )?(.*)$")
 LEFT = re.compile(r"(?m)^note: (src/\S+):(\d+):\d+: (?:it is not proved that|`\w+` found no proof).*?\(`([^`]+)`\)(?:;.*)?$")
 NO_PROOF_FOUND = re.compile(r"`search` did not prove (`[^`]+`(?:, `[^`]+`)*)")
@@ -78,7 +79,7 @@ ROUND = 15
 # So often the edits are dealt out to rounds.
 PASSES = 4
 
-# So few rounds are tried without a library of their crate, where no other crate needs it.
+# So few rounds are tried without a library of their crate, where no other crate needs it and `rt ci` left none.
 FEW_ROUNDS = 2
 
 REFUSED, WEAK, ACCEPTED, BAD, UNCLEAR = "refused", "WEAK", "NOT REFUSED", "BAD EDIT", "NOT TRIED"
@@ -86,11 +87,13 @@ REFUSED, WEAK, ACCEPTED, BAD, UNCLEAR = "refused", "WEAK", "NOT REFUSED", "BAD E
 
 @dataclass(eq=False)
 class Judged:
-    """A crate in a clone, and what the checks of it took."""
+    """A crate in a clone, and what the checks of it took. `words` tell a check of the libraries that `rt ci` proved: then the crate's own functions have
+    passed there too, and holes stand for their proofs."""
 
     name: str
     folder: str
     logs: str = ""
+    words: list = None
     checks: int = 0
     seconds: float = 0.0
 
@@ -480,12 +483,14 @@ def plan(crate, edits, is_built=True):
 
 def check(crate, edits):
     """What `rt check` says of the crate with these edits, and its status. The crate's files are then as they were."""
-    texts = texts_with(crate, edits)
+    texts, words = texts_with(crate, edits), [*(crate.words or [])]
+    if crate.words is not None and not any(it.is_alone for it in edits):
+        texts, words = holes(crate, edits) | texts, [*words, "--allow-holes"]
     before = {path: text_of(crate, path) if os.path.isfile(f"{crate.folder}/{path}") else None for path in texts}
     only = [word for name in sorted({name for it in edits for name in it.functions}) for word in ("--only", name)]
     try:
         put(crate, texts)
-        ran = clones.run(["rt", "check", "--jobs", "1", *only], crate.folder)
+        ran = clones.run(["rt", "check", "--jobs", "1", *words, *only], crate.folder)
     finally:
         put(crate, before)
     crate.checks, crate.seconds = crate.checks + 1, crate.seconds + ran.seconds
@@ -495,12 +500,26 @@ def check(crate, edits):
     return "\n".join(line for line in ran.said.split("\n") if not line.startswith("rt: ")), ran.status
 
 
+def holes(crate, edits):
+    """Proof files with a hole in the place of the proof of each function that no edit changes in its place, and none of the files that are there: a check
+    takes the function by its contract, as `--allow-holes` lets it. Cycles of calls have one proof for several functions, which stays."""
+    changed, found = set().union(*(it.in_place() for it in edits)), {}
+    for name in [it.name for _, it in all_functions(crate) if it.key == it.name and it.name not in changed]:
+        folder, own = f"proofs/{name.replace('::', '/')}", name.rpartition("::")[2]
+        found |= {path: None for path in (f"{folder}/{it}.antt" for it in ("Answers", "Invariants")) if os.path.isfile(f"{crate.folder}/{path}")}
+        statement = f"Rattle.{crate.name}.proofs.{name.replace('::', '.')}.Statement"
+        found[f"{folder}/Proof.antt"] = f"use {statement} as stated\n\npub {own}_spec : {{M : Type 1}} → stated.statement M\n{own}_spec = ?\n"
+    return found
+
+
 def put(crate, texts):
-    """Writes files, or where there is no text takes them and their folder away."""
+    """Writes files, or where there is no text takes them away, and the folders that are empty then."""
     for path, text in texts.items():
         file = f"{crate.folder}/{path}"
         if text is None:
-            shutil.rmtree(os.path.dirname(file), ignore_errors=True)
+            with contextlib.suppress(OSError):
+                os.remove(file)
+                os.removedirs(os.path.dirname(file))
         else:
             os.makedirs(os.path.dirname(file), exist_ok=True)
             put_text(file, text)
@@ -540,7 +559,7 @@ def judge(edit, said, refused):
     goals = [it for key in edit.functions.values() or refused for it in refused.get(key, {}).items()]
     real = sorted({goal for goal, is_real in goals if is_real})
     meant = [it for it in real if not edit.clause or it == edit.clause or it.endswith(f"clause-{edit.clause}")]
-    is_proved = {told.get(it) for it in edit.functions} == {"proved"} if edit.functions else "\nlogic=proved" in said
+    is_proved = {told.get(it) for it in edit.functions} <= PROVED if edit.functions else "\nlogic=proved" in said
     if meant:
         edit.set(REFUSED, f" at {', '.join(meant)}")
     elif real:
@@ -630,10 +649,10 @@ class Work:
                 put_text(self.place(edit), edit.what)
 
 
-def try_crate(work, clone, logs, as_built, is_built):
-    """Tries the edits of a crate that aren't judged yet, in a clone in which the libraries below it stand. `as_built` puts back what its
-    own library kept, if that is built."""
-    judged = Judged(work.crate.name, work.crate.path(clone), logs)
+def try_crate(work, clone, logs, as_built, is_built, words=None):
+    """Tries the edits of a crate that aren't judged yet, in a clone in which the libraries below it stand, or of which `words` tell a check. `as_built`
+    puts back what its own library kept, if that is built."""
+    judged = Judged(work.crate.name, work.crate.path(clone), logs, words)
     for edit in work.edits:
         edit.crate = judged
     rounds = plan(judged, work.to_try(), is_built)
@@ -693,10 +712,7 @@ def asked():
     ask.add_argument("names", nargs="*", metavar="NAME", help="the crates, or else all")
     ask.add_argument("--must-fail", action="store_true", help="try the edits of must-fail/ too")
     ask.add_argument("--edit", action="append", default=[], help="try this edit, by its name (repeatable)")
-    ask.add_argument("--from-nothing", action="store_true", help="take nothing over from the tree at hand")
-    ask.add_argument("--clones", default="", metavar="FOLDER", help="make the clones in this folder, and leave them there: 1, in which the libraries are built, 2 and so on")
     ask.add_argument("--side-by-side", type=int, default=len(os.sched_getaffinity(0)), metavar="N", help="how many at one time, the libraries or crates")
-    ask.add_argument("--processors", type=int, default=0, metavar="N", help="on the last so many processors, or else on all")
     ask.add_argument("--anew", action="store_true", help="try what passed before, too")
     ask.add_argument("--cache", default=f"{os.environ.get('XDG_CACHE_HOME') or os.path.expanduser('~/.cache')}/wrong_bodies")
     ask.add_argument("--logs", default="", help="a folder for what each check says")
@@ -736,14 +752,41 @@ def unchanged(edits):
     return found
 
 
+def try_over_ci(work, folder, given):
+    """Tries the edits of all these crates in clones in this folder, over the libraries that `rt ci` left in the tree at hand, and returns what went wrong
+    with the script itself. Those of many edits come first, so that the last ones end together."""
+    rooms = queue.Queue()
+    for number in range(max(1, given.side_by_side)):
+        clones.clone(clones.TOP, f"{folder}/{number}")
+        clones.name_no_libraries(f"{folder}/{number}")
+        rooms.put(f"{folder}/{number}")
+
+    def try_one(one):
+        room = rooms.get()
+        try:
+            try_crate(one, room, given.logs, lambda: None, True, clones.words_for(clones.TOP, one.crate.below))
+        finally:
+            rooms.put(room)
+
+    with tempfile.TemporaryDirectory(prefix="wrong-bodies-self-") as own, ThreadPoolExecutor(max(1, given.side_by_side)) as pool:
+        runs = [pool.submit(try_one, one) for one in sorted(work, key=lambda it: -len(it.to_try()))]
+        runs.append(pool.submit(fails_itself, own))
+        try:
+            return [it.result() for it in runs][-1]
+        except BaseException:
+            clones.end_all()
+            pool.shutdown(cancel_futures=True)
+            raise
+
+
 def try_all(work, folder, given):
-    """Tries the edits of all these crates in clones in this folder, and returns what went wrong with the script itself. The libraries are built
-    in the first clone, from the lowest on. The rounds of a crate begin as soon as those stand that it needs, in another clone."""
+    """The same, over libraries that are built in the first clone, from the lowest on. The rounds of a crate begin as soon as those stand that it needs, in
+    another clone."""
     # (nothing ever runs in the second one, so it may be copied at any time; where one runs at a time, the first is at rest by then)
     first, kept = f"{folder}/1", f"{folder}/{'1' if given.side_by_side <= 1 else 'kept'}"
     for clone in {first, kept}:
         clones.clone(clones.TOP, clone)
-    taken = [] if given.from_nothing else clones.take_kept(clones.TOP, first, clones.with_all_below([it.crate for it in work]))
+    taken = clones.take_kept(clones.TOP, first, clones.with_all_below([it.crate for it in work]))
     if taken:
         print(f"taken over from the tree at hand: what was kept of {', '.join(taken)}", flush=True)
     libraries = libraries_for(work)
@@ -808,17 +851,14 @@ def try_apart(one, kept, libraries, logs, rooms):
 
 
 def libraries_for(work):
-    """The crates whose libraries are built first: those below, those of many rounds, which then begin over what that kept, and those for C, which
-    scripts/bindings.sh calls."""
+    """The crates whose libraries are built first: those below, and those of many rounds, which then begin over what that kept."""
     below = [it for one in work for it in one.crate.below]
-    others = [one.crate for one in work if one.crate.is_for_c or len(plan(one.edits[0].crate, one.to_try(), is_built=False)) > FEW_ROUNDS]
+    others = [one.crate for one in work if len(plan(one.edits[0].crate, one.to_try(), is_built=False)) > FEW_ROUNDS]
     return [it for it in clones.with_all_below([it.crate for it in work]) if it in below or it in others]
 
 
 def main():
     given = asked()
-    if given.processors:
-        os.sched_setaffinity(0, sorted(os.sched_getaffinity(0))[-given.processors :])
     given.cache, right = ("", ACCEPTED) if given.unchanged else (given.cache, REFUSED)
     for folder in filter(None, (given.cache, given.logs)):
         os.makedirs(folder, exist_ok=True)
@@ -832,8 +872,8 @@ def main():
             print("\n".join(map(str, one.edits)))
     wrong = ""
     if pending:
-        with clones.folder_for_clones(given.clones) as folder:
-            wrong = try_all(pending, folder, given)
+        with clones.folder_for_clones() as folder:
+            wrong = (try_over_ci if rt_ci.has_passed() else try_all)(pending, folder, given)
     kinds = [edit.kind for one in work for edit in one.edits]
     failed = len(kinds) - kinds.count(right) + bool(wrong)
     if wrong:

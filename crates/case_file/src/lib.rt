@@ -1,7 +1,7 @@
 //! Cases that are kept as data, for programs that test a library: a file of lines `INPUT -> ANSWER`.
 //!
-//! Lines that are empty or begin with `#` say nothing to a program. Bytes are written in hexadecimal, apart by
-//! spaces, and `80*16` stands for sixteen bytes 0x80. A line `let NAME = BYTES` gives bytes a name.
+//! Lines that are empty or begin with `#` say nothing to a program. Bytes are written in hexadecimal, with
+//! spaces between them, and `80*16` stands for sixteen bytes 0x80. A line `let NAME = BYTES` gives bytes a name.
 #![tactic(auto)]
 
 mod names;

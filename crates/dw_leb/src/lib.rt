@@ -8,7 +8,7 @@
 //! don't matter. A read returns `Ok` exactly where the number is spelled at the front of `b` and
 //! within `lim`, and otherwise the reason why not.
 //!
-//! Sections that the comments name are those of the DWARF 5 standard.
+//! The sections that comments name are those of the DWARF 5 standard.
 //!
 //! What its modules have:
 //!
