@@ -35,8 +35,8 @@ refers_within name form =
     (form == DW_FORM_ref4 ||
     (form == DW_FORM_ref8 || (form == DW_FORM_ref_udata || form == DW_FORM_indirect)))))
 
--- Repeats for pairs behind others of these names: each says whether one of those before it has its name. The pairs at the
--- end that have no flag aren't looked at, and none of those before one of them has its name.
+-- Repeats for pairs behind others of these names: each says whether one of those before it has its name. The pairs at
+-- the end that have no flag aren't looked at, and none of those before one of them has its name.
 abbrev pub AreRepeatsFor : List ℕ → List Pair → List Bool → Type 0
 AreRepeatsFor names [] repeats = Unit {0}
 AreRepeatsFor names (p ∷ ps) [] =
@@ -55,8 +55,8 @@ IsPlain a =
     (is_sibling a ≡ false)
     × ((is_some (at_number a.form ref_forms) ≡ false) × (is_some (at_number a.form stored_forms) ≡ false))
 
--- Repeats for attributes behind others: each says whether one of those before it has its name. The attributes at the end
--- that have no flag are plain, and none of those before one of them has its name.
+-- Repeats for attributes behind others: each says whether one of those before it has its name. The attributes at the
+-- end that have no flag are plain, and none of those before one of them has its name.
 abbrev pub AreRepeatsOf : List LentAttribute → List LentAttribute → List Bool → Type 0
 AreRepeatsOf before [] repeats = Unit {0}
 AreRepeatsOf before (a ∷ others) [] =
@@ -67,4 +67,5 @@ AreRepeatsOf before (a ∷ others) (m ∷ repeats) =
 -- what are repeats for a code of a table are repeats for the attributes of the entry
 abbrev pub RepeatsInItsEntries : Table → ℕ → EntryAt → Type 0
 RepeatsInItsEntries t code e =
-    (repeats : List Bool) → AreRepeatsFor [] (declared_pairs (declared t code)) repeats → AreRepeatsOf [] (attributes_of e) repeats
+    (repeats : List Bool) → AreRepeatsFor [] (declared_pairs (declared t code)) repeats
+    → AreRepeatsOf [] (attributes_of e) repeats

@@ -34,7 +34,8 @@ version_and_type_decides versions order n =
     (then_decides _ _ _ _ (fixed_decides order 2)
     (λ version. optional_decides (version == 5 && nat_le 3 n) (fixed order 1) _ (fixed_decides order 1)))
 
-pub version_and_type_stay : (versions : Versions) (order : Order) (n : ℕ) → Stays (version_and_type versions order n).Break
+pub version_and_type_stay : (versions : Versions) (order : Order) (n : ℕ)
+    → Stays (version_and_type versions order n).Break
 version_and_type_stay versions order n =
     optional_stays (nat_le (least_length versions) n)
     (fixed order 2 then λ version. optional (version == 5 && nat_le 3 n) (fixed order 1))
@@ -49,7 +50,8 @@ len_bytes order format n = (length_field order).spell (format, n)
 module _ (versions : Versions) (order : Order) (abbreviations : List ℕ) (start : ℕ) (bytes : List ℕ) (format : Format)
     (n : ℕ) (rest : List ℕ) (begins : HasInitialLength order start bytes format n rest) where
   begin_at : read_item versions order abbreviations start bytes
-      ≡ answer_version_and_type versions order abbreviations start bytes format n (read_version_and_type versions order n rest n)
+      ≡ answer_version_and_type versions order abbreviations start bytes format n
+      (read_version_and_type versions order n rest n)
   unfolding read_item
   begin_at =
       let s : List ℕ = len_bytes order format n in
@@ -60,7 +62,8 @@ module _ (versions : Versions) (order : Order) (abbreviations : List ℕ) (start
       (initial_within order start format n))
       ∙ ap
       (λ (b : List ℕ).
-      answer_version_and_type versions order abbreviations start bytes format n (read_version_and_type versions order n b n))
+      answer_version_and_type versions order abbreviations start bytes format n
+      (read_version_and_type versions order n b n))
       d
 
   kind_at : (known : Bool) → ShowsKind versions order n rest known
@@ -70,7 +73,8 @@ module _ (versions : Versions) (order : Order) (abbreviations : List ℕ) (start
       begin_at
       ∙ ap
       (λ (b : List ℕ).
-      answer_version_and_type versions order abbreviations start bytes format n (read_version_and_type versions order n b n))
+      answer_version_and_type versions order abbreviations start bytes format n
+      (read_version_and_type versions order n b n))
       t.taken.split
       ∙ ap (answer_version_and_type versions order abbreviations start bytes format n)
       ((version_and_type_decides versions order n).takes t.seen t.taken.rest n t.taken.fits

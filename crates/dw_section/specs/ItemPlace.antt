@@ -94,8 +94,8 @@ shows_five versions order n type rest low small known = record {
   taken =
       subst (λ (b : Bool). Taken (version_and_type_if order b (nat_le 3 n)) bytes n (Some (5, Some type)) 3)
       (sym (le-leb (least_length versions) n (room versions)))
-      (subst (λ (b : Bool). Taken (version_and_type_if order true b) bytes n (Some (5, Some type)) 3) (sym (le-leb 3 n low))
-      there);
+      (subst (λ (b : Bool). Taken (version_and_type_if order true b) bytes n (Some (5, Some type)) 3)
+      (sym (le-leb 3 n low)) there);
   is = five versions;
 }
   where
@@ -129,7 +129,8 @@ shows_four order n rest low = record {
   seen = Some (4, None);
   size = 2;
   taken =
-      subst (λ (b : Bool). Taken (version_and_type_if order b (nat_le 3 n)) (fixed_bytes order 2 4 ++ rest) n (Some (4, None)) 2)
+      subst
+      (λ (b : Bool). Taken (version_and_type_if order b (nat_le 3 n)) (fixed_bytes order 2 4 ++ rest) n (Some (4, None)) 2)
       (sym (le-leb 2 n low)) there;
   is = refl;
 }

@@ -43,7 +43,8 @@ answer_kind versions order abbreviations start bytes format n true =
     answer_known start (read_unit_under versions order abbreviations bytes)
 answer_kind versions order abbreviations start bytes format n false = answer_other start bytes (length_size format) n
 
-abbrev pub answer_version_and_type : Versions → Order → List ℕ → ℕ → List ℕ → Format → ℕ → Outcome (Option VersionAndType) → ItemAnswer
+abbrev pub answer_version_and_type : Versions → Order → List ℕ → ℕ → List ℕ → Format → ℕ
+    → Outcome (Option VersionAndType) → ItemAnswer
 answer_version_and_type versions order abbreviations start bytes format n (Found m size) =
     answer_kind versions order abbreviations start bytes format n (is_known versions m)
 answer_version_and_type versions order abbreviations start bytes format n (Broken own reason) =
@@ -51,7 +52,8 @@ answer_version_and_type versions order abbreviations start bytes format n (Broke
 
 abbrev pub answer_begin : Versions → Order → List ℕ → ℕ → List ℕ → Outcome (Format × ℕ) → ItemAnswer
 answer_begin versions order abbreviations start bytes (Found x field) =
-    answer_version_and_type versions order abbreviations start bytes x.0 x.1 (read_version_and_type versions order x.1 (drop field bytes) x.1)
+    answer_version_and_type versions order abbreviations start bytes x.0 x.1
+    (read_version_and_type versions order x.1 (drop field bytes) x.1)
 answer_begin versions order abbreviations start bytes (Broken own reason) = IsFault Info (start + own) reason
 
 unfoldable pub read_item : Versions → Order → List ℕ → ℕ → List ℕ → ItemAnswer

@@ -26,7 +26,8 @@ pub(crate) fn shows_known(versions: Versions, order: Order, n: u64, b: &[u8]) ->
 
 /// The same, and how many bytes show it.
 fn marked(versions: Versions, order: Order, n: u64, b: &[u8]) -> Result<(bool, usize), Bad>
-    ensures exact { made (is_known versions) (read_version_and_type versions order n) b.now n ≡ outcome_from (λ x. x) result }
+    ensures exact { made (is_known versions) (read_version_and_type versions order n) b.now n
+        ≡ outcome_from (λ x. x) result }
     ensures near { IfErr result (λ e. e.offset ≤ 2) }
 {
     if n < least_length(versions) {

@@ -1,5 +1,5 @@
-//! Tests of all but trees and units, beside what is data: that stands in `library_cases`, and what the program writes in
-//! `cases/`. Here is what is shared, borrowed or handed back, devices that fail, memory that is refused, and the laws.
+//! Tests of all but trees and units, beside what is data: that stands in `library_cases`, and what the program writes
+//! in `cases/`. Here is what is shared, borrowed or handed back, devices that fail, memory that is refused, and the laws.
 //! They are a crate of their own, since a crate with tests is proved twice, and one crate, since each loads the
 //! libraries that it tests.
 #![tactic(auto)]

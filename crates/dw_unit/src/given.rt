@@ -74,8 +74,8 @@ pub(crate) fn put_entry(
     requires free { draft.old.place.unfinished ≡ None }
     requires level { length draft.old.place.spot.above < nesting }
     requires only { IsOnlyRoot draft.old.place.spot }
-    requires fits { (value_parts (context_of draft.old.header) (declared_pairs (declared draft.old.table code.value))).Fits
-        (map attribute_of values.now) }
+    requires fits { (value_parts (context_of draft.old.header)
+        (declared_pairs (declared draft.old.table code.value))).Fits (map attribute_of values.now) }
     requires short { passes_limit draft.old (code.width + length
         ((value_parts (context_of draft.old.header) (declared_pairs (declared draft.old.table code.value))).spell
         (map attribute_of values.now))) ≡ false }

@@ -1,8 +1,8 @@
 //! Examples of programs over the library: reads a unit from two files, walks its entries, looks one up, builds the same
 //! unit again, and writes it; prints the names and types of a whole section; and pushes a unit in pieces.
 //!
-//! `walk ABBREV INFO` pushes the unit of these files in pieces of several sizes, and `walk ABBREV INFO SIZE` once in pieces
-//! of so many bytes, or with 0 in none.
+//! `walk ABBREV INFO` pushes the unit of these files in pieces of several sizes, and `walk ABBREV INFO SIZE` once in
+//! pieces of so many bytes, or with 0 in none.
 #![tactic(auto)]
 
 mod names;

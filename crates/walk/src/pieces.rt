@@ -1,4 +1,5 @@
-//! A unit that is pushed in pieces of several sizes, and whether the unit that comes is written as the bytes that were pushed.
+//! A unit that is pushed in pieces of several sizes, and whether the unit that comes is written as the bytes that were
+//! pushed.
 
 use crate::WalkError;
 use rothelduf::{
@@ -43,7 +44,8 @@ fn tell_whether_same(
     Ok(println!(rt; "{size}: {same}")?)
 }
 
-/// Pushes the unit in pieces of one size, and says how many bytes it has; with 0 by the call that takes the bytes at hand.
+/// Pushes the unit in pieces of one size, and says how many bytes it has; with 0 by the call that takes the bytes at
+/// hand.
 pub(crate) fn one_size(
     rt: &(impl AllocGlobal + Files + Print),
     abbrev: &str,

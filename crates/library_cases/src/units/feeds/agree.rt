@@ -3,8 +3,8 @@
 //! - `fronts over TABLE: BYTES`, on each front of the bytes, answered with how many these are;
 //! - `changes over TABLE: BYTES`, on the bytes with each one changed to every value, answered with how many these are.
 //!
-//! They are one of bytes at hand, one over a reader that gives a byte a call, and a feed in pieces of one byte and in one
-//! piece.
+//! They are one of bytes at hand, one over a reader that gives a byte a call, and a feed in pieces of one byte and in
+//! one piece.
 use crate::units::feeds::cuts::{at_once, is_pushed, pushed};
 use crate::units::feeds::input::{Input, Outcome, Setting};
 use crate::units::feeds::readers::read_by;

@@ -1,7 +1,7 @@
 //! Units that are pushed behind their headers: `body of LENGTH over TABLE: PIECE | PIECE | ..`, of a little-endian
-//! compile unit of this unit_length in the 32-bit format. It is answered for each piece with the count of its bytes that
-//! were taken and what was said, and with the fault at the end of the input. `held body of ..` is answered with what the
-//! feed holds after each piece too.
+//! compile unit of this unit_length in the 32-bit format. It is answered for each piece with the count of its bytes
+//! that were taken and what was said, and with the fault at the end of the input. `held body of ..` is answered with
+//! what the feed holds after each piece too.
 use crate::units::feeds::input::{Input, Setting, feed_behind};
 use crate::units::reading::{front, is_written_as};
 use crate::units::show::{append_end, append_fault, separate};

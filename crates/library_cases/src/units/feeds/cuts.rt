@@ -1,5 +1,6 @@
-//! A unit that is pushed in every way as two pieces behind its header, and byte by byte: `cuts over TABLE: BYTES`, answered
-//! with what comes of it in one piece, and how many cuts there are. All have to come to the same, after the same bytes.
+//! A unit that is pushed in every way as two pieces behind its header, and byte by byte: `cuts over TABLE: BYTES`,
+//! answered with what comes of it in one piece, and how many cuts there are. All have to come to the same, after the
+//! same bytes.
 use crate::units::feeds::input::{Input, Outcome, behind_header, feed_behind};
 use crate::units::feeds::readers::append_outcome;
 use dw_feed::{BodyFeed, Progress};
@@ -69,8 +70,8 @@ fn push_pieces(
     (taken, Said::More)
 }
 
-/// What comes of a unit whose bytes behind the header are pushed in a first piece of so many bytes and then in pieces of
-/// `size`, and how many bytes are taken. None where no feed is there, or it says that it is spent.
+/// What comes of a unit whose bytes behind the header are pushed in a first piece of so many bytes and then in pieces
+/// of `size`, and how many bytes are taken. None where no feed is there, or it says that it is spent.
 pub fn pushed(
     alloc: Global,
     input: Input<'_>,

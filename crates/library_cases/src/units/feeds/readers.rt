@@ -1,6 +1,6 @@
-//! Units of readers: `read by COUNT over TABLE: BYTES`, of one that gives so many bytes a call, answered with the size of
-//! the unit or its fault, and with the count of bytes that the reader has left. Readers that give other counts of bytes
-//! have to come to the same outcome.
+//! Units of readers: `read by COUNT over TABLE: BYTES`, of one that gives so many bytes a call, answered with the size
+//! of the unit or its fault, and with the count of bytes that the reader has left. Readers that give other counts of
+//! bytes have to come to the same outcome.
 ghost use Rattle.std.specs.Prelude.{◌≡◌, None};
 ghost use Rattle.dw_leb.specs.Watch.{fault_of};
 
