@@ -220,8 +220,8 @@ uint32_t rothelduf_text(rothelduf_section *s, size_t item, uint64_t form, uint64
                         rothelduf_text_place *out, uint32_t *why);
 
 /* Writes the type of an entry to the front of out, as the declaration of this name in C: of a variable, a parameter or a member
- * its type, and else the entry itself. *length is how many bytes it has. OK; SHORT, and then *length is what it needs; REFUSED,
- * with an enum rothelduf_no_type; NO_MEMORY; CLOSED. */
+ * its type, and else the entry itself. OK, and then *length is how many bytes it has, at most the room; SHORT, and then it is what
+ * it needs, more than the room; REFUSED, with an enum rothelduf_no_type; NO_MEMORY; CLOSED. */
 uint32_t rothelduf_type(rothelduf_section *s, const rothelduf_id *id, const uint8_t *name, size_t name_size, const uint8_t *str,
                         size_t str_size, const uint8_t *line_str, size_t line_str_size, const uint8_t *str_offsets,
                         size_t str_offsets_size, uint8_t *out, size_t room, size_t *length, uint32_t *why);
@@ -293,8 +293,9 @@ typedef struct rothelduf_held {
 /* OK; CLOSED. */
 uint32_t rothelduf_feed_held(rothelduf_feed *f, rothelduf_held *out);
 
-/* The end of the input, after which the feed is closed. FAULT: what is missing of a header or a unit, or the fault that was
- * answered before; before the first byte of a unit that is Truncated at 0. HEADER, where the table is missing. UNIT, where a unit
+/* The end of the input, after which the feed is closed. FAULT: what is missing of a header or a unit, which is Truncated, before
+ * the first byte of a unit at 0; the fault that was answered before; or PastUnit behind the header, where the unit has no room
+ * for a root and nothing was pushed since its table was handed in. HEADER, where the table is missing. UNIT, where a unit
  * wasn't taken. OK, where memory was refused. CLOSED. */
 uint32_t rothelduf_feed_end(rothelduf_feed *f, rothelduf_fault *fault);
 

@@ -7,10 +7,12 @@ REFUSALS is the built program of scenarios (crates/refusals/out/refusals), DWARF
 
 - each scenario with each of its requests for memory refused: a call answers NoMemory and leaves what its documentation says, the same call
   made again succeeds, and all else is told as with ample memory; or the scenario itself has no memory, and tells nothing (status 4);
-- calls that take no memory: however often they are made, as much is asked for;
+- that no more requests are the scenario's own than are known to be, so that no call answers NoMemory for good;
+- calls that take no memory: however often they are made, as much is asked for; each call of which docs/guarantees.md says so is made;
 - `dwarf` with each of its commands over the sections in examples/, with a request for memory refused: `memory` and status 4 behind a beginning of
   the output, or the ample answer where the request merely saves steps;
-- the same with a read that fails or is interrupted, with reads and writes of one byte, and with a write that fails, is interrupted, takes nothing or
+- `show` and `copy` of a section of two units, with each read and each write failing in turn, also where each moves one byte;
+- the commands over examples/ with a read that fails or is interrupted, with reads and writes of one byte, and with a write that fails, is interrupted, takes nothing or
   finds a full disk: only that is told, with status 3, behind a beginning of the output;
 - `dwarf` over files that aren't there, can't be read, are folders, or end early, and with an output or a standard error that is closed or full.
 
@@ -32,12 +34,28 @@ import tempfile
 TOP = os.path.dirname(os.path.dirname(os.path.abspath(__file__)))
 
 SCENARIOS = (
-    "value tables declaration table-builder builder draft unit unit-from body section section-as push type check"
+    "value tables declaration table-builder builder draft unit unit-from deep body section section-as push type check"
     " run-show run-find run-type run-check run-set run-copy"
 ).split()
 
+# How many requests are a scenario's own, for its words, its lines, and what it is over: where one of them is refused it ends with 4.
+# A call that answers NoMemory for good, where one growth was refused, would add to these.
+OWN = {name: -1 for name in SCENARIOS}
+
 # Calls that take no memory, and how often they are made beside not at all.
-QUIET = {"unit": 3, "section": 3, "feeds": 3, "tables": 3, "finish": 1}
+QUIET = {
+    "unit": 3, "section": 3, "feeds": 3, "tables": 3, "finish": 1,
+    "numbers": 3, "devices": 3, "values": 3, "makers": 3, "end-value": 1, "undo": 3, "finished": 1,
+}
+
+# Where it is said which calls these are, under this heading, and the sources that make all of them.
+SAID, HEADING = f"{TOP}/docs/guarantees.md", "## Calls that take no memory"
+MADE = ("quiet.rt", "quiet_parts.rt", "drafts.rt")
+CALLS = 81
+
+# A section of two units, and its tables: a unit of the name "a", and one that refers to its entry by ref_addr.
+TWO_UNITS = bytes.fromhex("0b 00 00 00 05 00 01 08 00 00 00 00 01 61 00" "0d 00 00 00 05 00 01 08 08 00 00 00 01 0c 00 00 00")
+TWO_TABLES = bytes.fromhex("01 11 00 03 08 00 00 00" "01 11 00 49 10 00 00 00")
 
 # How many of its requests, reads or writes are refused a run of a command without --all: as many of the first ones, and as many among the others.
 SAMPLE = 12
@@ -183,15 +201,17 @@ def try_scenario(tried, program, name, shim):
     ample = Ran([program, name], "/", shim)
     text = ample.output.decode()
     tried.judge(ample.status == 0 and text and "NoMemory" not in text and "FAILED" not in text, f"{name}: with ample memory: {ample}: {text[:200]!r}")
-    told = 0
+    told = own = 0
     for number in range(1, ample.requests + 1):
         ran = Ran([program, name], "/", shim, REFUSED=number)
         said = ran.output.decode()
         told += " NoMemory\n" in said
+        own += ran.status == 4
         held = ran.status == 4 and not said or ran.status == 0 and stands(said, text)
         tried.judge(held, f"{name}: request {number} refused: {ran}: {said[:300]!r}")
     tried.refused += told
     tried.judge(told, f"{name}: no call of it was refused a growth, of {ample.requests} requests")
+    tried.judge(own == OWN[name], f"{name}: {own} requests are its own, and not {OWN[name]}")
 
 
 def try_memory(tried, program, name, shim):
@@ -210,7 +230,40 @@ def try_quiet(tried, program, calls, count, shim):
     tried.judge(none.requests == some.requests, f"{calls}: {none.requests} requests without its calls, {some.requests} with {count} of each")
 
 
+def try_said(tried):
+    """Whether each call of which it is said that it takes no memory is made by the calls above."""
+    with open(SAID, encoding="utf-8") as file:
+        _, heading, said = file.read().partition(f"\n{HEADING}\n")
+    made = ""
+    for name in MADE:
+        with open(f"{TOP}/crates/refusals/src/{name}", encoding="utf-8") as file:
+            made += file.read()
+    rows = re.findall(r"(?m)^\| `\w+` \| (.*) \|$", said.partition("\n## ")[0])
+    calls = re.findall(r"`(?:\w+::)?(\w+)`", " ".join(rows))
+    tried.judge(heading and len(calls) >= CALLS, f"{SAID}: {len(calls)} calls are said to take no memory, and not {CALLS}")
+    for call in calls:
+        tried.judge(re.search(rf"\b{call}\(", made), f"{call} is said to take no memory, and isn't made")
+
+
 # ---- the program
+
+
+def try_two_units(tried, program, command, most, shim):
+    """Fails each read and each write of a command over two units in turn; each moves at most so many bytes, where that isn't 0."""
+    with tempfile.TemporaryDirectory(prefix="refusals-") as folder:
+        for name, text in (("info", TWO_UNITS), ("abbrev", TWO_TABLES)):
+            with open(f"{folder}/{name}", "wb") as file:
+                file.write(text)
+        words = [program, command, "--info", "info", "--abbrev", "abbrev"]
+        ample = Ran(words, folder, shim, MOST=most)
+        tried.judge(ample.status == 0 and ample.output and (command != "copy" or ample.output == TWO_UNITS), f"{command} of two units: {ample}")
+        for number in range(1, ample.reads + 1):
+            ran = Ran(words, folder, shim, MOST=most, READ=number, WHY=errno.EIO)
+            tried.judge((ran.status, ran.output) == (3, b"") and ran.error in (b"file info\n", b"file abbrev\n"), f"{command} of two units: read {number} fails: {ran}")
+        for number in range(1, ample.writes + 1):
+            ran = Ran(words, folder, shim, MOST=most, WRITE=number, WHY=errno.EIO)
+            tried.judge(ended_so(ran, ample, 3, b"file standard output\n"), f"{command} of two units: write {number} fails: {ran}")
+            tried.judge(not most or len(ran.output) == most * (number - 1), f"{command} of two units: {len(ran.output)} bytes before write {number}")
 
 
 def commands():
@@ -352,10 +405,12 @@ def main():
         if given.all and shutil.which("valgrind"):
             jobs += [(try_memory, scenarios, name, shim) for name in SCENARIOS]
         jobs += [(try_command, dwarf, command, shim, given.all) for command in commands()]
+        jobs += [(try_two_units, dwarf, command, most, shim) for command in ("show", "copy") for most in (0, 1)]
         jobs += [(try_growths, dwarf, command, shim) for command in commands() if command[0] == "copy over linked"]
         for parts in side_by_side.map(lambda job: job[0](own := Tried(), *job[1:]) or own, jobs):
             tried.passed, tried.failed, tried.refused = tried.passed + parts.passed, tried.failed + parts.failed, tried.refused + parts.refused
         try_files(tried, dwarf)
+        try_said(tried)
     print(f"{tried.refused} calls and runs were refused memory and said so")
     print(f"{tried.passed} passed, {tried.failed} failed")
     return 0 if not tried.failed and tried.passed else 1

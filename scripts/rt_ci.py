@@ -14,6 +14,7 @@ import argparse
 import hashlib
 import json
 import os
+import re
 import subprocess
 import sys
 
@@ -25,8 +26,13 @@ CACHE = f"{os.environ.get('XDG_CACHE_HOME') or os.path.expanduser('~/.cache')}/r
 # What `rt ci` reads, or refuses where no crate has it, wherever it lies.
 READ_ANYWHERE = (".rt", ".antt", ".edit", ".bazel")
 
+# What it doesn't read: the wrong bodies that scripts/wrong_bodies.py tries.
+WRONG_BODY = re.compile(r"crates/\w+/wrong/\w+\.edit")
+
 
 def is_read(path):
+    if WRONG_BODY.fullmatch(path):
+        return False
     return path.startswith("crates/") or path in ("crates.txt", "HANDLES") or path.endswith(READ_ANYWHERE)
 
 

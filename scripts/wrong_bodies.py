@@ -5,8 +5,15 @@ Usage: scripts/wrong_bodies.py [NAME..] [--must-fail] [--edit EDIT] [--side-by-s
 
 A wrong body is a file crates/NAME/wrong/*.edit (with --must-fail crates/NAME/must-fail/*.edit too): lines `file: src/a.rt`, and then
 pairs `old: TEXT` and `new: TEXT`, where TEXT stands in that file exactly once. Where no body holds the text, a line `fn: a::T::f ..` names
-what is checked, all whose proofs the edit can change; without one it is tried alone, over the whole crate. A line `clause: GOAL` names a goal that
-has to be among the refused ones, or the clause of the function whose goal it is.
+what is checked, all whose proofs the edit can change; without one it is tried alone, over the whole crate. Of those in wrong/ each has two lines besides:
+
+    clause: NAME        the clause of the function that it breaks (`returns`, where the function has one clause without a name)
+    shows: CASE         a case in which that clause is false: the input, what the wrong body answers, what the clause wants
+
+A goal that isn't proved shows little by itself: its proof may just no longer fit. So the case is what counts, and a reader has to find it right. What can be
+seen by the text is refused (BAD EDIT): an edit without these lines, a clause that the function hasn't, one that says nothing of the only outcome that
+the new text makes, as one that begins with `IfOk` of an `Err` (scripts/clauses.py). The goal that is refused has to be one of that clause, where the function returns. Where
+it is another, as a loop's invariant, a line `goal: GOAL: WHY` names it and says why the clause is broken.
 
 The goals of a function stand on the contracts of what it calls, and not on the bodies. So a wrong body stands beside the right one, in a copy of the
 function that has its contract, its attributes and its proof files, and a name of its own: nothing calls the copy, so nothing else is proved anew. Where the edit
@@ -25,7 +32,8 @@ each, so that a check takes it by its contract (`--allow-holes`). Else the libra
 at hand, where nothing may run then, and a crate is tried in another clone, as soon as the libraries stand that it needs. The clones are gone at the end.
 
 With --unchanged each function that would be changed in a copy is copied as it is, once for each clause that is asked of it, and passes where the copy is
-proved. So it shows that a copy is refused for its body alone.
+proved. So it shows that a copy is refused for its body alone. Its verdicts are kept in copies/NAME.tsv, by a sum of the copy's text and its proof files, and an edit
+whose copy has none there fails (NOT COMPARED).
 
 What passed is kept by a sum of all that it stands on, and not tried again without --anew. The last line is `N passed, M failed`, and the
 status is 0 where none failed and some passed, else 1.
@@ -33,6 +41,7 @@ status is 0 where none failed and some passed, else 1.
 
 import argparse
 import contextlib
+import dataclasses
 import functools
 import hashlib
 import os
@@ -45,14 +54,15 @@ import tempfile
 from concurrent.futures import ThreadPoolExecutor
 from dataclasses import dataclass, field
 
+import clauses
 import clones
 import rt_ci
+from clauses import clauses_in
 from clones import Stop
 
 PUB = r"(?:pub(?:\([\w: ]+\))? )?"
 FUNCTION = re.compile(rf"(?m)^( *){PUB}(?:(?:const|unsafe|extern \"C\") )*fn (\w+)")
 CYCLE = re.compile(r"#\[cycle\((\w+)\)\]\n *")
-ENSURES = re.compile(r"(?m)^ +ensures (\w+) \{")
 # Stands for the clauses that a copy isn't asked for: beside it a goal of the one that is goes by the name of its clause.
 NOTHING = "    ensures nothing { Prim.Unit {0} }\n"
 OWNER = re.compile(rf"(?m)^(?:unsafe )?(?:impl(?:<.*?>)? (.*?)(?: {{)?|{PUB}trait (\w+).*)$")
@@ -82,7 +92,7 @@ PASSES = 4
 # So few rounds are tried without a library of their crate, where no other crate needs it and `rt ci` left none.
 FEW_ROUNDS = 2
 
-REFUSED, WEAK, ACCEPTED, BAD, UNCLEAR = "refused", "WEAK", "NOT REFUSED", "BAD EDIT", "NOT TRIED"
+REFUSED, WEAK, ACCEPTED, BAD, UNCLEAR, ALONE = "refused", "WEAK", "NOT REFUSED", "BAD EDIT", "NOT TRIED", "NOT COMPARED"
 
 
 @dataclass(eq=False)
@@ -110,6 +120,7 @@ class Function:
     begin: int
     end: int
     cycle: str
+    is_of_trait: bool
     can_be_copied: bool
 
 
@@ -122,6 +133,12 @@ class Edit:
     text: str
     pairs: list = field(default_factory=list)
     clause: str = ""
+    shows: str = ""
+    # A goal besides those of the clause, and why the clause is broken where it is refused.
+    goal: str = ""
+    why: str = ""
+    # The functions that it names itself.
+    named: list = field(default_factory=list)
     # What is checked: the keys of the proofs, by the names of the functions.
     functions: dict = field(default_factory=dict)
     # The keys of the functions in which it stands, as this script names them: rattle's names, in `functions`, may be others.
@@ -133,11 +150,16 @@ class Edit:
     # What its proof files have that only names what it took away, by the names there.
     gone: list = field(default_factory=list)
     is_alone: bool = False
+    # Whether its copies are known to be proved as they are.
+    is_compared: bool = True
     kind: str = ""
     what: str = ""
 
     def __str__(self):
-        return f"{self.crate.name} {self.name}: {' '.join(self.copied or self.functions) or 'the crate'}: {self.kind}{self.what}"
+        return f"{self.crate.name} {self.name}: {' '.join(self.copied or self.functions) or 'the crate'}: {self.verdict()}{self.what}"
+
+    def verdict(self):
+        return self.kind if self.is_compared or self.kind != REFUSED else ALONE
 
     def set(self, kind, what=""):
         self.kind, self.what = kind, what
@@ -145,6 +167,10 @@ class Edit:
     def keys(self):
         """The proofs of what it changes."""
         return self.within.union(self.functions.values())
+
+    def tried(self):
+        """What a verdict of it stands on."""
+        return repr((self.name, self.pairs, self.named, self.clause, self.goal))
 
     def in_place(self):
         """The functions that it changes where they stand."""
@@ -221,9 +247,9 @@ def functions_in(crate, path, text):
         calls = r"\b(?:self\.|Self::)" if match[1] else r"(?<![\w.:])"
         itself = re.search(rf"{calls}({match[2]})\(", text[slice(*body)])
         key = f"+{cycle[1]}::{match[2]}" if cycle else f"+{itself[1]}" if itself else name
-        is_of_trait = match[1] and heads[-1] and (heads[-1][2] or " for " in heads[-1][1])
+        is_of_trait = bool(match[1] and heads[-1] and (heads[-1][2] or " for " in heads[-1][1]))
         can_be_copied = (key == name or cycle and not match[1]) and not is_of_trait
-        found.append(Function(name, key, first, match.end(2), *body, cycle[1] if cycle else "", bool(can_be_copied)))
+        found.append(Function(name, key, first, match.end(2), *body, cycle[1] if cycle else "", is_of_trait, bool(can_be_copied)))
     return found
 
 
@@ -269,22 +295,10 @@ def copy_of(crate, edit, path, name):
     text = applied(crate, [edit])[0].get(path) or text_of(crate, path)
     it = next(it for it in functions_in(crate, path, text) if it.name == name)
     head, asked = text[it.named : it.begin], clauses_asked(crate, edit.clause, path, name)
-    gone = [one for one in clauses_in(head) if one[0] not in asked]
-    for clause, begin, end in reversed(gone):
-        head = head[:begin] + (NOTHING if clause == gone[0][0] else "") + head[end:]
+    gone = [one for one in clauses_in(head) if one.name not in asked]
+    for one in reversed(gone):
+        head = head[: one.begin] + (NOTHING if one is gone[0] else "") + head[one.end :]
     return f"{CYCLE.sub('', text[it.first : it.named])}_{edit.name}{head}{text[it.begin : behind(text, it)]}"
-
-
-def clauses_in(head):
-    """The names of what a function ensures, each with where it begins and ends in the text before the body."""
-    found = []
-    for match in ENSURES.finditer(head):
-        end, depth = match.end(), 1
-        while depth and end < len(head):
-            depth += {"{": 1, "}": -1}.get(head[end], 0)
-            end += 1
-        found.append((match[1], match.start(), head.find("\n", end) + 1))
-    return found
 
 
 @functools.lru_cache(maxsize=None)
@@ -293,7 +307,7 @@ def clauses_asked(crate, clause, path, name):
     stands on; all of them where the edit names none. The others cost their proofs, and say nothing of the edit."""
     text = text_of(crate, path)
     its = next(it for it in functions_in(crate, path, text) if it.name == name)
-    every = {it for it, _, _ in clauses_in(text[its.named : its.begin])}
+    every = {it.name for it in clauses_in(text[its.named : its.begin])}
     if its.cycle or clause not in every:
         return every
     asked, parts = {clause}, parts_of(proof_of(crate, its))
@@ -357,7 +371,7 @@ def without_clauses(crate, edit, name, text):
     """A proof file without the answers for clauses that a copy isn't asked for."""
     path, its = next((path, it) for path, it in all_functions(crate) if it.name == name)
     source = text_of(crate, path)
-    every = {clause for clause, _, _ in clauses_in(source[its.named : its.begin])}
+    every = {it.name for it in clauses_in(source[its.named : its.begin])}
     gone = every - clauses_asked(crate, edit.clause, path, name)
     return "\n\n".join(it.text for it in parts_of(text) if not any(of_clause(named, gone) for named in it.names))
 
@@ -382,7 +396,7 @@ def read(crate, file):
     """An edit, with the functions that it changes."""
     with open(file, encoding="utf-8") as opened:
         edit = Edit(crate, os.path.basename(file).removesuffix(".edit"), opened.read())
-    path, old, named = "", "", []
+    path, old = "", ""
     for line in edit.text.split("\n"):
         word, _, rest = line.partition(":")
         rest = rest.removeprefix(" ")
@@ -393,14 +407,42 @@ def read(crate, file):
         elif word == "new":
             edit.pairs.append((path, old, rest))
         elif word == "fn":
-            named += rest.split()
+            edit.named += rest.split()
         elif word == "clause":
             edit.clause = rest.strip()
+        elif word == "shows":
+            edit.shows = rest.strip()
+        elif word == "goal":
+            edit.goal, _, edit.why = (it.strip() for it in rest.partition(":"))
     edit.what = applied(crate, [edit])[1]
+    if not edit.what:
+        find_functions(edit, edit.named)
+        edit.what = lacks(edit) if os.path.basename(os.path.dirname(file)) == "wrong" else ""
     edit.kind = BAD if edit.what else ""
-    if not edit.kind:
-        find_functions(edit, named)
     return edit
+
+
+def lacks(edit):
+    """What can be seen by the text to be wrong with what an edit says of itself."""
+    if not edit.clause or not edit.shows:
+        return f": it has no line {'shows' if edit.clause else 'clause'}:"
+    if edit.goal and not edit.why:
+        return ": its line goal: doesn't say why the clause is broken where that goal is refused"
+    contracts = [contract_of(edit.crate, it) for it in edit.copied or edit.functions]
+    said = [it[edit.clause] for it in contracts if it and edit.clause in it]
+    if contracts and not said and None not in contracts:
+        return f": {' '.join(edit.copied or edit.functions)} has no clause {edit.clause}"
+    if any(clauses.says_nothing_of(it, " ".join(old for _, old, _ in edit.pairs), " ".join(new for _, _, new in edit.pairs)) for it in said):
+        return f": the clause {edit.clause} says nothing of the outcome that it makes"
+    return ""
+
+
+def contract_of(crate, name):
+    """The clauses of a function by their names; None where its text doesn't tell them, as where a trait has them."""
+    path, its = next(((path, it) for path, it in all_functions(crate) if it.name == name), ("", None))
+    if not its or its.is_of_trait:
+        return None
+    return {it.name: it.text for it in clauses_in(text_of(crate, path)[its.named : its.begin])}
 
 
 def find_functions(edit, named):
@@ -558,12 +600,12 @@ def judge(edit, said, refused):
     told = {name: verdict for name, verdict, _ in VERDICT.findall(said)}
     goals = [it for key in edit.functions.values() or refused for it in refused.get(key, {}).items()]
     real = sorted({goal for goal, is_real in goals if is_real})
-    meant = [it for it in real if not edit.clause or it == edit.clause or it.endswith(f"clause-{edit.clause}")]
+    meant = [it for it in real if not edit.clause or it == edit.goal or clauses.is_goal_of(it, edit.clause)]
     is_proved = {told.get(it) for it in edit.functions} <= PROVED if edit.functions else "\nlogic=proved" in said
     if meant:
         edit.set(REFUSED, f" at {', '.join(meant)}")
     elif real:
-        edit.set(WEAK, f": refused at {', '.join(real)} and not at {edit.clause}")
+        edit.set(WEAK, f": refused at {', '.join(real)} and not where it returns, at {edit.clause}")
     elif goals:
         edit.set(WEAK, ": only its proof file names what the edit took away")
         edit.gone = sorted({goal for goal, _ in goals if goal})
@@ -618,6 +660,31 @@ def judge_all(crate, edits, said):
     return [[it] for it in edits if it.kind == UNCLEAR]
 
 
+# ---- copies as they are
+
+# Where it is kept that the prover accepts copies of functions as they are.
+COPIES = f"{clones.TOP}/copies"
+
+
+def compared(name):
+    """The copies of a crate that were proved: by the function and the clause that was asked of it the sum of what they were."""
+    path = f"{COPIES}/{name}.tsv"
+    lines = clones.text_of(path).splitlines() if os.path.isfile(path) else []
+    return {tuple(line.split("\t")[:2]): line.split("\t")[2] for line in lines}
+
+
+def keep_compared(name, rows):
+    os.makedirs(COPIES, exist_ok=True)
+    put_text(f"{COPIES}/{name}.tsv", "".join(f"{function}\t{clause}\t{told}\n" for (function, clause), told in sorted(rows.items())))
+
+
+def sum_of_copy(edit, name):
+    """A sum of a copy as it is: of its text, without its docs, and of its proof files, however their lines are broken."""
+    plain = dataclasses.replace(edit, name="as_it_is", pairs=[], proofs={})
+    texts = {"": re.sub(r"(?m)^ *///?.*\n", "", copy_of(edit.crate, plain, edit.copied[name], name)), **proofs_of_copy(edit.crate, plain, name)}
+    return hashlib.sha256(repr(sorted((path, text.split()) for path, text in texts.items())).encode()).hexdigest()[:16]
+
+
 # ---- a crate
 
 
@@ -631,12 +698,20 @@ class Work:
     cache: str
     # A sum of all that a verdict stands on, but for the edit: the crate and those below it, the kit, and the scripts.
     base: str
+    # Whether it is functions as they are that are copied.
+    keeps_copies: bool = False
 
     def place(self, edit):
-        return f"{self.cache}/{hashlib.sha256((self.base + edit.text).encode()).hexdigest()}"
+        return f"{self.cache}/{hashlib.sha256((self.base + edit.tried()).encode()).hexdigest()}"
 
     def to_try(self):
         return [it for it in self.edits if not it.kind]
+
+    def compare(self):
+        """Sets which edits have copies that are known to be proved as they are."""
+        rows = compared(self.crate.name)
+        for edit in [it for it in self.edits if not it.kind]:
+            edit.is_compared = all(rows.get((it, edit.clause)) == sum_of_copy(edit, it) for it in edit.copied)
 
     def take_kept(self):
         for edit in self.edits if self.cache else []:
@@ -644,6 +719,9 @@ class Work:
                 edit.set(REFUSED, clones.text_of(self.place(edit)))
 
     def keep(self, edits):
+        proved = {(name, it.clause): sum_of_copy(it, name) for it in edits if self.keeps_copies and it.kind == ACCEPTED for name in it.copied}
+        if proved:
+            keep_compared(self.crate.name, compared(self.crate.name) | proved)
         for edit in edits:
             if self.cache and edit.kind == REFUSED:
                 put_text(self.place(edit), edit.what)
@@ -667,6 +745,16 @@ def try_crate(work, clone, logs, as_built, is_built, words=None):
 
 # A crate of this script's own: its functions, by their bodies, and the proof file of the one with a loop.
 OWN = {"low": "n", "high": "low(n)", "highest": "high(n)", "apart": "let m = n; m", "counted": "let mut m = 0; while m < n { m += 1; } m"}
+OWN_CHECKED = """
+pub fn checked(n: u8) -> Result<u8, u8>
+    ensures ok { IfOk result (λ x. x ≡ n) }
+    ensures small { OnOk result (n ≤ 9) }
+    ensures err { OnErr result (9 < n) }
+{
+    if n > 9 { return Err(n); }
+    Ok(n)
+}
+"""
 OWN_LOOP = """use Rattle.std.proofs.Common.{◌≤◌, ◌-◌}
 use Rattle.own.proofs.counted.Given as goal
 
@@ -677,30 +765,48 @@ abbrev pub decreases-loop-m : goal.decreases-loop-m
 decreases-loop-m l = l.n - l.m
 """
 
-# Its edits, each with whether it has to be refused: a wrong body in a copy and one in its place, a body that means the same and calls a wrong one, and
-# two copies that mean the same, one of them with a proof file.
+SAID = "clause: returns\nshows: n = 0: made up; made up\n"
+UNDONE = "old: return Err(n);\nnew: return Ok(n);\n"
+
+# Its edits, each with what has to come of it: a wrong body in a copy and one in its place, a body that means the same and calls a wrong one, and
+# two copies that mean the same, one of them with a proof file. Then those that are refused by what they say: one without its two lines, one whose clause says nothing of
+# the outcome that it makes, one of a clause that the function hasn't, one at another goal than that of its clause, and the same with that goal.
 OWN_EDITS = {
-    "low": ("old:     n\nnew:     1\n", REFUSED),
-    "low_in_place": ("fn: low\nold:     n\nnew:     2\n", REFUSED),
-    "high_in_place": ("fn: high\nold: low(n)\nnew: let n = low(n); n\n", ACCEPTED),
-    "apart": ("old: let m = n; m\nnew: n\n", ACCEPTED),
-    "counted": ("old: m += 1;\nnew: m = m + 1;\n", ACCEPTED),
+    "low": (f"old:     n\nnew:     1\n{SAID}", REFUSED),
+    "low_in_place": (f"fn: low\nold:     n\nnew:     2\n{SAID}", REFUSED),
+    "high_in_place": (f"fn: high\nold: low(n)\nnew: let n = low(n); n\n{SAID}", ACCEPTED),
+    "apart": (f"old: let m = n; m\nnew: n\n{SAID}", ACCEPTED),
+    "counted": (f"old: m += 1;\nnew: m = m + 1;\n{SAID}", ACCEPTED),
+    "says_nothing": ("old: if n > 9\nnew: if n > 8\nclause: err\n", BAD),
+    "says_nothing_of_it": (f"{UNDONE}clause: err\nshows: n = 10: Ok(10); made up\n", BAD),
+    "has_no_such_clause": (f"{UNDONE}clause: found\nshows: n = 10: Ok(10); made up\n", BAD),
+    "undone": (f"{UNDONE}clause: small\nshows: n = 10: Ok(10); n is at most 9\n", REFUSED),
+    "beyond": ("old: while m < n\nnew: while m < n.saturating_add(1)\nclause: returns\nshows: n = 0: 1; the answer is n\n", WEAK),
+    "beyond_too": (
+        "old: while m < n\nnew: while m < n.saturating_add(1)\nclause: returns\nshows: n = 0: 1; the answer is n\n"
+        "goal: loop-m-preserved: the loop goes on past n\n",
+        REFUSED,
+    ),
 }
 
 
 def fails_itself(folder):
     """Tries the crate of this script's own. Returns what went otherwise than it has to."""
-    text = "//! Tried.\n#![tactic(auto)]\n\nghost use Rattle.std.specs.Prelude.{◌≡◌};\n"
+    text = "//! Tried.\n#![tactic(auto)]\n\nghost use Rattle.std.specs.Prelude.{◌≡◌, ◌<◌, ◌≤◌, IfOk, OnOk, OnErr};\n"
     for name, body in OWN.items():
         text += f"\npub fn {name}(n: u8) -> u8\n    ensures {{ result ≡ n }}\n{{\n    {body}\n}}\n"
+    text += OWN_CHECKED
     crate = Judged("own", f"{folder}/crates/own")
     put(crate, {"../../crates.txt": "own:\n", "src/lib.rt": text, "proofs/counted/Invariants.antt": OWN_LOOP})
     edits = []
+    os.mkdir(f"{folder}/wrong")
     for name, (lines, _) in OWN_EDITS.items():
-        put_text(f"{folder}/{name}.edit", f"file: src/lib.rt\n{lines}")
-        edits.append(read(crate, f"{folder}/{name}.edit"))
-    for some in plan(crate, edits):
+        put_text(f"{folder}/wrong/{name}.edit", f"file: src/lib.rt\n{lines}")
+        edits.append(read(crate, f"{folder}/wrong/{name}.edit"))
+    for some in plan(crate, [it for it in edits if not it.kind]):
         try_round(crate, some)
+    if clauses.fails_itself():
+        return "\n".join(clauses.fails_itself())
     return "" if [it.kind for it in edits] == [kind for _, kind in OWN_EDITS.values()] else "\n".join(map(str, edits))
 
 
@@ -732,22 +838,25 @@ def work_in(top, given):
         found |= {os.path.basename(it).removesuffix(".edit") for it in files}
         if files:
             edits = [read(Judged(name, crate.path(top)), it) for it in files]
-            edits = unchanged(edits) if given.unchanged else edits
-            work.append(Work(crate, files, edits, given.cache, clones.sum_of(top, [crate]) + scripts))
+            edits = unchanged(edits, given.anew) if given.unchanged else edits
+            work.append(Work(crate, files, edits, given.cache, clones.sum_of(top, [crate]) + scripts, given.unchanged))
     for name in given.edit:
         if name not in found:
             raise Stop(f"there is no edit {name}")
     return work
 
 
-def unchanged(edits):
-    """Of the edits that change copies one for each function and clause, which then changes nothing."""
+def unchanged(edits, is_anew):
+    """Of the edits that change copies one for each function and clause, which then changes nothing. Those that were proved before pass, unless all are tried
+    anew."""
     found, seen = [], set()
     for edit in edits:
         asked = {(it, edit.clause) for it in edit.copied}
-        if asked - seen:
+        if not edit.kind and asked - seen:
             seen |= asked
+            rows = {} if is_anew else compared(edit.crate.name)
             edit.pairs = []
+            edit.kind = ACCEPTED if all(rows.get((it, edit.clause)) == sum_of_copy(edit, it) for it in edit.copied) else ""
             found.append(edit)
     return found
 
@@ -864,6 +973,8 @@ def main():
         os.makedirs(folder, exist_ok=True)
     work = work_in(clones.TOP, given)
     for one in work:
+        if not given.unchanged:
+            one.compare()
         if not given.anew:
             one.take_kept()
     pending = [it for it in work if it.to_try()]
@@ -874,7 +985,7 @@ def main():
     if pending:
         with clones.folder_for_clones() as folder:
             wrong = (try_over_ci if rt_ci.has_passed() else try_all)(pending, folder, given)
-    kinds = [edit.kind for one in work for edit in one.edits]
+    kinds = [edit.verdict() for one in work for edit in one.edits]
     failed = len(kinds) - kinds.count(right) + bool(wrong)
     if wrong:
         print(f"the self-test failed, so nothing of this counts:\n{wrong}")

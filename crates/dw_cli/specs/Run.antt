@@ -1,13 +1,16 @@
 -- A run by a command line: the files that it reads, what it makes of them, and how it ends.
-use Rattle.std.specs.Prelude.{◌≡◌, ◌≢◌, ◌⊎◌, ℕ, List, [], ◌∷◌, Option, Some, Result, Ok, Err, IsErrAnd, Vec, slice_get}
+use Rattle.std.specs.Prelude.{◌≡◌, ◌≢◌, ◌⊎◌, ◌<◌, ℕ, List, [], ◌∷◌, length, Option, Some, None, Result, Ok, Err, IsErrAnd, Vec, slice_get}
+use Rattle.std.specs.Io.KnownBytes.{Consumes}
+use Rattle.std.specs.declared.io.ErrorKind.{ErrorKind}
 use Rattle.std.specs.Option.{option_map_or}
 use Rattle.std.specs.declared.alloc.Global.{Global}
 use Rattle.std.specs.Borrow.{Bor}
 use Rattle.dw_strings.specs.Text.{StringSections}
 use Rattle.dw_tool.specs.declared.failure.Failure.{Failure}
+use Rattle.dw_tool.specs.declared.failure.Failure.TheVariants.{File, Output, Memory}
 use Rattle.dw_tool.specs.declared.status.Status.{Status}
 use Rattle.dw_tool.specs.declared.status.ToolError.{ToolError}
-use Rattle.dw_tool.specs.Failure.{RunFails}
+use Rattle.dw_tool.specs.Failure.{FailsAs, RunFails}
 use Rattle.dw_tool.specs.Run.{Runs}
 use Rattle.dw_cli.specs.declared.outcome.Line.{Line}
 use Rattle.dw_cli.specs.declared.outcome.LineError.{LineError}
@@ -43,6 +46,22 @@ RunsLine line files left left' held held' ended =
     (ran : Result Status ToolError)
     × Runs line.command (texts_in files) line.versions line.order (file_at files 0) left left' held held' ran
     × RunEnds ran line.info ended
+
+-- Where the reader of the file with this path failed, the program ends with that; else with the failure of no file.
+abbrev pub ReadEnds : Bor (List ℕ) → Option ErrorKind → Result Status Failure → Type 0
+ReadEnds info (Some kind) ended = IsErrAnd ended (FailsAs kind (File info))
+ReadEnds info None ended = (path : Bor (List ℕ)) → ended ≢ Err (File path)
+
+-- where the writer failed, it ends with a failure of standard output; else with none
+abbrev pub WriteEnds : Option ErrorKind → Result Status Failure → Type 0
+WriteEnds (Some kind) ended = IsErrAnd ended (FailsAs kind Output)
+WriteEnds None ended = ended ≢ Err Output
+
+-- For want of memory it ends, where neither of these failed, only after at least one byte was read.
+abbrev pub MemoryEnds : Option (List ℕ) → Option (List ℕ) → Option ErrorKind → Option ErrorKind → Result Status Failure
+    → Type 0
+MemoryEnds left left' read write ended =
+    ended ≡ Err Memory → read ≡ None → write ≡ None → (bytes : List ℕ) × (0 < length bytes) × Consumes left left' bytes
 
 -- The exit status where words are no line: 2 after a mistake, 4 without memory. That of help is told by whether it
 -- could be printed.

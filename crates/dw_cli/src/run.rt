@@ -1,8 +1,9 @@
 //! A run by a command line.
 ghost use Rattle.std.specs.Prelude.{◌≡◌, None};
 ghost use Rattle.dw_leb.specs.Watch.{fault_of, inner_of};
-ghost use Rattle.dw_cli.specs.Run.{RunsLine, file_at, texts_in};
-ghost use Rattle.dw_tool.specs.Run.{Runs};
+ghost use Rattle.dw_cli.specs.Run.{MemoryEnds, ReadEnds, RunsLine, WriteEnds, file_at, texts_in};
+ghost use Rattle.dw_tool.specs.Run.{Runs, TookBytes};
+ghost use Rattle.dw_tool.specs.Status.{run_reader_fault, run_writer_fault};
 
 use crate::outcome::Line;
 use dw_leb::Watched;
@@ -17,7 +18,9 @@ use std::io::{Read, Write};
 /// files that `Line::whole_files` names, in that order; one that isn't named is empty, and so is one that isn't there.
 /// `info` reads the file that the line names for `.debug_info`, and `writer` writes to standard output.
 ///
-/// Errors: those of `dw_tool::run::run`, as failures of that file and of standard output.
+/// Errors: those of `dw_tool::run::run`, as failures of that file and of standard output: of the file exactly where
+/// `info` failed, of standard output exactly where `writer` did, and `Memory` where one of them failed for want of memory,
+/// or a growth was refused, which takes at least a byte that was read.
 pub fn run_line<'a, R: Read, W: Write>(
     alloc: Global,
     line: &Line<'a>,
@@ -27,8 +30,12 @@ pub fn run_line<'a, R: Read, W: Write>(
 ) -> Result<Status, Failure<'a>>
     requires reader { fault_of info.old ≡ None }
     requires writer { fault_of writer.old ≡ None }
-    ensures { RunsLine line.now files.now (R.remaining (inner_of info.old)) (R.remaining (inner_of info.new))
+    ensures runs { RunsLine line.now files.now (R.remaining (inner_of info.old)) (R.remaining (inner_of info.new))
         (W.contents (inner_of writer.old)) (W.contents (inner_of writer.new)) result }
+    ensures memory { MemoryEnds (R.remaining (inner_of info.old)) (R.remaining (inner_of info.new))
+        (fault_of info.new) (fault_of writer.new) result }
+    ensures read { ReadEnds line.now.info (fault_of info.new) result }
+    ensures write { WriteEnds (fault_of writer.new) result }
 {
     match run_over(alloc, line, files, info, writer) {
         Ok(status) => Ok(status),
@@ -45,9 +52,12 @@ fn run_over<R: Read, W: Write>(
 ) -> Result<Status, ToolError>
     requires reader { fault_of info.old ≡ None }
     requires writer { fault_of writer.old ≡ None }
-    ensures { Runs line.now.command (texts_in files.now) line.now.versions line.now.order (file_at files.now 0)
+    ensures runs { Runs line.now.command (texts_in files.now) line.now.versions line.now.order (file_at files.now 0)
         (R.remaining (inner_of info.old)) (R.remaining (inner_of info.new)) (W.contents (inner_of writer.old))
         (W.contents (inner_of writer.new)) result }
+    ensures memory { TookBytes (R.remaining (inner_of info.old)) (R.remaining (inner_of info.new)) result }
+    ensures read { fault_of info.new ≡ run_reader_fault result }
+    ensures write { fault_of writer.new ≡ run_writer_fault result }
 {
     let inputs = Inputs {
         order: line.order,

@@ -1,10 +1,10 @@
 -- A feed of a header, as its callers see it, and what each of its calls answers.
-use Rattle.std.specs.Prelude.{◌≡◌, ◌≢◌, ℕ, ◌+◌, ◌-◌, ◌≤◌, ◌<◌, List, [], ◌∷◌, ◌++◌, length, take, Option, Some, None, ◌⊎◌}
+use Rattle.std.specs.Prelude.{◌≡◌, ◌≢◌, ℕ, ◌+◌, ◌-◌, ◌≤◌, ◌<◌, List, [], ◌∷◌, ◌++◌, length, take, nat_lt, if◌then◌else◌, Option, Some, None, ◌⊎◌}
 use Rattle.dw_leb.specs.declared.errors.Reason.TheVariants.{Truncated}
 use Rattle.dw_leb.specs.declared.errors.Fault.{Fault as TheFault}
 use Rattle.dw_leb.specs.declared.order.Order.{Order}
 use Rattle.dw_header.specs.declared.versions.Versions.{Versions}
-use Rattle.dw_header.specs.declared.versions.Versions.TheVariants.{Five}
+use Rattle.dw_header.specs.declared.versions.Versions.TheVariants.{Five, FourAndFive}
 use Rattle.dw_header.specs.Header.{Header, Accepts}
 use Rattle.dw_header.specs.HeaderPlace.{HeaderFaultUnder, header_bytes}
 use Rattle.dw_header.specs.Laws.{HasHeaderBytes}
@@ -105,6 +105,31 @@ FieldLacks versions offset count n =
     ⊎ ((versions ≡ Five) × (4 ≤ count)
     × ((count + n ≡ 4 + offset) ⊎ ((4 + offset ≤ count) × (count + n ≡ 12 + offset))
     ⊎ ((12 + offset ≤ count) × (count + n ≡ 12 + offset + offset))))
+
+-- Where the fields of a header end, counted from behind its length field (section 7.5.1): of version 5 the version, the
+-- unit_type, the address_size, the debug_abbrev_offset, and one or two numbers that a kind adds. Where version 4 is read
+-- too, whose fields come in another order, only where the version ends.
+abbrev pub field_ends : Versions → ℕ → List ℕ
+field_ends Five offset = 2 ∷ 3 ∷ 4 ∷ (4 + offset) ∷ (12 + offset) ∷ (12 + offset + offset) ∷ []
+field_ends FourAndFive offset = 2 ∷ []
+
+-- from so many bytes on to the first of these ends that is past them; one where none is
+abbrev pub to_end : List ℕ → ℕ → ℕ
+to_end [] count = 1
+to_end (end ∷ ends) count = if nat_lt count end then end - count else to_end ends count
+
+-- the rest of the length field, or of the field behind it that comes next
+abbrev pub IsLacking : Versions → List ℕ → ℕ → Type 0
+IsLacking versions taken n =
+    (size : ℕ) × (offset : ℕ) × AreSizes taken size offset
+    × (n ≡ (if nat_lt (length taken) size then size - length taken
+    else to_end (field_ends versions offset) (length taken - size)))
+
+-- what is lacking of the field that comes next, and nothing after an answer
+abbrev pub WantsExactly : Versions → HeadState → ℕ → Type 0
+WantsExactly versions (Reading taken) n = IsLacking versions taken n
+WantsExactly versions (Refused f) n = n ≡ 0
+WantsExactly versions Finished n = n ≡ 0
 
 -- of the length field, or of a field behind it
 abbrev pub Lacks : Versions → List ℕ → ℕ → Type 0

@@ -125,8 +125,9 @@ impl BodyFeed {
         Progress::Fault(fault)
     }
 
-    /// The end of the input: the fault of a unit of which bytes are missing, or the fault that was answered
-    /// before. None where the unit was, or where a growth was refused.
+    /// The end of the input: the fault of a unit of which bytes are missing (`Truncated`), or the fault that was
+    /// answered before. Before the first piece it may also be that the unit has no room for a root (`PastUnit`), which
+    /// the first piece, an empty one too, would show. None where the unit was answered, or where a growth was refused.
     pub fn end(self) -> Option<Fault>
         ensures { EndsBody self result }
     {

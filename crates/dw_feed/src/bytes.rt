@@ -1,5 +1,5 @@
 //! Bytes that are taken from a reader and kept.
-ghost use Rattle.std.specs.Prelude.{◌≡◌, ◌<◌, ◌≤◌, [], None, IfErr, OnErr, length, vec_items};
+ghost use Rattle.std.specs.Prelude.{◌≡◌, ◌<◌, ◌≤◌, [], None, IfErr, OnErr, length};
 ghost use Rattle.std.specs.Io.{ReadsAtMost};
 ghost use Rattle.std.specs.Result.{result_err};
 ghost use Rattle.std.specs.Io.KnownBytes.{ReadConsumes};
@@ -7,7 +7,6 @@ ghost use Rattle.dw_leb.specs.Watch.{inner_of, fault_of, reader_fault, KeptSome}
 ghost use Rattle.dw_feed.specs.Feed.{ReadsField, ReadsUpTo, ReadsSome, HoldsTaken, IsEscape};
 
 use dw_leb::{ReadError, Watched};
-use std::alloc::Global;
 use std::io::{ErrorKind, Read};
 
 /// The most bytes that are read at once.
@@ -41,26 +40,9 @@ pub(crate) fn read_part<R: Read>(
     }
 }
 
-/// The bytes of an initial length (section 7.4): four, and eight more where those are ff ff ff ff. Fewer where the
-/// reader has no more. `NoMemory` is returned where a growth was refused, and only where at least a byte was
-/// taken.
-///
-/// A part of the reader of sections in `dw_section`, and no call for users.
-pub fn field_bytes<R: Read>(alloc: Global, reader: &mut Watched<R>) -> Result<Vec<u8>, ReadError>
-    requires { fault_of reader.old ≡ None }
-    ensures bytes { ReadsField vec_items
-        (R.remaining (inner_of reader.old))
-        (R.remaining (inner_of reader.new))
-        result }
-    ensures memory { KeptSome (R.remaining (inner_of reader.old)) (R.remaining (inner_of reader.new)) result }
-    ensures fault { fault_of reader.new ≡ reader_fault result }
-{
-    let mut bytes = Vec::new(alloc);
-    read_field(reader, &mut bytes)?;
-    Ok(bytes)
-}
-
-/// The same, put into a list that is empty.
+/// The bytes of an initial length (section 7.4), put into a list that is empty: four, and eight more where those are ff
+/// ff ff ff. Fewer where the reader has no more. `NoMemory` is returned where a growth was refused, and only where at
+/// least a byte was taken.
 ///
 /// A part of the reader of sections in `dw_section`, and no call for users.
 pub fn read_field<R: Read>(reader: &mut Watched<R>, bytes: &mut Vec<u8>) -> Result<(), ReadError>

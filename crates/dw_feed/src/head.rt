@@ -5,7 +5,7 @@ ghost use Rattle.dw_header.specs.declared.versions.Versions.TheVariants.{Five};
 ghost use Rattle.dw_header.specs.HeaderPlace.{HeaderFaultUnder};
 ghost use Rattle.dw_header.specs.Laws.{HasHeaderBytes};
 ghost use Rattle.dw_feed.specs.HeaderCut.{IsCut};
-ghost use Rattle.dw_feed.specs.HeadFeed.{FeedsHead, IfDone, Answers, Ends, Reading, Wants, Lacks, FieldLacks, AreSizes};
+ghost use Rattle.dw_feed.specs.HeadFeed.{FeedsHead, IfDone, Answers, Ends, Reading, Wants, WantsExactly, Lacks, FieldLacks, AreSizes, IsLacking, field_ends, to_end};
 ghost use Rattle.dw_feed.specs.HeadFeedView.{state_of, ended, JudgedAs, ShowsHead};
 
 use crate::bytes::is_escape;
@@ -96,10 +96,12 @@ impl HeadFeed {
 
     /// How many bytes the feed needs at the least before it can answer: with fewer, every piece is answered
     /// `More`. At first these are the four bytes of a length field, and eight more where it begins with ff ff
-    /// ff ff (section 7.2.2); then the rest of the field that comes next, or one byte of it. So whoever pushes no
+    /// ff ff (section 7.2.2); then the rest of the version; then those of the field that comes next in a header of
+    /// version 5 (section 7.5.1), or one byte where version 4 is read too. So whoever pushes no
     /// more than these takes no byte that the header doesn't have. 0 once an answer was not `More`.
     pub fn wants(&self) -> usize
         ensures least { Wants self.now.versions self.now.order self.now.state result }
+        ensures exact { WantsExactly self.now.versions self.now.state result }
         ensures most { result ≤ 8 }
     {
         match self.answered {
@@ -124,6 +126,7 @@ impl HeadFeed {
 /// How many bytes the field lacks that comes next, at the least.
 fn lacking(versions: Versions, taken: &[u8]) -> usize
     ensures lacks { Lacks versions taken.now result }
+    ensures exact { IsLacking versions taken.now result }
     ensures some { 0 < result }
     ensures most { result ≤ 8 }
 {
@@ -153,6 +156,7 @@ fn sizes(taken: &[u8]) -> (usize, usize)
 fn lacking_field(versions: Versions, offset_size: usize, count: usize) -> usize
     requires { offset_size ≤ 8 }
     ensures lacks { FieldLacks versions offset_size count result }
+    ensures exact { result ≡ to_end (field_ends versions offset_size) count }
     ensures some { 0 < result }
     ensures most { result ≤ 8 }
 {

@@ -1,17 +1,15 @@
 //! Units of DWARF 5, and of DWARF 4 where a caller asks for them, read from bytes at hand and from any reader, in
 //! whatever pieces their bytes come (section 7.5).
 //!
-//! `field_bytes`, `read_field`, `read_some`, `read_up_to`, `read_unit_behind` and `read_unit_begun` are no calls for
-//! users, and `rothelduf` doesn't name them: they are the parts of which `dw_section` makes its reader of whole
-//! sections.
+//! `read_field`, `read_some`, `read_up_to` and `read_unit_begun` are no calls for users, and `rothelduf` doesn't name
+//! them: they are the parts of which `dw_section` makes its reader of whole sections.
 //!
 //! What its modules have:
 //!
-//! - `bytes`: `field_bytes`, `read_field`, `read_some`, `read_up_to`: a length field, what one read gives, or so many
-//!   bytes, taken from a reader and kept. Readers of sections call them
+//! - `bytes`: `read_field`, `read_some`, `read_up_to`: a length field, what one read gives, or so many bytes, taken from
+//!   a reader and kept. Readers of sections call them
 //! - `reader`: `read_unit_from`, `read_unit_from_as`: a unit from a reader, its bytes pushed into the feeds as they
-//!   come; `read_unit_behind`, `read_unit_begun`: the same, where a feed has taken the first bytes already, or they are
-//!   at hand
+//!   come; `read_unit_begun`: the same, where its first bytes are at hand
 //! - `progress`: `Progress`: what a feed answers to a piece of bytes that are pushed
 //! - `head`: `HeadFeed`: a header that is pushed in pieces
 //! - `body`, `held`: `BodyFeed`: the rest of a unit that is pushed in pieces; `Held`: what such a feed holds
@@ -40,9 +38,9 @@ mod unit_in_parts;
 mod value;
 
 pub use body::BodyFeed;
-pub use bytes::{field_bytes, read_field, read_some, read_up_to};
+pub use bytes::{read_field, read_some, read_up_to};
 pub use head::HeadFeed;
 pub use held::Held;
 pub use progress::Progress;
-pub use reader::{read_unit_begun, read_unit_behind, read_unit_from, read_unit_from_as};
+pub use reader::{read_unit_begun, read_unit_from, read_unit_from_as};
 pub use unit::{read_unit, read_unit_as};

@@ -97,9 +97,7 @@ pub fn read_unit_from_as<R: Read>(
 ///
 /// All that is said there of what the reader had left is said of the bytes that the feed took and those behind
 /// them; offsets count from the first of these.
-///
-/// A part of the reader of sections in `dw_section`, and no call for users.
-pub fn read_unit_behind<R: Read>(
+fn read_unit_behind<R: Read>(
     alloc: Global,
     feed: HeadFeed,
     tables: &mut Tables<'_>,

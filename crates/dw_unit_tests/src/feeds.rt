@@ -5,7 +5,7 @@ ghost use Rattle.dw_leb.specs.Watch.{fault_of, reader_fault};
 
 use crate::common::{FIFTEEN, NAMED, same};
 use dw_abbrev::Tables;
-use dw_feed::{field_bytes, read_unit_from, read_up_to};
+use dw_feed::{read_field, read_unit_from, read_up_to};
 use dw_leb::devices::Stepped;
 use dw_leb::{Fault, Order, ReadError, Reason, SectionId, Watched};
 use dw_unit::Unit;
@@ -50,7 +50,8 @@ const ALMOST_FOUR_GIGABYTES: [u8; 15] = [
 fn believes_no_announced_length(rt: HostRuntime) -> Result<(), Fail> {
     let bytes = ALMOST_FOUR_GIGABYTES.as_slice();
     let mut reader = Watched::new(bytes);
-    let mut taken = field_bytes(rt.alloc(), &mut reader)?;
+    let mut taken = Vec::new(rt.alloc());
+    read_field(&mut reader, &mut taken)?;
     same(&rt, taken.as_slice(), &bytes[..4]);
     read_up_to(&mut reader, 0xffff_ffef, &mut taken)?;
     same(&rt, taken.as_slice(), bytes);

@@ -84,7 +84,7 @@ fn fill(draft: &mut Draft, text: &mut String) -> Result<(), AllocError> {
 }
 
 /// An entry of this code begins, where one can.
-fn begin(draft: &mut Draft, code: u64, text: &mut String) -> Result<(), AllocError> {
+pub(crate) fn begin(draft: &mut Draft, code: u64, text: &mut String) -> Result<(), AllocError> {
     let code = Uleb::least(code);
     let is_second_root = draft.depth() == 0 && !draft.is_empty();
     if draft.next_pair().is_some() || is_second_root || !draft.has_level() {
@@ -177,7 +177,11 @@ fn tell_begun(draft: &mut Draft, is_given: bool, text: &mut String) -> Result<()
 }
 
 /// The unfinished entry is given a value that fits.
-fn give(draft: &mut Draft, value: AttrValue<'_>, text: &mut String) -> Result<(), AllocError> {
+pub(crate) fn give(
+    draft: &mut Draft,
+    value: AttrValue<'_>,
+    text: &mut String,
+) -> Result<(), AllocError> {
     if draft.partial_value().is_some() {
         return text.push_str("value FAILED\n");
     }
@@ -214,7 +218,7 @@ fn give_fitting(
 }
 
 /// A text begins as the next value of the unfinished entry.
-fn start(draft: &mut Draft, text: &mut String) -> Result<(), AllocError> {
+pub(crate) fn start(draft: &mut Draft, text: &mut String) -> Result<(), AllocError> {
     if draft.next_pair().is_none() || draft.partial_value().is_some() {
         return text.push_str("start FAILED\n");
     }
@@ -227,7 +231,11 @@ fn start(draft: &mut Draft, text: &mut String) -> Result<(), AllocError> {
 }
 
 /// The partial text is given more of its bytes.
-fn lengthen(draft: &mut Draft, piece: &[u8], text: &mut String) -> Result<(), AllocError> {
+pub(crate) fn lengthen(
+    draft: &mut Draft,
+    piece: &[u8],
+    text: &mut String,
+) -> Result<(), AllocError> {
     if draft.partial_value().is_none() {
         return text.push_str("bytes FAILED\n");
     }
@@ -257,7 +265,7 @@ fn can_end(draft: &Draft) -> bool
 }
 
 /// The partial text has all its bytes.
-fn end(draft: &mut Draft, text: &mut String) -> Result<(), AllocError> {
+pub(crate) fn end(draft: &mut Draft, text: &mut String) -> Result<(), AllocError> {
     if !can_end(draft) {
         return text.push_str("end_value FAILED\n");
     }
@@ -266,7 +274,7 @@ fn end(draft: &mut Draft, text: &mut String) -> Result<(), AllocError> {
 }
 
 /// The innermost open entry is closed, where one is open.
-fn close(draft: &mut Draft, width: u8, text: &mut String) -> Result<(), AllocError> {
+pub(crate) fn close(draft: &mut Draft, width: u8, text: &mut String) -> Result<(), AllocError> {
     if draft.next_pair().is_some() || draft.depth() == 0 {
         return text.push_str("close FAILED\n");
     }

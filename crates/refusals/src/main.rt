@@ -8,9 +8,11 @@
 #![tactic(auto)]
 
 mod builders;
+mod deep;
 mod drafts;
 mod feeds;
 mod quiet;
+mod quiet_parts;
 mod readers;
 mod runs;
 mod samples;
@@ -27,7 +29,7 @@ use std::process::ExitCode;
 use std::rt::Env;
 use std::{env, io};
 
-const SCENARIOS: [&str; 20] = [
+const SCENARIOS: [&str; 21] = [
     "value",
     "tables",
     "declaration",
@@ -36,6 +38,7 @@ const SCENARIOS: [&str; 20] = [
     "draft",
     "unit",
     "unit-from",
+    "deep",
     "body",
     "section",
     "section-as",
@@ -105,6 +108,7 @@ fn tell(alloc: Global, scenario: &str, told: &mut String) -> Result<(), ReadErro
         "draft" => drafts::tell(alloc, told),
         "unit" => readers::tell_unit(alloc, told),
         "unit-from" => readers::tell_unit_from(alloc, told),
+        "deep" => deep::tell(alloc, told),
         "body" => feeds::tell(alloc, told),
         "section" => sections::tell_read(alloc, told),
         "section-as" => sections::tell_read_as(alloc, told),

@@ -2,6 +2,9 @@
 ghost use Rattle.std.specs.Prelude.{IsSome};
 ghost use Rattle.dw_section.specs.Lookup.{unit_at};
 
+use crate::quiet_parts::{
+    of_devices, of_end_value, of_finished, of_makers, of_numbers, of_undo, of_values,
+};
 use crate::samples::{ROOT_AND_CHILD, header, no_strings, section, table};
 use crate::told;
 use rothelduf::{
@@ -25,6 +28,13 @@ pub(crate) fn tell(
         "feeds" => of_feeds(alloc, count)?,
         "tables" => of_tables(alloc, count)?,
         "finish" => of_finish(alloc, count)?,
+        "numbers" => of_numbers(count),
+        "devices" => of_devices(alloc, count)?,
+        "values" => of_values(alloc, count)?,
+        "makers" => of_makers(alloc, count)?,
+        "end-value" => of_end_value(alloc, count, text)?,
+        "undo" => of_undo(alloc, count, text)?,
+        "finished" => of_finished(alloc, count, text)?,
         _ => 0,
     };
     Ok(write!(text, "{calls} {sum}\n")?)
@@ -52,7 +62,10 @@ fn unit_behind(unit: &Unit, buffer: Vec<u8>) -> Vec<u8> {
 
 fn ask_unit(unit: &Unit, sum: u64) -> u64 {
     let mut sum = sum ^ unit.size() ^ unit.root().offset() ^ unit.padding().len() as u64;
-    sum ^= unit.header().size();
+    sum ^= unit.header().size() ^ unit.tree().row_count() as u64;
+    if let Some(entry) = unit.entries_from(unit.root().offset()).next() {
+        sum ^= entry.end_offset();
+    }
     for entry in unit.entries() {
         sum = ask_entry(unit, &entry, sum);
     }
@@ -106,6 +119,7 @@ fn section_behind(section: &Section, buffer: Vec<u8>) -> Vec<u8> {
 
 fn ask_section(section: &Section, sum: u64) -> u64 {
     let mut sum = sum ^ section.items().len() as u64 ^ section.start(0).unwrap_or(0);
+    sum ^= section.size() ^ section.order() as u64 ^ section.versions() as u64;
     let strings = no_strings();
     if let Some(unit) = section.unit(0) {
         for entry in unit.entries() {
@@ -136,6 +150,9 @@ fn ask_named<'a>(section: &'a Section, strings: &Strings<'a>, entry: &EntryRef<'
             Ok(named) => sum ^= named.len() as u64,
             Err(fault) => sum ^= fault as u64,
         }
+        if strings.place(section, id, &attribute).is_ok() {
+            sum ^= 5;
+        }
     }
     sum
 }
@@ -152,6 +169,7 @@ fn of_feeds(alloc: Global, count: u64) -> Result<u64, ReadError> {
 /// A header that is pushed and one that is read, and feeds that are made and ended.
 fn ask_feeds(alloc: Global, table: &Rc<Table>, sum: u64) -> Result<u64, ReadError> {
     let mut head = HeadFeed::new(Order::Little);
+    let sum = sum ^ head.wants() as u64;
     let (taken, answer) = head.feed(&ROOT_AND_CHILD);
     let mut sum = sum ^ taken as u64;
     if let Progress::Done((header, _)) = answer {

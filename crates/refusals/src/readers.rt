@@ -12,7 +12,10 @@ pub(crate) fn tell_unit(alloc: Global, text: &mut String) -> Result<(), ReadErro
         told::refused(text, "read_unit")?;
         answer = at_hand(alloc, &mut tables);
     }
-    Ok(told::unit(alloc, text, &answer?)?)
+    match answer {
+        Ok(unit) => Ok(told::unit(alloc, text, &unit)?),
+        Err(_) => Ok(told::failed(text, "read_unit")?),
+    }
 }
 
 fn at_hand(alloc: Global, tables: &mut Tables<'_>) -> Result<Unit, ReadError> {
@@ -28,7 +31,10 @@ pub(crate) fn tell_unit_from(alloc: Global, text: &mut String) -> Result<(), Rea
         told::refused(text, "read_unit_from")?;
         answer = of_reader(alloc, &mut tables);
     }
-    Ok(told::unit(alloc, text, &answer?)?)
+    match answer {
+        Ok(unit) => Ok(told::unit(alloc, text, &unit)?),
+        Err(_) => Ok(told::failed(text, "read_unit_from")?),
+    }
 }
 
 fn of_reader(alloc: Global, tables: &mut Tables<'_>) -> Result<Unit, ReadError> {

@@ -13,7 +13,10 @@ pub(crate) fn tell_read(alloc: Global, text: &mut String) -> Result<(), ReadErro
         told::refused(text, "read_section")?;
         answer = section(alloc);
     }
-    Ok(tell_bytes(alloc, &answer?, text)?)
+    match answer {
+        Ok(section) => Ok(tell_bytes(alloc, &section, text)?),
+        Err(_) => Ok(told::failed(text, "read_section")?),
+    }
 }
 
 pub(crate) fn tell_read_as(alloc: Global, text: &mut String) -> Result<(), ReadError> {
@@ -22,7 +25,10 @@ pub(crate) fn tell_read_as(alloc: Global, text: &mut String) -> Result<(), ReadE
         told::refused(text, "read_section_as")?;
         answer = section_of_four(alloc);
     }
-    Ok(tell_bytes(alloc, &answer?, text)?)
+    match answer {
+        Ok(section) => Ok(tell_bytes(alloc, &section, text)?),
+        Err(_) => Ok(told::failed(text, "read_section_as")?),
+    }
 }
 
 /// A unit of version 4, and bytes that are no unit behind it.
@@ -131,7 +137,10 @@ fn tell_findings(alloc: Global, section: &Section, text: &mut String) -> Result<
         told::refused(text, "check")?;
         answer = check(alloc, section, &strings);
     }
-    for finding in answer?.as_slice() {
+    let Ok(found) = answer else {
+        return Ok(told::failed(text, "check")?);
+    };
+    for finding in found.as_slice() {
         write!(text, "{finding:?}\n")?;
     }
     Ok(told::taken(text, "check")?)

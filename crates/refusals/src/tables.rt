@@ -8,9 +8,6 @@ use std::alloc::{AllocError, Global};
 pub(crate) fn tell_tables(alloc: Global, text: &mut String) -> Result<(), ReadError> {
     let mut tables = Tables::new(alloc, &TYPED);
     for offset in [0, 7, 0, 14] {
-        if let Err(ReadError::NoMemory) = tables.get(offset) {
-            told::refused(text, "get")?;
-        }
         tell_table(alloc, &mut tables, offset, text)?;
     }
     Ok(())
@@ -22,8 +19,15 @@ fn tell_table(
     offset: u64,
     text: &mut String,
 ) -> Result<(), ReadError> {
-    let table = tables.get(offset)?;
-    Ok(bytes(alloc, &table, text)?)
+    let mut answer = tables.get(offset);
+    if let Err(ReadError::NoMemory) = answer {
+        told::refused(text, "get")?;
+        answer = tables.get(offset);
+    }
+    match answer {
+        Ok(table) => Ok(bytes(alloc, &table, text)?),
+        Err(_) => Ok(told::failed(text, "get")?),
+    }
 }
 
 /// The bytes of a table.

@@ -15,6 +15,11 @@ pub(crate) fn refused(told: &mut String, call: &str) -> Result<(), AllocError> {
     write!(told, "{call} NoMemory\n")
 }
 
+/// That a call answered otherwise than it has to, as that there is no memory where it was refused once.
+pub(crate) fn failed(told: &mut String, call: &str) -> Result<(), AllocError> {
+    write!(told, "{call} FAILED\n")
+}
+
 /// What something was not the same behind a refused call.
 pub(crate) fn changed(told: &mut String, what: &str) -> Result<(), AllocError> {
     write!(told, "{what} CHANGED\n")

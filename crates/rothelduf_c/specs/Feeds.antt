@@ -1,16 +1,17 @@
 -- What C is told of a unit that it pushes in pieces (section 7.5).
-use Rattle.std.specs.Prelude.{◌≡◌, ◌⊎◌, ℕ, List, [], Option, Some, None}
+use Rattle.std.specs.Prelude.{◌≡◌, ◌⊎◌, ◌≤◌, ◌+◌, ◌*◌, ◌^◌, ℕ, List, [], Option, Some, None}
 use Rattle.dw_leb.specs.declared.errors.Fault.{Fault as TheFault}
 use Rattle.dw_leb.specs.declared.errors.SectionId.TheVariants.{Abbrev}
 use Rattle.dw_abbrev.specs.Table.{Table as TheTable, TableAt, TableBreaks}
 use Rattle.dw_header.specs.Header.{Header}
 use Rattle.dw_unit.specs.Unit.{WholeUnit}
 use Rattle.dw_feed.specs.HeadFeed as heads
-use Rattle.dw_feed.specs.HeadFeed.{HeadFeed, FeedsHead, Ends, Wants}
+use Rattle.dw_feed.specs.HeadFeed.{HeadFeed, FeedsHead, Ends, Wants, WantsExactly}
 use Rattle.dw_feed.specs.BodyFeed.{BodyFeed, EndsBody, FeedsBody, Reading, started}
 use Rattle.dw_feed.specs.declared.progress.Progress.{Progress}
 use Rattle.dw_feed.specs.declared.progress.Progress.TheVariants.{More, Done, Fault, NoMemory, Spent}
 use Rattle.dw_feed.specs.HeldCounts.{HeldCounts, held}
+use Rattle.dw_feed.specs.HeldView.{taken_by}
 use Rattle.dw_section.specs.Item.{Known}
 use Rattle.dw_section.specs.Push.{or_memory, push_refusal, with_item}
 use Rattle.dw_section.specs.Section.{WholeSection}
@@ -22,6 +23,7 @@ use Rattle.rothelduf_c.specs.declared.feeding.Feeding.{Feeding}
 use Rattle.rothelduf_c.specs.declared.feeding.Feeding.TheVariants.{Head, Table, Body, Whole}
 use Rattle.rothelduf_c.specs.Headed.{Headed}
 use Rattle.rothelduf_c.specs.declared.structs.CFault.{CFault}
+use Rattle.rothelduf_c.specs.declared.structs.CHeld.{CHeld}
 
 -- a fault as C is told of it
 pub record IsTold (f : TheFault) (c : CFault) : Type 0 where
@@ -95,9 +97,10 @@ IsEnded (Table x) s c = s ≡ status.HEADER
 IsEnded (Body b) s c = (o : Option TheFault) × EndsBody b o × SaysEnd o s c
 IsEnded (Whole u) s c = s ≡ status.UNIT
 
--- so many bytes are needed of a header at the least; of all else that isn't told
+-- so many bytes are needed of a header at the least, which are those that its next field lacks; of all else that isn't
+-- told
 abbrev pub IsWanted : Feeding → ℕ → Type 0
-IsWanted (Head h) n = Wants h.versions h.order h.state n
+IsWanted (Head h) n = Wants h.versions h.order h.state n × WantsExactly h.versions h.state n
 IsWanted (Table x) n = n ≡ 0
 IsWanted (Body b) n = n ≡ 0
 IsWanted (Whole u) n = n ≡ 0
@@ -108,6 +111,23 @@ held_in (Head h) = record { pending = 0; nested = 0; entries = 0; values = 0; po
 held_in (Table x) = record { pending = 0; nested = 0; entries = 0; values = 0; pool = 0 }
 held_in (Body b) = held b
 held_in (Whole u) = record { pending = 0; nested = 0; entries = 0; values = 0; pool = 0 }
+
+-- how many bytes were pushed of a unit behind its header
+abbrev pub pushed_in : Feeding → ℕ
+pushed_in (Head h) = 0
+pushed_in (Table x) = 0
+pushed_in (Body b) = taken_by b
+pushed_in (Whole u) = 0
+
+-- What C is told of what is held of a unit of which so many bytes were pushed behind its header: at most 16 bytes of a
+-- number or a length field, at most 4,096 nested entries, no more entries and no more bytes of texts and blocks than
+-- were pushed, and at most 1,024 values for each entry.
+pub record IsHeldWithin (pushed : ℕ) (h : CHeld) : Type 0 where
+  pub pending : h.pending ≤ 16
+  pub nested : h.nested ≤ 4096
+  pub entries : h.entries ≤ pushed
+  pub pool : h.pool ≤ pushed
+  pub values : h.values + 2 ^ 64 * h.values_high ≤ 1024 * h.entries
 
 -- ---- a unit that is taken
 

@@ -1,5 +1,5 @@
 //! What the exports ask the library for.
-ghost use Rattle.std.specs.Prelude.{◌≡◌, ◌≢◌, ◌<◌, ℕ, Some, None, Ok, length, min, take, map, IfOk, IfErr, IfSome, IfNone, IsSome};
+ghost use Rattle.std.specs.Prelude.{◌≡◌, ◌≢◌, ◌<◌, ◌≤◌, ℕ, Some, None, Ok, length, min, take, map, IfOk, IfErr, IfSome, IfNone, IsSome};
 ghost use Rattle.dw_form.specs.Form.{Num};
 ghost use Rattle.dw_form.specs.Lent.{attribute_of};
 ghost use Rattle.dw_unit.specs.Unit.{WholeUnit};
@@ -206,6 +206,7 @@ pub fn written(alloc: Global, section: &Section) -> Option<Vec<u8>>
 /// Copies the bytes to the front of `out`, where there is room for them.
 pub fn copied(bytes: &[u8], out: &mut [u8]) -> u32
     ensures copied { result ≡ status.OK → take (length bytes.now) out.new ≡ bytes.now }
+    ensures room { result ≡ status.OK → length bytes.now ≤ length out.old }
     ensures short { result ≢ status.OK → (result ≡ status.SHORT) × (length out.old < length bytes.now) }
     ensures kept { result ≢ status.OK → out.new ≡ out.old }
 {

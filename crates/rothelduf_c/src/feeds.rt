@@ -2,7 +2,7 @@
 ghost use Rattle.std.specs.Prelude.{◌≡◌, ◌≢◌, ◌≤◌, [], length, Some, None};
 ghost use Rattle.dw_feed.specs.HeadFeed.{Reading};
 ghost use Rattle.dw_section.specs.Section.{WholeSection};
-ghost use Rattle.rothelduf_c.specs.Feeds.{IsEnded, IsPushed, IsTabled, IsTaken, IsWanted, held_in};
+ghost use Rattle.rothelduf_c.specs.Feeds.{IsEnded, IsHeldWithin, IsPushed, IsTabled, IsTaken, IsWanted, held_in, pushed_in};
 ghost use Rattle.rothelduf_c.specs.Seen.{seen_held};
 ghost use Rattle.rothelduf_c.specs.Opens.{order_of, versions_of};
 ghost use Rattle.rothelduf_c.specs.Status as status;
@@ -142,6 +142,7 @@ pub extern "C" fn rothelduf_feed_held(alloc: Global, f: &mut FeedSlot, out: &mut
     ensures same { f.new.handle.value ≡ f.old.handle.value }
     ensures held { (x : TheFeeding) → f.old.handle.value ≡ Some x
         → (result ≡ status.OK) × (out.new ≡ seen_held (held_in x)) }
+    ensures within { (x : TheFeeding) → f.old.handle.value ≡ Some x → IsHeldWithin (pushed_in x) out.new }
     ensures closed { f.old.handle.value ≡ None → (result ≡ status.CLOSED) × (out.new ≡ out.old) }
 {
     match feed_handle::taken(alloc, f) {
@@ -154,7 +155,8 @@ pub extern "C" fn rothelduf_feed_held(alloc: Global, f: &mut FeedSlot, out: &mut
     }
 }
 
-/// The end of the input: what is missing. The feed is closed.
+/// The end of the input: what is missing, the fault that was answered, or that the unit has no room for a root. The feed
+/// is closed.
 #[unsafe(no_mangle)]
 pub extern "C" fn rothelduf_feed_end(alloc: Global, f: &mut FeedSlot, fault: &mut CFault) -> u32
     ensures ended { (x : TheFeeding) → f.old.handle.value ≡ Some x → IsEnded x result fault.new }

@@ -1,5 +1,5 @@
 //! What values name: entries, texts and types.
-ghost use Rattle.std.specs.Prelude.{◌≡◌, ◌≢◌, length, take, Some, None, Ok, Err};
+ghost use Rattle.std.specs.Prelude.{◌≡◌, ◌≢◌, ◌≤◌, length, take, Some, None, Ok, Err};
 ghost use Rattle.dw_form.specs.Form.{Num};
 ghost use Rattle.dw_unit.specs.Unit.{WholeUnit};
 ghost use Rattle.dw_section.specs.Lookup.{unit_at};
@@ -124,7 +124,7 @@ pub extern "C" fn rothelduf_text(
 }
 
 /// Writes the type of an entry to the front of `out`, as the declaration of this name in C. `count` is then how many
-/// bytes it has, also where there is no room for them.
+/// bytes it has: no more than `out` has room for at `OK`, and more than that at `SHORT`.
 #[unsafe(no_mangle)]
 pub extern "C" fn rothelduf_type(
     alloc: Global,
@@ -142,6 +142,7 @@ pub extern "C" fn rothelduf_type(
     ensures text { (x : WholeSection) → s.old.handle.value ≡ Some x → result ≡ status.OK
         → type_of x (strings_of str.now line_str.now str_offsets.now) (id_of id.now) name.now
         ≡ Ok (take count.new out.new) }
+    ensures room { result ≡ status.OK → count.new ≤ length out.old }
     ensures short { (x : WholeSection) → s.old.handle.value ≡ Some x → result ≡ status.SHORT
         → IsLonger (type_of x (strings_of str.now line_str.now str_offsets.now) (id_of id.now) name.now)
         (length out.old) count.new }

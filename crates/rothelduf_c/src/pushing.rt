@@ -3,7 +3,7 @@ ghost use Rattle.std.specs.Prelude.{◌≡◌, ◌≢◌, ◌≤◌, [], length,
 ghost use Rattle.dw_abbrev.specs.Table.{TableAt};
 ghost use Rattle.dw_abbrev.specs.TableErrors.{IsTableError};
 ghost use Rattle.dw_feed.specs.HeadFeed.{Reading};
-ghost use Rattle.rothelduf_c.specs.Feeds.{HeadPushed, BodyPushed, IsEnded, IsPushed, IsTabled, IsTaken, IsWanted, SaysRefusal, held_in};
+ghost use Rattle.rothelduf_c.specs.Feeds.{HeadPushed, BodyPushed, IsEnded, IsHeldWithin, IsPushed, IsTabled, IsTaken, IsWanted, SaysRefusal, held_in, pushed_in};
 ghost use Rattle.rothelduf_c.specs.Seen.{seen_held};
 ghost use Rattle.rothelduf_c.specs.Status as status;
 ghost use Rattle.rothelduf_c.specs.declared.feeding.Feeding.TheVariants.{Head};
@@ -135,7 +135,8 @@ pub fn wants(feeding: &Feeding) -> usize
 
 /// What is held of a unit behind its header; nothing of all else.
 pub fn held(feeding: &Feeding) -> CHeld
-    ensures { result ≡ seen_held (held_in feeding.now) }
+    ensures exact { result ≡ seen_held (held_in feeding.now) }
+    ensures within { IsHeldWithin (pushed_in feeding.now) result }
 {
     let held = match feeding {
         Feeding::Body(feed) => feed.held(),

@@ -1,0 +1,127 @@
+"""What the clauses of a contract say, as far as their text tells: their names, and of which outcomes of a function they say nothing."""
+
+import re
+from dataclasses import dataclass
+
+ENSURES = re.compile(r"(?m)^ +ensures (?:(\w+) )?\{")
+
+# The name of a clause that has none: its goals go by it.
+UNNAMED = "returns"
+
+# What a function may answer, and the other thing that it may.
+OTHER = {"Ok": "Err", "Err": "Ok", "Some": "None", "None": "Some"}
+
+# A clause that begins so says nothing of the other outcome.
+FORM = re.compile(r"(?:If|On)(Ok|Err|Some|None)\b")
+
+# So does one with this premise.
+PREMISE = re.compile(r"result\S* ≡ \(?(Ok|Err|Some|None)\b")
+
+# Names that a clause takes before it says something.
+TAKEN = re.compile(r"^(?:\s*\{?\([^()]*(?:\([^()]*\)[^()]*)*\)\}?)*\s*")
+
+# An answer where it is made: returned, behind the arrow of an arm, or at the end of a body.
+ANSWER = re.compile(r"(?:\breturn |=> (?:\{ )?(?:return )?|^)(?:(Ok|Err|Some)\(|(None)\b)|; (?:(Ok|Err|Some)\([^;{}]*\)|(None)) ?\}")
+
+
+@dataclass
+class Clause:
+    """A clause of a function: its name, where it begins and ends in the text before the body, and what stands between its brackets."""
+
+    name: str
+    begin: int
+    end: int
+    text: str
+
+
+def clauses_in(head):
+    """What a function ensures, by the text before its body."""
+    found = []
+    for match in ENSURES.finditer(head):
+        end, depth = match.end(), 1
+        while depth and end < len(head):
+            depth += {"{": 1, "}": -1}.get(head[end], 0)
+            end += 1
+        found.append(Clause(match[1] or UNNAMED, match.start(), head.find("\n", end) + 1, head[match.end() : end - 1]))
+    return found
+
+
+def parts_at(text, mark):
+    """The parts of a text between marks that stand in no brackets."""
+    parts, depth, begin = [], 0, 0
+    for at, letter in enumerate(text):
+        depth += {"(": 1, "{": 1, "[": 1, ")": -1, "}": -1, "]": -1}.get(letter, 0)
+        if letter == mark and depth == 0:
+            parts.append(text[begin:at])
+            begin = at + 1
+    return [*parts, text[begin:]]
+
+
+def untold(text):
+    """The outcomes of which a clause says nothing, whatever they are: `Err` of one that begins with `IfOk`, and so on."""
+    *premises, said = parts_at(text, "→")
+    for premise in premises:
+        match = PREMISE.match(TAKEN.sub("", premise).strip())
+        if match:
+            return {OTHER[match[1]]}
+    both = [FORM.match(TAKEN.sub("", it).strip()) for it in parts_at(said, "×")]
+    return set.intersection(*({OTHER[it[1]]} if it else set() for it in both))
+
+
+def answers_in(text):
+    """How often each outcome is answered in a text of a body."""
+    found = {}
+    for groups in ANSWER.findall(text):
+        kind = "".join(groups)
+        found[kind] = found.get(kind, 0) + 1
+    return found
+
+
+def made_by(old, new):
+    """The outcomes that a new text answers more often than the old one, in whose place it stands."""
+    before, now = answers_in(old), answers_in(new)
+    return {kind for kind, count in now.items() if count > before.get(kind, 0)}
+
+
+def says_nothing_of(clause, old, new):
+    """Whether a clause says nothing of the only outcome that a new text makes."""
+    made = made_by(old, new)
+    return len(made) == 1 and made <= untold(clause)
+
+
+def is_goal_of(goal, clause):
+    """Whether a goal is one at which a function ends, of this clause. In a cycle of calls the name of the function stands before it."""
+    rest = r"(?:-(?!\S*clause-)\S+)?" if clause == UNNAMED else rf"(?:-\S+)?-clause-{re.escape(clause)}(?:-\d+)?"
+    return bool(re.fullmatch(rf"(?:\w+-)?returns{rest}", goal))
+
+
+# Clauses and texts with what has to be said of them.
+SAMPLES = [
+    ("IfOk result (λ x. x ≡ n)", "n", "return Err(1);", True),
+    ("IfOk result (λ x. x ≡ n)", "Ok(n)", "Err(n)", True),
+    ("IfOk result (λ x. x ≡ n) × IfErr result (λ e. e ≡ 0)", "Ok(n)", "Err(n)", False),
+    ("(x : ℕ) (size : ℕ) → Taken p b.now lim x size → OnOk result ⊤", "a?", "match a { Ok(v) => v, Err(_) => return Err(Bad), }", True),
+    ("(reason : Reason) → result ≡ Err (Bad reason) → pool.new ≡ pool.old", "a?", "{ pool.clear(); return Ok(0); }", True),
+    ("(reason : Reason) → result ≡ Err (Bad reason) → pool.new ≡ pool.old", "a?", "{ pool.clear(); return Err(Bad); }", False),
+    ("IfErr result (λ e. e ≡ NoMemory)", "Ok(n)", "Ok(n + 1)", False),
+    ("IfSome result (λ x. x ≡ n)", "Some(n)", "None", True),
+    ("result ≡ find n", "Some(n)", "None", False),
+    ("IfNone result (n ≡ 0)", "if n == 0 {", "if n == 1 {", False),
+]
+
+GOALS = [
+    ("returns-in-Err-clause-broken", "broken", True),
+    ("returns-clause-broken-2", "broken", True),
+    ("returns-in-Err-clause-found", "broken", False),
+    ("left-returns-in-Some-clause-told", "told", True),
+    ("loop-width-init", "some", False),
+    ("returns-then-m", "returns", True),
+    ("returns-clause-broken", "returns", False),
+    ("invariant_of-result", "returns", False),
+]
+
+
+def fails_itself():
+    """What this module says otherwise than it has to of its samples."""
+    wrong = [str(it) for it in SAMPLES if says_nothing_of(*it[:3]) != it[3]]
+    return [*wrong, *(str(it) for it in GOALS if is_goal_of(*it[:2]) != it[2])]
