@@ -2,6 +2,7 @@
 """Changes functions at random, mutant by mutant, and lets the prover judge each: how many do the contracts let through?
 
 Usage: scripts/mutants.py NAME.. [--most N] [--side-by-side N] [--round N] [--function WORD] [--again] [--logs FOLDER] [--list]
+       scripts/mutants.py --draw N --seed S
        scripts/mutants.py --report
 
 A mutant is a function with one small change of its body: a comparison turned or off by one, another operator, a constant one more or one less, a condition negated, two arms or two
@@ -16,12 +17,19 @@ crate are put into its files at once and looked at by `rt check --only ''`, whic
     accepted    it is proved
 
 An early return that isn't judged is tried with its value at the end instead, behind the whole body, of which nothing is gone then. What isn't judged then is tried without the answers of its
-proof file that name what is gone, so that their goals are searched for: it is refused "by a search" where one isn't found. --again tries once more what wasn't judged.
+proof file that name what is gone, and what is refused without those that no longer fit, so that their goals are searched for: it is refused "by a search" where no proof of one is found, and else
+"by an answer" alone. --again tries once more what wasn't judged.
 
-A verdict is kept in mutants/NAME.tsv, by a sum of the mutant's text and one of what its crate and those below say, besides proofs, comments and bodies (which are the mutants'); what stands there isn't tried again. Of each accepted
-one a line of mutants/lines.tsv says why (`ID reason`, or `CRATE::FUNCTION reason` for all of a function): it means the same, or costs time or memory alone, or no clause can say it and a
-case or a test is named that catches it. --report writes docs/mutants.md out of both, and its status is 1 where an accepted one has no line, or the README has other sums. The libraries begin with what `rt lib` and `rt check` kept in the tree at hand, where nothing may run then. `.ci/run` doesn't
-run this: a crate takes minutes to an hour, and all of them hours.
+A verdict is kept in mutants/NAME.tsv, by a sum of the mutant's text and one of what its crate and those below say, besides proofs, comments, line breaks and bodies (which are the mutants');
+what stands there isn't tried again. Of each accepted one a line of mutants/lines.tsv says why (`ID reason`): it means the same, or costs time or memory alone, or no clause can say it and a case
+or a test is named that catches it.
+
+A refusal says that the proof goes through no more, and a search misses proofs that a person would find. So some are read: --draw N prints as many of the refused ones, by --seed, and mutants/read.tsv has
+a line for each (`ID CRATE breaks|same CASE`): a case in which the contract is broken, or why the answers are the same.
+
+--report writes docs/mutants.md out of these three, and its status is 1 where a verdict that counts is stale, an accepted one has no line, one that was drawn isn't read, or the README has other sums. The libraries
+are those of `rt ci`, where it has passed over this tree, or else begin with what `rt lib` and `rt check` kept in the tree at hand, where nothing may run then. `.ci/run` doesn't run this: a crate takes
+minutes to an hour, and all of them hours.
 """
 
 import argparse
@@ -30,6 +38,7 @@ import csv
 import dataclasses
 import hashlib
 import itertools
+import math
 import os
 import re
 import shutil
@@ -37,18 +46,24 @@ import sys
 from concurrent.futures import ThreadPoolExecutor
 
 import clones
+import rt_ci
 import wrong_bodies as rounds
 from clones import Stop
 
 FOLDER = f"{clones.TOP}/mutants"
 LINES = f"{FOLDER}/lines.tsv"
+READ = f"{FOLDER}/read.tsv"
+NOT_CRATES = ("lines.tsv", "read.tsv")
+
+# Those that are read: so many, drawn by this seed.
+DRAWN, SEED = 150, "2026-12-01"
 COLUMNS = ["id", "sum", "function", "kind", "change", "verdict", "goals"]
 REFUSED, NOT_JUDGED, ACCEPTED, BROKEN = "refused", "not judged", "accepted", "doesn't compile"
 VERDICTS = {rounds.REFUSED: REFUSED, rounds.ACCEPTED: ACCEPTED, rounds.BAD: BROKEN, rounds.WEAK: NOT_JUDGED, rounds.UNCLEAR: NOT_JUDGED}
 
 # How often answers that name what is gone are left out: without one another may do so.
 SEARCHES = 3
-BY_SEARCH = "by a search"
+BY_SEARCH, BY_ANSWER = "by a search", "by an answer"
 
 # What a line says of a mutant whose answers are the same.
 SAME = re.compile(r"means the same|a faster way|costs (?:time|memory|time or memory) alone")
@@ -157,6 +172,16 @@ def of_likes(body, plain):
                 yield "field", replaced(body, *at.span(1), other)
 
 
+# Errors by which a function may give up, by the types of these.
+ERRORS = {"Failure": ["Failure::Memory", "Failure::Output"], "ToolError": ["ToolError::Memory"]}
+
+
+def of_errors(body, answer):
+    found = re.fullmatch(r"Result<.*, (\w+)(?:<'\w+>)?>", answer)
+    for value in ERRORS.get(found[1], []) if found else []:
+        yield "early return", f"\n    return Err({value});" + body
+
+
 def of_defaults(body, answer):
     for of_type, values in DEFAULTS:
         if re.fullmatch(of_type, answer):
@@ -171,6 +196,7 @@ def changes(body, answer):
     for of_kind in (of_operators, of_numbers, of_conditions, of_arms, of_arguments, of_statements, of_answers, of_loops, of_likes):
         yield from of_kind(body, plain)
     yield from of_defaults(body, answer)
+    yield from of_errors(body, answer)
 
 
 def told(old, new):
@@ -269,7 +295,7 @@ def looked_at(crate, texts):
     before = {path: rounds.text_of(crate, path) if os.path.isfile(f"{crate.folder}/{path}") else None for path in texts}
     try:
         rounds.put(crate, texts)
-        return clones.run(["rt", "check", "--jobs", "1", "--only", ""], crate.folder).said
+        return clones.run(["rt", "check", "--jobs", "1", *(crate.words or []), "--only", ""], crate.folder).said
     finally:
         rounds.put(crate, before)
 
@@ -301,11 +327,11 @@ def sum_of(crate, top):
 
 
 def said_by(crate, path):
-    """What a file says besides comments and the bodies of its functions."""
+    """What a file says besides comments and the bodies of its functions, however its lines are broken."""
     text = rounds.text_of(crate, path)
     for it in reversed(rounds.functions_in(crate, path, text) if path.endswith(".rt") else []):
         text = text[: it.begin] + text[it.end :]
-    return re.sub(r"(?m)^ *(?://|--).*\n", "", text)
+    return re.sub(r"(?m)^ *(?://|--).*\n", "", text).split()
 
 
 def kept(name):
@@ -328,11 +354,11 @@ def row_of(edit, base):
     return {"id": edit.name, "sum": base, "function": edit.mutated, "kind": edit.of_kind, "change": edit.change, "verdict": VERDICTS[edit.kind], "goals": edit.what.removeprefix(" at ").replace("\t", " ")[:300]}
 
 
-def try_crate(name, room, given):
+def try_crate(name, room, given, words):
     """Tries the mutants of a crate in a clone, and keeps their verdicts as they come."""
     crate = clones.known(clones.crates_in(clones.TOP), name)
     base, rows = sum_of(crate, clones.TOP), kept(name)
-    judged = rounds.Judged(name, crate.path(room), given.logs)
+    judged = rounds.Judged(name, crate.path(room), given.logs, words)
     edits = list(all_mutants(judged, given))
     # (those that another --most took stay)
     ids = {it.name for it in all_mutants(judged, argparse.Namespace(function=given.function, most=10**6))}
@@ -346,6 +372,7 @@ def try_crate(name, room, given):
         rounds.try_round(judged, some)
         try_at_end(judged, [it for it in some if it.at_end and VERDICTS[it.kind] == NOT_JUDGED])
         try_by_search(judged, [it for it in some if VERDICTS[it.kind] == NOT_JUDGED])
+        try_without_answers(judged, [it for it in some if VERDICTS[it.kind] == REFUSED and it.unfit])
         rows |= {it.name: row_of(it, base) for it in some}
         keep(name, rows)
         print(f"{name}: {counts(rows)}", flush=True)
@@ -353,10 +380,13 @@ def try_crate(name, room, given):
 
 
 def try_apart(crate, first, room, given):
-    """Tries the mutants of a crate in a clone of its own, which is gone then."""
+    """Tries the mutants of a crate in a clone of its own, which is gone then. Where there is no first clone, the libraries are those of `rt ci`."""
     clones.clone(clones.TOP, room)
-    clones.take_kept(first, room, [*crate.below, crate])
-    try_crate(crate.name, room, given)
+    if first:
+        clones.take_kept(first, room, [*crate.below, crate])
+    else:
+        clones.name_no_libraries(room)
+    try_crate(crate.name, room, given, None if first else clones.words_for(clones.TOP, crate.below))
     shutil.rmtree(room)
 
 
@@ -382,6 +412,18 @@ def try_by_search(judged, edits):
             if VERDICTS[other.kind] in (REFUSED, ACCEPTED):
                 it.kind, it.what = other.kind, f" at {BY_SEARCH}:{other.what.removeprefix(' at')}"
         left = [(it, other) for it, other in left if VERDICTS[other.kind] == NOT_JUDGED]
+
+
+def try_without_answers(judged, edits):
+    """Tries refused mutants without the answers that no longer fit, so that their goals are searched for, and takes over what is told of them so. Where nothing is told,
+    they are refused by an answer alone."""
+    found = [dataclasses.replace(it, gone=it.unfit) for it in edits]
+    try_by_search(judged, found)
+    for it, other in zip(edits, found):
+        if (other.kind, other.what) == (it.kind, it.what):
+            it.what = f" at {BY_ANSWER}:{it.what.removeprefix(' at')}"
+        else:
+            it.kind, it.what = other.kind, other.what
 
 
 def searched(judged, edit):
@@ -416,37 +458,100 @@ def counts(rows):
 
 
 def row_of_table(name, found):
-    told = [found["tried"], found[REFUSED], found[BY_SEARCH], found[NOT_JUDGED], found["same"], found[ACCEPTED] - found["same"]]
+    told = [found["tried"], found[REFUSED], found[BY_ANSWER], found[NOT_JUDGED], found["same"], found[ACCEPTED] - found["same"]]
     return f"| {name} | {' | '.join(map(str, told))} |"
 
 
+def table_of(path):
+    """The lines of a table of words apart by tabs, without its head."""
+    if not os.path.isfile(path):
+        return []
+    return [line.split("\t") for line in clones.text_of(path).splitlines() if line and not line.startswith("#")]
+
+
+def of_crates():
+    """The mutants that compile, by their crates, with which are stale."""
+    crates, found = clones.crates_in(clones.TOP), {}
+    for name in sorted(it.removesuffix(".tsv") for it in os.listdir(FOLDER) if it.endswith(".tsv") and it not in NOT_CRATES):
+        base = sum_of(crates[name], clones.TOP)
+        found[name] = [it | {"stale": it["sum"] != base} for it in kept(name).values() if it["verdict"] != BROKEN]
+    return found
+
+
+def drawn(count, seed):
+    """So many of the refused mutants, by a seed."""
+    refused = [(name, it) for name, rows in of_crates().items() for it in rows if it["verdict"] == REFUSED]
+    return sorted(refused, key=lambda it: hashlib.sha256(f"{seed} {it[0]} {it[1]['id']}".encode()).hexdigest())[:count]
+
+
+def bounds(hits, count):
+    """Between which shares the one of all lies, at 95 % certainty, where so many of so many hit (Clopper and Pearson)."""
+
+    def at_least(share, most):
+        return sum(math.comb(count, n) * share**n * (1 - share) ** (count - n) for n in range(most, count + 1))
+
+    def where(is_below):
+        low, high = 0.0, 1.0
+        for _ in range(60):
+            middle = (low + high) / 2
+            low, high = (middle, high) if is_below(middle) else (low, middle)
+        return low
+
+    return where(lambda it: at_least(it, hits) < 0.025) if hits else 0.0, where(lambda it: 1 - at_least(it, hits + 1) > 0.025) if hits < count else 1.0
+
+
+def possible():
+    """How many mutants there are in all, those that don't compile among them."""
+    crates, most = clones.crates_in(clones.TOP), argparse.Namespace(function="", most=10**6)
+    return sum(1 for name in of_crates() for _ in all_mutants(rounds.Judged(name, crates[name].path(clones.TOP)), most))
+
+
+HEAD = """# Mutants
+
+Small changes of functions, made by `scripts/mutants.py`, and what the prover says of them. What doesn't compile doesn't count.
+{possible:,} could be made; of each function at most eight are tried, {tried:,} of which compile.
+
+*Refused* says that the proof no longer goes through. Where a goal has no answer in a proof file, or an answer that no longer fits and was left out, no proof of
+it was found by a search; where that couldn't be told, the mutant is refused *by an answer alone*. A search misses proofs that a person would find. So of the refused ones {count} were
+drawn (`--draw {count} --seed {seed}`) and read one by one: **{breaks} break the contract**, with a case for each (`mutants/read.tsv`), and {same} give the same answers. So between
+{low:.1f} and {high:.1f} % of all refused ones break it, at 95 % certainty.
+
+*Accepted* are those of the last two columns: those of the first answer the same, though some cost time or memory, and of the others the list below says why no clause refuses them, and which
+case or test should fail (where it was tried, it says so).
+"""
+
+
 def report():
-    """Writes docs/mutants.md, and returns how many accepted mutants have no line."""
-    names = sorted(it.removesuffix(".tsv") for it in os.listdir(FOLDER) if it.endswith(".tsv") and it != "lines.tsv")
-    with open(LINES, encoding="utf-8") as file:
-        lines = dict(it.rstrip("\n").split("\t", 1) for it in file if "\t" in it)
-    out = ["# Mutants", "", "Small changes of functions, made by `scripts/mutants.py`, and what the prover says of them. What doesn't compile doesn't count.", ""]
-    out += ["Refused by a search is where an answer of the proof file named what was gone, and without it no proof of the goal was found. The prover accepts those of the last two columns:"]
-    out += ["those of the first answer the same, though some cost time or memory, and of the others the list below says why no clause refuses them, and which case or test should fail (where it was tried, it says so).", ""]
-    out += ["| Crate | Tried | Refused | of these by a search | Not judged | Same answers | Others accepted |", "|---|--:|--:|--:|--:|--:|--:|"]
-    total, accepted = collections.Counter(), []
-    for name in names:
-        rows = [it for it in kept(name).values() if it["verdict"] != BROKEN]
-        passed = [it | {"why": lines.get(it["id"]) or lines.get(f"{name}::{it['function']}", "")} for it in rows if it["verdict"] == ACCEPTED]
+    """Writes docs/mutants.md, and returns how much is missing."""
+    lines = {it[0]: it[1] for it in table_of(LINES)}
+    read = {it[0]: it for it in table_of(READ)}
+    sample = drawn(DRAWN, SEED)
+    verdicts = collections.Counter(read[it["id"]][2] for _, it in sample if it["id"] in read)
+    missing = len(sample) - sum(verdicts.values())
+    if missing:
+        print(f"{missing} of those that were drawn aren't read")
+    table, total, accepted = [], collections.Counter(), []
+    for name, rows in of_crates().items():
+        stale = sum(it["stale"] for it in rows)
+        if stale:
+            print(f"{name}: {stale} verdicts are stale")
+        missing += stale
+        passed = [it | {"why": lines.get(it["id"], "")} for it in rows if it["verdict"] == ACCEPTED]
         found = collections.Counter(it["verdict"] for it in rows)
-        found[BY_SEARCH] = sum(it["verdict"] == REFUSED and it["goals"].startswith(BY_SEARCH) for it in rows)
+        found[BY_ANSWER] = sum(it["verdict"] == REFUSED and it["goals"].startswith(BY_ANSWER) for it in rows)
         found["tried"], found["same"] = len(rows), sum(bool(SAME.search(it["why"])) for it in passed)
         total += found
         accepted += [(name, it) for it in passed]
-        out.append(row_of_table(f"`{name}`", found))
-    out.append(row_of_table("all", total))
+        table.append(row_of_table(f"`{name}`", found))
+    table.append(row_of_table("all", total))
+    low, high = bounds(verdicts["breaks"], sum(verdicts.values())) if verdicts else (0, 1)
+    numbers = {"possible": possible(), "tried": total["tried"], "count": len(sample), "seed": SEED, "breaks": verdicts["breaks"], "same": verdicts["same"], "low": 100 * low, "high": 100 * high}
+    out = [HEAD.format(**numbers), "| Crate | Tried | Refused | of these by an answer alone | Not judged | Same answers | Others accepted |", "|---|--:|--:|--:|--:|--:|--:|", *table]
     out += ["", "## Accepted", "", "| Function | Changes | Why they pass |", "|---|---|---|"]
-    missing, told = 0, collections.defaultdict(list)
+    told = collections.defaultdict(list)
     for name, it in accepted:
-        function = f"{name}::{it['function']}"
-        why = it["why"]
-        missing += not why
-        told[function, why].append("`" + it["change"].replace("|", "\\|") + "`")
+        missing += not it["why"]
+        told[f"{name}::{it['function']}", it["why"]].append("`" + it["change"].replace("|", "\\|") + "`")
     out += [f"| `{function}` | {'; '.join(changes)} | {why or '**nothing is written of it**'} |" for (function, why), changes in told.items()]
     with open(f"{clones.TOP}/docs/mutants.md", "w", encoding="utf-8") as file:
         file.write("\n".join(out) + "\n")
@@ -455,8 +560,19 @@ def report():
     if row not in clones.text_of(f"{clones.TOP}/README.md").split("\n"):
         print(f"README.md doesn't have the sums: {row}")
         missing += 1
-    print(f"{len(accepted) - missing} passed, {missing} failed")
+    print(f"{len(accepted)} passed, {missing} failed")
     return missing
+
+
+def build_libraries(first, wanted):
+    """Builds the libraries of these crates and those below in a clone."""
+    clones.clone(clones.TOP, first)
+    libraries = clones.with_all_below(wanted)
+    clones.take_kept(clones.TOP, first, libraries)
+    for crate in libraries:
+        # (a program is no library: its first round proves it)
+        if not os.path.isfile(f"{crate.path(first)}/src/main.rt"):
+            print(f"{crate.name}: library, {clones.build(first, crate):.0f} s of processor", flush=True)
 
 
 def main():
@@ -469,10 +585,16 @@ def main():
     ask.add_argument("--again", action="store_true", help="try what wasn't judged once more")
     ask.add_argument("--logs", default="")
     ask.add_argument("--list", action="store_true", help="print the mutants, and try none")
+    ask.add_argument("--draw", type=int, default=0, metavar="N", help="print so many of the refused ones")
+    ask.add_argument("--seed", default=SEED, help="by which they are drawn")
     ask.add_argument("--report", action="store_true", help="write docs/mutants.md")
     given = ask.parse_args()
     if given.report:
         return 1 if report() else 0
+    if given.draw:
+        for name, it in drawn(given.draw, given.seed):
+            print(f"{it['id']}\t{name}\t{it['function']}\t{it['kind']}\t{it['change']}\t{it['goals']}")
+        return 0
     crates = clones.crates_in(clones.TOP)
     wanted = [clones.known(crates, it) for it in given.names]
     if given.list:
@@ -483,14 +605,9 @@ def main():
     if given.logs:
         os.makedirs(given.logs, exist_ok=True)
     with clones.folder_for_clones() as folder:
-        first = f"{folder}/1"
-        clones.clone(clones.TOP, first)
-        libraries = clones.with_all_below(wanted)
-        clones.take_kept(clones.TOP, first, libraries)
-        for crate in libraries:
-            # (a program is no library: its first round proves it)
-            if not os.path.isfile(f"{crate.path(first)}/src/main.rt"):
-                print(f"{crate.name}: library, {clones.build(first, crate):.0f} s of processor", flush=True)
+        first = "" if rt_ci.has_passed() else f"{folder}/1"
+        if first:
+            build_libraries(first, wanted)
         with ThreadPoolExecutor(max(1, given.side_by_side)) as pool:
             for it in [pool.submit(try_apart, crate, first, f"{folder}/{number}", given) for number, crate in enumerate(wanted, 2)]:
                 it.result()

@@ -67,6 +67,9 @@ CYCLE = re.compile(r"#\[cycle\((\w+)\)\]\n *")
 NOTHING = "    ensures nothing { Prim.Unit {0} }\n"
 OWNER = re.compile(rf"(?m)^(?:unsafe )?(?:impl(?:<.*?>)? (.*?)(?: {{)?|{PUB}trait (\w+).*)$")
 
+# An item of a file, and of a constant or a macro its name.
+ITEM = re.compile(rf"(?m)^{PUB}(?:(const|static|macro_rules!) (?!fn\b)(\w+)|(?:unsafe |const |extern \"C\" )*(?:fn|struct|enum|impl|trait|mod|use)\b)")
+
 # What a check says: of a function; of a goal in its proof file; of a goal of its code that is left; of a name that it doesn't know.
 VERDICT = re.compile(r"(?m)^fn \w+::(\S+): (proved|no holes|depends on a hole|not proved|no proof|could not tell)(.*)$")
 # (where holes stand for the proofs of what it calls, a function isn't told to be proved)
@@ -147,8 +150,9 @@ class Edit:
     copied: dict = field(default_factory=dict)
     # Proof files that are put in the place of those that are there, by their paths.
     proofs: dict = field(default_factory=dict)
-    # What its proof files have that only names what it took away, by the names there.
+    # What its proof files have that only names what it took away, by the names there, and the goals whose answers there no longer fit.
     gone: list = field(default_factory=list)
+    unfit: list = field(default_factory=list)
     is_alone: bool = False
     # Whether its copies are known to be proved as they are.
     is_compared: bool = True
@@ -428,6 +432,8 @@ def lacks(edit):
         return f": it has no line {'shows' if edit.clause else 'clause'}:"
     if edit.goal and not edit.why:
         return ": its line goal: doesn't say why the clause is broken where that goal is refused"
+    if edit.named and not reached_by(edit) <= set(edit.named):
+        return f": it changes what {' '.join(sorted(reached_by(edit) - set(edit.named)))} stands on, and doesn't name that"
     contracts = [contract_of(edit.crate, it) for it in edit.copied or edit.functions]
     said = [it[edit.clause] for it in contracts if it and edit.clause in it]
     if contracts and not said and None not in contracts:
@@ -435,6 +441,17 @@ def lacks(edit):
     if any(clauses.says_nothing_of(it, " ".join(old for _, old, _ in edit.pairs), " ".join(new for _, _, new in edit.pairs)) for it in said):
         return f": the clause {edit.clause} says nothing of the outcome that it makes"
     return ""
+
+
+def reached_by(edit):
+    """The functions of its crate that speak of a constant or a macro that an edit changes."""
+    found = set()
+    for path, old, _ in edit.pairs:
+        text = text_of(edit.crate, path)
+        items = list(ITEM.finditer(text, 0, max(0, text.find(old)) + 1))
+        if items and items[-1][1]:
+            found |= {it.name for at, it in all_functions(edit.crate) if re.search(rf"\b{items[-1][2]}\b", text_of(edit.crate, at)[it.first : it.end])}
+    return found
 
 
 def contract_of(crate, name):
@@ -572,26 +589,30 @@ def put_text(path, text):
         file.write(text)
 
 
+# What the refusal of a goal says: only that names are gone; that its answer in a proof file doesn't fit; that no proof was found.
+NAMES, ANSWER, SEARCH = 0, 1, 2
+
+
 def refusals(crate, said, texts):
-    """By the key of a proof the goals that are refused there, each with whether that says something of the contract. These texts were checked."""
+    """By the key of a proof the goals that are refused there, each with what that says of the contract: nothing at NAMES. These texts were checked."""
     found, known = {}, {it.key for _, it in all_functions(crate)}
 
-    def refuse(key, cycle, goal, is_real):
+    def refuse(key, cycle, goal, how):
         # (in a cycle of several functions a goal begins with the name of its own)
         *_, key = [key, *cycle, *(it for it in (f"{one}::{goal.partition('-')[0]}" for one in cycle) if it in known)]
         goals = found.setdefault(key, {})
-        goals[goal] = goals.get(goal, False) or is_real
+        goals[goal] = max(goals.get(goal, NAMES), how)
 
     for path, goal, why in PROOF_ERROR.findall(said):
-        refuse(path.replace("/", "::"), re.findall(r"\+\w+", path), goal, bool(goal) and not ONLY_NAMES.search(why))
+        refuse(path.replace("/", "::"), re.findall(r"\+\w+", path), goal, ANSWER if goal and not ONLY_NAMES.search(why) else NAMES)
     for path, line, goal in LEFT.findall(said):
         text = texts.get(path) or text_of(crate, path)
         at = len("".join(text.splitlines(True)[: int(line)]))
         around = [it.key for it in functions_in(crate, path, text) if at <= it.end + 2][:1]
-        refuse([*around, path][0], [], goal, True)
+        refuse([*around, path][0], [], goal, SEARCH)
     for name, _, rest in VERDICT.findall(said):
         for goal in re.findall(r"`([^`]+)`", " ".join(NO_PROOF_FOUND.findall(rest))):
-            refuse(name, re.findall(r"expected answers in \S*/(\+\w+)/", rest), goal, True)
+            refuse(name, re.findall(r"expected answers in \S*/(\+\w+)/", rest), goal, SEARCH)
     return found
 
 
@@ -599,7 +620,8 @@ def judge(edit, said, refused):
     """Sets what has come of an edit."""
     told = {name: verdict for name, verdict, _ in VERDICT.findall(said)}
     goals = [it for key in edit.functions.values() or refused for it in refused.get(key, {}).items()]
-    real = sorted({goal for goal, is_real in goals if is_real})
+    real = sorted({goal for goal, how in goals if how != NAMES})
+    edit.unfit = sorted({goal for goal, how in goals if how == ANSWER})
     meant = [it for it in real if not edit.clause or it == edit.goal or clauses.is_goal_of(it, edit.clause)]
     is_proved = {told.get(it) for it in edit.functions} <= PROVED if edit.functions else "\nlogic=proved" in said
     if meant:
