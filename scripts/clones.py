@@ -104,10 +104,17 @@ def sum_of(top, crates):
     """A sum of all that a check of these crates reads: their files and those of all below, and which kit it is."""
     found = hashlib.sha256(version().encode())
     for crate in with_all_below(crates):
-        for file in files_of(crate.path(top)):
-            if file.endswith(READ):
-                with open(file, "rb") as opened:
-                    found.update(repr((os.path.relpath(file, top), opened.read())).encode())
+        found.update(sum_of_files(top, crate).encode())
+    return found.hexdigest()
+
+
+def sum_of_files(top, crate):
+    """A sum of all that a check of a crate reads in its own folder."""
+    found = hashlib.sha256()
+    for file in files_of(crate.path(top)):
+        if file.endswith(READ):
+            with open(file, "rb") as opened:
+                found.update(repr((os.path.relpath(file, top), opened.read())).encode())
     return found.hexdigest()
 
 

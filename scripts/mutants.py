@@ -316,22 +316,8 @@ def in_rounds(edits, size):
 
 
 def sum_of(crate, top):
-    """A sum of what the verdicts of a crate stand on: what it and those below it say, besides comments, proofs and the bodies of functions."""
-    found = hashlib.sha256(clones.version().encode())
-    for one in [*crate.below, crate]:
-        judged = rounds.Judged(one.name, one.path(top))
-        for file in clones.files_of(judged.folder):
-            if file.endswith(clones.READ) and "/proofs/" not in file:
-                found.update(repr((os.path.relpath(file, top), said_by(judged, os.path.relpath(file, judged.folder)))).encode())
-    return found.hexdigest()[:16]
-
-
-def said_by(crate, path):
-    """What a file says besides comments and the bodies of its functions, however its lines are broken."""
-    text = rounds.text_of(crate, path)
-    for it in reversed(rounds.functions_in(crate, path, text) if path.endswith(".rt") else []):
-        text = text[: it.begin] + text[it.end :]
-    return re.sub(r"(?m)^ *(?://|--).*\n", "", text).split()
+    """A sum of what the verdicts of a crate stand on: what it and those below it say."""
+    return rounds.sum_of_statements(top, [*crate.below, crate])[:16]
 
 
 def kept(name):

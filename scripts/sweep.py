@@ -77,6 +77,10 @@ def answered(files, is_big, is_four, words):
         return b"", f"refused {why}\n".encode(), 1
 
 
+# A run is ended after so many seconds, which none takes.
+SECONDS = 60
+
+
 def ran(program, files, is_big, is_four, words):
     with tempfile.TemporaryDirectory() as room:
         options = ["--big"] * is_big + ["--v4"] * is_four
@@ -85,7 +89,10 @@ def ran(program, files, is_big, is_four, words):
                 options += [f"--{name}", name]
                 with open(os.path.join(room, name), "wb") as file:
                     file.write(files[name])
-        said = subprocess.run([program, *words, *options], cwd=room, stdin=subprocess.DEVNULL, capture_output=True)
+        try:
+            said = subprocess.run([program, *words, *options], cwd=room, stdin=subprocess.DEVNULL, capture_output=True, timeout=SECONDS, check=False)
+        except subprocess.TimeoutExpired:
+            return b"", f"it was ended after {SECONDS} seconds\n".encode(), None
     return said.stdout, said.stderr, said.returncode
 
 

@@ -35,7 +35,7 @@ With --unchanged each function that would be changed in a copy is copied as it i
 proved. So it shows that a copy is refused for its body alone. Its verdicts are kept in copies/NAME.tsv, by a sum of the copy's text and its proof files, and an edit
 whose copy has none there fails (NOT COMPARED).
 
-What passed is kept by a sum of all that it stands on, and not tried again without --anew. The last line is `N passed, M failed`, and the
+What passed is kept by a sum of all that it stands on (the crate's text, and what the crates below say, but not their bodies and proofs), and not tried again without --anew. The last line is `N passed, M failed`, and the
 status is 0 where none failed and some passed, else 1.
 """
 
@@ -255,6 +255,27 @@ def functions_in(crate, path, text):
         can_be_copied = (key == name or cycle and not match[1]) and not is_of_trait
         found.append(Function(name, key, first, match.end(2), *body, cycle[1] if cycle else "", is_of_trait, bool(can_be_copied)))
     return found
+
+
+def sum_of_statements(top, crates):
+    """A sum of what these crates say, which is all that a proof above them reads: their definitions and their contracts, without proofs, comments and the bodies of
+    functions, however their lines are broken."""
+    found = hashlib.sha256(clones.version().encode())
+    for one in crates:
+        crate = Judged(one.name, one.path(top))
+        for file in clones.files_of(crate.folder):
+            if file.endswith(clones.READ) and "/proofs/" not in file:
+                path = os.path.relpath(file, crate.folder)
+                found.update(repr((one.name, path, said_by(crate, path))).encode())
+    return found.hexdigest()
+
+
+def said_by(crate, path):
+    """The words of a file besides comments and the bodies of its functions."""
+    text = text_of(crate, path)
+    for it in reversed(functions_in(crate, path, text) if path.endswith(".rt") else []):
+        text = text[: it.begin] + text[it.end :]
+    return re.sub(r"(?m)^ *(?://|--).*\n", "", text).split()
 
 
 @functools.lru_cache(maxsize=None)
@@ -718,7 +739,7 @@ class Work:
     files: list
     edits: list
     cache: str
-    # A sum of all that a verdict stands on, but for the edit: the crate and those below it, the kit, and the scripts.
+    # A sum of all that a verdict stands on, but for the edit: the crate, what those below it say, the kit, and the scripts.
     base: str
     # Whether it is functions as they are that are copied.
     keeps_copies: bool = False
@@ -851,7 +872,7 @@ def asked():
 def work_in(top, given):
     """The crates that have wrong bodies, each with these."""
     crates, work, found = clones.crates_in(top), [], set()
-    scripts = "".join(clones.text_of(os.path.realpath(it)) for it in (__file__, clones.__file__))
+    scripts = "".join(clones.text_of(os.path.realpath(it)) for it in (__file__, clauses.__file__, clones.__file__))
     for name in given.names or list(crates):
         crate = clones.known(crates, name)
         folders = [f"{crate.path(top)}/{it}" for it in ("wrong", "must-fail")[: 1 + given.must_fail]]
@@ -861,7 +882,8 @@ def work_in(top, given):
         if files:
             edits = [read(Judged(name, crate.path(top)), it) for it in files]
             edits = unchanged(edits, given.anew) if given.unchanged else edits
-            work.append(Work(crate, files, edits, given.cache, clones.sum_of(top, [crate]) + scripts, given.unchanged))
+            base = clones.sum_of_files(top, crate) + sum_of_statements(top, crate.below) + scripts
+            work.append(Work(crate, files, edits, given.cache, base, given.unchanged))
     for name in given.edit:
         if name not in found:
             raise Stop(f"there is no edit {name}")
