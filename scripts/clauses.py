@@ -89,10 +89,12 @@ def says_nothing_of(clause, old, new):
     return len(made) == 1 and made <= untold(clause)
 
 
-def is_goal_of(goal, clause):
-    """Whether a goal is one at which a function ends, of this clause. In a cycle of calls the name of the function stands before it."""
-    rest = r"(?:-(?!\S*clause-)\S+)?" if clause == UNNAMED else rf"(?:-\S+)?-clause-{re.escape(clause)}(?:-\d+)?"
-    return bool(re.fullmatch(rf"(?:\w+-)?returns{rest}", goal))
+def is_goal_of(goal, clause, is_only=False):
+    """Whether a goal is one at which a function ends, of this clause; it isn't named where it is the function's only one. In a cycle of calls the name of the function
+    stands before it."""
+    unnamed, named = r"(?:-(?!\S*clause-)\S+)?", rf"(?:-\S+)?-clause-{re.escape(clause)}(?:-\d+)?"
+    rests = [unnamed] * (is_only or clause == UNNAMED) + [named] * (clause != UNNAMED)
+    return any(re.fullmatch(rf"(?:\w+-)?returns{rest}", goal) for rest in rests)
 
 
 # Clauses and texts with what has to be said of them.
@@ -109,19 +111,22 @@ SAMPLES = [
     ("IfNone result (n ≡ 0)", "if n == 0 {", "if n == 1 {", False),
 ]
 
+# Goals and clauses, whether that is the function's only one, and whether it is the goal's.
 GOALS = [
-    ("returns-in-Err-clause-broken", "broken", True),
-    ("returns-clause-broken-2", "broken", True),
-    ("returns-in-Err-clause-found", "broken", False),
-    ("left-returns-in-Some-clause-told", "told", True),
-    ("loop-width-init", "some", False),
-    ("returns-then-m", "returns", True),
-    ("returns-clause-broken", "returns", False),
-    ("invariant_of-result", "returns", False),
+    ("returns-in-Err-clause-broken", "broken", False, True),
+    ("returns-clause-broken-2", "broken", False, True),
+    ("returns-in-Err-clause-found", "broken", False, False),
+    ("left-returns-in-Some-clause-told", "told", False, True),
+    ("loop-width-init", "some", True, False),
+    ("returns-then-m", "returns", True, True),
+    ("returns-in-Four", "spelling", True, True),
+    ("returns-in-Four", "spelling", False, False),
+    ("returns-clause-broken", "returns", True, False),
+    ("invariant_of-result", "returns", True, False),
 ]
 
 
 def fails_itself():
     """What this module says otherwise than it has to of its samples."""
     wrong = [str(it) for it in SAMPLES if says_nothing_of(*it[:3]) != it[3]]
-    return [*wrong, *(str(it) for it in GOALS if is_goal_of(*it[:2]) != it[2])]
+    return [*wrong, *(str(it) for it in GOALS if is_goal_of(*it[:3]) != it[3])]

@@ -9,7 +9,7 @@ With --below the libraries are those below the crates NAME.
 A clone has the files that git knows in the tree at hand, and those that it doesn't ignore, as they are now. Where `rt ci` has passed over this very tree
 (scripts/rt_ci.py), the libraries are those that it left in it, `crates/NAME/out/rlib/NAME.rlib`: `rt check` and `rt lib` in the clone are told of each by
 `--extern NAME=FOLDER`, and the clone's crates.txt names no library of the repository, so that none is proved once more. Else they are built in the clone by
-`rt lib`, from the lowest on, over what `rt lib` and `rt check` kept in the tree at hand: nothing may run in the tree meanwhile. The tree at hand is never changed.
+`rt lib`, from the lowest on. The tree at hand is never changed.
 """
 
 import argparse
@@ -228,23 +228,6 @@ def git(words, folder):
     return ran.stdout
 
 
-def take_kept(top, folder, crates):
-    """Copies what was kept of these crates in the tree at hand, and returns the names of those that have some."""
-    taken = []
-    for crate in crates:
-        kept = os.path.join(crate.path(top), "out")
-        if not os.path.isdir(kept):
-            continue
-        there = os.path.join(crate.path(folder), "out")
-        try:
-            shutil.copytree(kept, there, symlinks=True)
-            taken.append(crate.name)
-        except shutil.Error:
-            # (something ran there)
-            shutil.rmtree(there, ignore_errors=True)
-    return taken
-
-
 def library_of(top, crate):
     """The library of a crate, where `rt ci` or `rt lib` leaves it."""
     return os.path.join(crate.path(top), "out", "rlib", f"{crate.name}.rlib")
@@ -296,7 +279,6 @@ def main():
         name_no_libraries(folder)
         print(" ".join(words_for(TOP, wanted)))
         return 0
-    take_kept(TOP, folder, wanted)
     for crate in wanted:
         print(f"{crate.name}: library, {build(folder, crate):.0f} s of processor", file=sys.stderr)
     return 0

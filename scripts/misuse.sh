@@ -22,11 +22,24 @@ trap 'rm -rf "$scratch"' EXIT
 trap 'exit 1' INT TERM HUP
 
 sum=$( (scripts/clones.py sum $libraries && cat scripts/misuse.sh misuse/*.txt) | sha256sum | cut -d ' ' -f 1) || exit 1
-kept=${XDG_CACHE_HOME:-${HOME:-/tmp}/.cache}/misuse/$sum
+# (where there is no folder of one's own, nothing is kept)
+cache=${XDG_CACHE_HOME:-${HOME:+$HOME/.cache}}
+kept=${cache:-$scratch}/misuse/$sum
 if [ -f "$kept" ]; then
     cat "$kept"
     exit 0
 fi
+# What is lent of which owner, by the names of the callers' files.
+lent="an_entry:unit an_entry:section a_text:strings"
+sound="" unsound="" passed=0
+for each in $lent; do
+    sound+=" ${each%:*}_within_its_${each#*:}"
+    unsound+=" ${each%:*}_outlives_its_${each#*:}"
+done
+for caller in $sound $unsound; do
+    grep -q '^pub fn ' "misuse/$caller.txt" 2> /dev/null || stop "misuse/$caller.txt isn't there, or has no function"
+done
+
 clone=$scratch/clone
 words=$(scripts/clones.py make "$clone" $libraries)
 crate=$clone/crates/misuse
@@ -45,14 +58,6 @@ check() {
     done
     (cd "$crate" && rt check $words) > "$scratch/answer" 2>&1
 }
-
-# What is lent of which owner, by the names of the callers' files.
-lent="an_entry:unit an_entry:section a_text:strings"
-sound="" unsound="" passed=0
-for each in $lent; do
-    sound+=" ${each%:*}_within_its_${each#*:}"
-    unsound+=" ${each%:*}_outlives_its_${each#*:}"
-done
 
 echo "misuse: checking the callers that use it before they drop its owner"
 if ! check $sound; then
@@ -76,5 +81,6 @@ done
     echo "$passed passed, 0 failed"
 } > "$scratch/verdict"
 mkdir -p "$(dirname "$kept")"
-cp "$scratch/verdict" "$kept"
+# (it is kept as a whole or not at all)
+cp "$scratch/verdict" "$kept.$$" && mv "$kept.$$" "$kept"
 cat "$kept"

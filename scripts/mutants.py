@@ -28,8 +28,7 @@ A refusal says that the proof goes through no more, and a search misses proofs t
 a line for each (`ID CRATE breaks|same CASE`): a case in which the contract is broken, or why the answers are the same.
 
 --report writes docs/mutants.md out of these three, and its status is 1 where a verdict that counts is stale, an accepted one has no line, one that was drawn isn't read, or the README has other sums. The libraries
-are those of `rt ci`, where it has passed over this tree, or else begin with what `rt lib` and `rt check` kept in the tree at hand, where nothing may run then. `.ci/run` doesn't run this: a crate takes
-minutes to an hour, and all of them hours.
+are those of `rt ci`, where it has passed over this tree; else the first check of a crate proves them. `.ci/run` doesn't run this: a crate takes minutes to an hour, and all of them hours.
 """
 
 import argparse
@@ -365,14 +364,12 @@ def try_crate(name, room, given, words):
     print(f"{name}: {counts(rows)}; {judged.checks} checks, {judged.seconds:.0f} s of processor", flush=True)
 
 
-def try_apart(crate, first, room, given):
-    """Tries the mutants of a crate in a clone of its own, which is gone then. Where there is no first clone, the libraries are those of `rt ci`."""
+def try_apart(crate, room, given, is_over_ci):
+    """Tries the mutants of a crate in a clone of its own, which is gone then."""
     clones.clone(clones.TOP, room)
-    if first:
-        clones.take_kept(first, room, [*crate.below, crate])
-    else:
+    if is_over_ci:
         clones.name_no_libraries(room)
-    try_crate(crate.name, room, given, None if first else clones.words_for(clones.TOP, crate.below))
+    try_crate(crate.name, room, given, clones.words_for(clones.TOP, crate.below) if is_over_ci else None)
     shutil.rmtree(room)
 
 
@@ -550,17 +547,6 @@ def report():
     return missing
 
 
-def build_libraries(first, wanted):
-    """Builds the libraries of these crates and those below in a clone."""
-    clones.clone(clones.TOP, first)
-    libraries = clones.with_all_below(wanted)
-    clones.take_kept(clones.TOP, first, libraries)
-    for crate in libraries:
-        # (a program is no library: its first round proves it)
-        if not os.path.isfile(f"{crate.path(first)}/src/main.rt"):
-            print(f"{crate.name}: library, {clones.build(first, crate):.0f} s of processor", flush=True)
-
-
 def main():
     ask = argparse.ArgumentParser(description=__doc__, formatter_class=argparse.RawDescriptionHelpFormatter)
     ask.add_argument("names", nargs="*", metavar="NAME")
@@ -591,11 +577,9 @@ def main():
     if given.logs:
         os.makedirs(given.logs, exist_ok=True)
     with clones.folder_for_clones() as folder:
-        first = "" if rt_ci.has_passed() else f"{folder}/1"
-        if first:
-            build_libraries(first, wanted)
+        is_over_ci = rt_ci.has_passed()
         with ThreadPoolExecutor(max(1, given.side_by_side)) as pool:
-            for it in [pool.submit(try_apart, crate, first, f"{folder}/{number}", given) for number, crate in enumerate(wanted, 2)]:
+            for it in [pool.submit(try_apart, crate, f"{folder}/{number}", given, is_over_ci) for number, crate in enumerate(wanted)]:
                 it.result()
     return 0
 

@@ -7,8 +7,9 @@ A quotation is a fenced block of README.md or docs/*.md whose first line names a
 
     ```antt dw_unit/specs/Unit.antt
 
-Its words have to stand in that file one behind the other, whatever the lines are; `..` alone on a line leaves out words. The last line is `N passed,
-M failed`, of the quotations, and the status is 0 where none failed.
+Its words have to stand in that file one behind the other, whole, whatever the lines are; `..` alone on a line leaves out words. A fence is spelled as Markdown
+lets one: three or more backquotes or tildes, behind up to three spaces. The last line is `N passed, M failed`, of the quotations, and the status is 0 where none failed and there
+are as many as are known to be.
 """
 
 import glob
@@ -17,7 +18,10 @@ import re
 import sys
 
 TOP = os.path.dirname(os.path.dirname(os.path.abspath(__file__)))
-BLOCK = re.compile(r"^```\w+ (\S+)\n(.*?)^```$", re.MULTILINE | re.DOTALL)
+BLOCK = re.compile(r"^ {0,3}(`{3,}|~{3,}) *\w+ +(\S+) *\n(.*?)^ {0,3}\1[`~]* *$", re.MULTILINE | re.DOTALL)
+
+# So many quotations there are at the least.
+QUOTATIONS = 11
 
 
 def quotations(path):
@@ -25,7 +29,7 @@ def quotations(path):
     with open(path, encoding="utf-8") as file:
         text = file.read()
     for block in BLOCK.finditer(text):
-        yield block[1], block[2], text.count("\n", 0, block.start()) + 1
+        yield block[2], block[3], text.count("\n", 0, block.start()) + 1
 
 
 def words_of(text):
@@ -34,12 +38,14 @@ def words_of(text):
 
 def stands(quoted, source):
     """Whether the parts of a quotation stand in the source, one behind the other."""
-    at = 0
+    at, words = 0, f" {source} "
     for part in re.split(r"(?m)^\s*\.\.$", quoted):
-        found = source.find(words_of(part), at)
+        wanted = f" {words_of(part)} "
+        found = words.find(wanted, at) if wanted.strip() else at
         if found < 0:
             return False
-        at = found + len(words_of(part))
+        # (the space behind it may stand before the next one)
+        at = found + len(wanted) - 1 if wanted.strip() else at
     return True
 
 
@@ -57,6 +63,9 @@ def main():
             else:
                 failed += 1
                 print(f"{document}:{line}: not in crates/{name} word for word")
+    if passed + failed < QUOTATIONS:
+        failed += 1
+        print(f"there are {passed + failed - 1} quotations, and not {QUOTATIONS}")
     print(f"{passed} passed, {failed} failed")
     return 0 if passed and not failed else 1
 

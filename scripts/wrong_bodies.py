@@ -28,8 +28,7 @@ function and the goals.
 
 The rounds work in clones of the tree at hand (scripts/clones.py), and never in the tree itself. Where `rt ci` has passed over this very tree
 (scripts/rt_ci.py), they stand on the libraries that it left there, and so do the functions that no edit of a round changes: a hole stands for the proof of
-each, so that a check takes it by its contract (`--allow-holes`). Else the libraries are built in one clone, over what `rt lib` and `rt check` kept in the tree
-at hand, where nothing may run then, and a crate is tried in another clone, as soon as the libraries stand that it needs. The clones are gone at the end.
+each, so that a check takes it by its contract (`--allow-holes`). Else the first check of a crate proves the libraries below it once more. The clones are gone at the end.
 
 With --unchanged each function that would be changed in a copy is copied as it is, once for each clause that is asked of it, and passes where the copy is
 proved. So it shows that a copy is refused for its body alone. Its verdicts are kept in copies/NAME.tsv, by a sum of the copy's text and its proof files, and an edit
@@ -91,9 +90,6 @@ ROUND = 15
 
 # So often the edits are dealt out to rounds.
 PASSES = 4
-
-# So few rounds are tried without a library of their crate, where no other crate needs it and `rt ci` left none.
-FEW_ROUNDS = 2
 
 REFUSED, WEAK, ACCEPTED, BAD, UNCLEAR, ALONE = "refused", "WEAK", "NOT REFUSED", "BAD EDIT", "NOT TRIED", "NOT COMPARED"
 
@@ -464,6 +460,12 @@ def lacks(edit):
     return ""
 
 
+def has_one_clause(edit):
+    """Whether a function that an edit changes has no clause but one, or its trait has its clauses: then goals don't tell of which clause they are."""
+    contracts = [contract_of(edit.crate, it) for it in edit.copied or edit.functions]
+    return any(it is None or len(it) == 1 for it in contracts)
+
+
 def reached_by(edit):
     """The functions of its crate that speak of a constant or a macro that an edit changes."""
     found = set()
@@ -643,7 +645,7 @@ def judge(edit, said, refused):
     goals = [it for key in edit.functions.values() or refused for it in refused.get(key, {}).items()]
     real = sorted({goal for goal, how in goals if how != NAMES})
     edit.unfit = sorted({goal for goal, how in goals if how == ANSWER})
-    meant = [it for it in real if not edit.clause or it == edit.goal or clauses.is_goal_of(it, edit.clause)]
+    meant = [it for it in real if not edit.clause or it == edit.goal or clauses.is_goal_of(it, edit.clause, has_one_clause(edit))]
     is_proved = {told.get(it) for it in edit.functions} <= PROVED if edit.functions else "\nlogic=proved" in said
     if meant:
         edit.set(REFUSED, f" at {', '.join(meant)}")
@@ -770,16 +772,13 @@ class Work:
                 put_text(self.place(edit), edit.what)
 
 
-def try_crate(work, clone, logs, as_built, is_built, words=None):
-    """Tries the edits of a crate that aren't judged yet, in a clone in which the libraries below it stand, or of which `words` tell a check. `as_built`
-    puts back what its own library kept, if that is built."""
+def try_crate(work, clone, logs, words):
+    """Tries the edits of a crate that aren't judged yet, in a clone. `words` tell a check of the libraries below it; where there are none, it proves them first."""
     judged = Judged(work.crate.name, work.crate.path(clone), logs, words)
     for edit in work.edits:
         edit.crate = judged
-    rounds = plan(judged, work.to_try(), is_built)
-    for number, some in enumerate(rounds):
-        if number:
-            as_built()
+    rounds = plan(judged, work.to_try(), words is not None)
+    for some in rounds:
         try_round(judged, some)
         work.keep(some)
     spent = f"{judged.name}: {len(rounds)} rounds, {judged.checks} checks, {judged.seconds:.0f} s of processor"
@@ -905,20 +904,22 @@ def unchanged(edits, is_anew):
     return found
 
 
-def try_over_ci(work, folder, given):
-    """Tries the edits of all these crates in clones in this folder, over the libraries that `rt ci` left in the tree at hand, and returns what went wrong
-    with the script itself. Those of many edits come first, so that the last ones end together."""
-    rooms = queue.Queue()
+def try_all(work, folder, given):
+    """Tries the edits of all these crates in clones in this folder, and returns what went wrong with the script itself. Those of many edits come first, so that
+    the last ones end together."""
+    rooms, is_over_ci = queue.Queue(), rt_ci.has_passed()
     for number in range(max(1, given.side_by_side)):
         clones.clone(clones.TOP, f"{folder}/{number}")
-        clones.name_no_libraries(f"{folder}/{number}")
+        if is_over_ci:
+            clones.name_no_libraries(f"{folder}/{number}")
         rooms.put(f"{folder}/{number}")
 
     def try_one(one):
         room = rooms.get()
         try:
-            try_crate(one, room, given.logs, lambda: None, True, clones.words_for(clones.TOP, one.crate.below))
+            try_crate(one, room, given.logs, clones.words_for(clones.TOP, one.crate.below) if is_over_ci else None)
         finally:
+            shutil.rmtree(f"{one.crate.path(room)}/out", ignore_errors=True)
             rooms.put(room)
 
     with tempfile.TemporaryDirectory(prefix="wrong-bodies-self-") as own, ThreadPoolExecutor(max(1, given.side_by_side)) as pool:
@@ -930,84 +931,6 @@ def try_over_ci(work, folder, given):
             clones.end_all()
             pool.shutdown(cancel_futures=True)
             raise
-
-
-def try_all(work, folder, given):
-    """The same, over libraries that are built in the first clone, from the lowest on. The rounds of a crate begin as soon as those stand that it needs, in
-    another clone."""
-    # (nothing ever runs in the second one, so it may be copied at any time; where one runs at a time, the first is at rest by then)
-    first, kept = f"{folder}/1", f"{folder}/{'1' if given.side_by_side <= 1 else 'kept'}"
-    for clone in {first, kept}:
-        clones.clone(clones.TOP, clone)
-    taken = clones.take_kept(clones.TOP, first, clones.with_all_below([it.crate for it in work]))
-    if taken:
-        print(f"taken over from the tree at hand: what was kept of {', '.join(taken)}", flush=True)
-    libraries = libraries_for(work)
-    wanted = {one.crate.name: [it for it in libraries if it in [*one.crate.below, one.crate]] for one in work}
-    runs, waiting, rooms = [], list(work), queue.Queue()
-    for number in range(2, 2 + max(1, given.side_by_side)):
-        clones.clone(clones.TOP, f"{folder}/{number}")
-        rooms.put(Room(f"{folder}/{number}"))
-
-    def begin_what_can(built):
-        for one in [it for it in waiting if all(that in built for that in wanted[it.crate.name])]:
-            waiting.remove(one)
-            runs.append(pool.submit(try_apart, one, kept, wanted[one.crate.name], given.logs, rooms))
-
-    def build_all():
-        for count, crate in enumerate(libraries):
-            begin_what_can(libraries[:count])
-            print(f"{crate.name}: library, {clones.build(first, crate):.0f} s of processor", flush=True)
-            if kept != first:
-                clones.take_kept(first, kept, [crate])
-        begin_what_can(libraries)
-
-    with tempfile.TemporaryDirectory(prefix="wrong-bodies-self-") as own, ThreadPoolExecutor(max(1, given.side_by_side)) as pool:
-        building = pool.submit(build_all)
-        try:
-            building.result()
-            runs.append(pool.submit(fails_itself, own))
-            return [it.result() for it in runs][-1]
-        except BaseException:
-            clones.end_all()
-            pool.shutdown(cancel_futures=True)
-            raise
-
-
-@dataclass
-class Room:
-    """A clone in which crates are tried, one after the other, and the names of the libraries that were taken into it."""
-
-    folder: str
-    taken: set = field(default_factory=set)
-
-    def take(self, kept, libraries):
-        clones.take_kept(kept, self.folder, [it for it in libraries if it.name not in self.taken])
-        self.taken |= {it.name for it in libraries}
-
-    def take_again(self, kept, crate):
-        """Takes what a library kept once more: else what one round changed is proved anew in the next."""
-        if crate.name in self.taken:
-            shutil.rmtree(f"{crate.path(self.folder)}/out")
-            clones.take_kept(kept, self.folder, [crate])
-
-
-def try_apart(one, kept, libraries, logs, rooms):
-    """Tries the edits of a crate in a clone that is free, over what the libraries kept."""
-    room = rooms.get()
-    try:
-        room.take(kept, libraries)
-        try_crate(one, room.folder, logs, lambda: room.take_again(kept, one.crate), one.crate in libraries)
-        room.take_again(kept, one.crate)
-    finally:
-        rooms.put(room)
-
-
-def libraries_for(work):
-    """The crates whose libraries are built first: those below, and those of many rounds, which then begin over what that kept."""
-    below = [it for one in work for it in one.crate.below]
-    others = [one.crate for one in work if len(plan(one.edits[0].crate, one.to_try(), is_built=False)) > FEW_ROUNDS]
-    return [it for it in clones.with_all_below([it.crate for it in work]) if it in below or it in others]
 
 
 def main():
@@ -1028,7 +951,7 @@ def main():
     wrong = ""
     if pending:
         with clones.folder_for_clones() as folder:
-            wrong = (try_over_ci if rt_ci.has_passed() else try_all)(pending, folder, given)
+            wrong = try_all(pending, folder, given)
     kinds = [edit.verdict() for one in work for edit in one.edits]
     failed = len(kinds) - kinds.count(right) + bool(wrong)
     if wrong:

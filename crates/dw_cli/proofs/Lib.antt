@@ -2,3 +2,4 @@ pub mod Filled
 pub mod Helpless
 pub mod Numbers
 pub mod Subcommands
+pub mod RunEnds
