@@ -2,4 +2,3 @@ pub mod Filled
 pub mod Helpless
 pub mod Numbers
 pub mod Subcommands
-pub mod RunEnds

@@ -4,13 +4,14 @@ use Rattle.dw_leb.specs.declared.errors.Fault.{Fault as TheFault}
 use Rattle.dw_leb.specs.declared.errors.SectionId.TheVariants.{Abbrev}
 use Rattle.dw_abbrev.specs.Table.{Table as TheTable, TableAt, TableBreaks}
 use Rattle.dw_header.specs.Header.{Header}
+use Rattle.dw_tree.specs.Tree.{nesting}
 use Rattle.dw_unit.specs.Unit.{WholeUnit}
 use Rattle.dw_feed.specs.HeadFeed as heads
 use Rattle.dw_feed.specs.HeadFeed.{HeadFeed, FeedsHead, Ends, Wants, WantsExactly}
 use Rattle.dw_feed.specs.BodyFeed.{BodyFeed, EndsBody, FeedsBody, Reading, started}
 use Rattle.dw_feed.specs.declared.progress.Progress.{Progress}
 use Rattle.dw_feed.specs.declared.progress.Progress.TheVariants.{More, Done, Fault, NoMemory, Spent}
-use Rattle.dw_feed.specs.HeldCounts.{HeldCounts, held}
+use Rattle.dw_feed.specs.HeldCounts.{HeldCounts, held, nothing_held}
 use Rattle.dw_feed.specs.HeldView.{taken_by}
 use Rattle.dw_section.specs.Item.{Known}
 use Rattle.dw_section.specs.Push.{or_memory, push_refusal, with_item}
@@ -107,10 +108,10 @@ IsWanted (Whole u) n = n ≡ 0
 
 -- what is held of a unit behind its header; nothing of all else
 abbrev pub held_in : Feeding → HeldCounts
-held_in (Head h) = record { pending = 0; nested = 0; entries = 0; values = 0; pool = 0 }
-held_in (Table x) = record { pending = 0; nested = 0; entries = 0; values = 0; pool = 0 }
+held_in (Head h) = nothing_held
+held_in (Table x) = nothing_held
 held_in (Body b) = held b
-held_in (Whole u) = record { pending = 0; nested = 0; entries = 0; values = 0; pool = 0 }
+held_in (Whole u) = nothing_held
 
 -- how many bytes were pushed of a unit behind its header
 abbrev pub pushed_in : Feeding → ℕ
@@ -120,11 +121,11 @@ pushed_in (Body b) = taken_by b
 pushed_in (Whole u) = 0
 
 -- What C is told of what is held of a unit of which so many bytes were pushed behind its header: at most 16 bytes of a
--- number or a length field, at most 4,096 nested entries, no more entries and no more bytes of texts and blocks than
+-- number or a length field, at most as many nested entries as there are levels (4,096), no more entries and no more bytes of texts and blocks than
 -- were pushed, and at most 1,024 values for each entry.
 pub record IsHeldWithin (pushed : ℕ) (h : CHeld) : Type 0 where
   pub pending : h.pending ≤ 16
-  pub nested : h.nested ≤ 4096
+  pub nested : h.nested ≤ nesting
   pub entries : h.entries ≤ pushed
   pub pool : h.pool ≤ pushed
   pub values : h.values + 2 ^ 64 * h.values_high ≤ 1024 * h.entries

@@ -3,6 +3,8 @@ ghost use Rattle.std.specs.Prelude.{◌≡◌, ◌≢◌, ◌≤◌, [], length,
 ghost use Rattle.dw_abbrev.specs.Table.{TableAt};
 ghost use Rattle.dw_abbrev.specs.TableErrors.{IsTableError};
 ghost use Rattle.dw_feed.specs.HeadFeed.{Reading};
+ghost use Rattle.dw_feed.specs.HeldCounts.{held, nothing_held};
+ghost use Rattle.dw_feed.specs.HeldView.{taken_by};
 ghost use Rattle.rothelduf_c.specs.Feeds.{HeadPushed, BodyPushed, IsEnded, IsHeldWithin, IsPushed, IsTabled, IsTaken, IsWanted, SaysRefusal, held_in, pushed_in};
 ghost use Rattle.rothelduf_c.specs.Seen.{seen_held};
 ghost use Rattle.rothelduf_c.specs.Status as status;
@@ -138,17 +140,31 @@ pub fn held(feeding: &Feeding) -> CHeld
     ensures exact { result ≡ seen_held (held_in feeding.now) }
     ensures within { IsHeldWithin (pushed_in feeding.now) result }
 {
-    let held = match feeding {
-        Feeding::Body(feed) => feed.held(),
-        _ => Held {
-            pending: 0,
-            nested: 0,
-            entries: 0,
-            values: 0,
-            pool: 0,
-        },
-    };
-    c_held(&held)
+    match feeding {
+        Feeding::Body(feed) => held_behind(feed),
+        _ => none_held(),
+    }
+}
+
+/// What is held of a unit behind its header.
+fn held_behind(feed: &BodyFeed) -> CHeld
+    ensures exact { result ≡ seen_held (held feed.now) }
+    ensures within { IsHeldWithin (taken_by feed.now) result }
+{
+    c_held(&feed.held())
+}
+
+fn none_held() -> CHeld
+    ensures exact { result ≡ seen_held nothing_held }
+    ensures within { IsHeldWithin 0 result }
+{
+    c_held(&Held {
+        pending: 0,
+        nested: 0,
+        entries: 0,
+        values: 0,
+        pool: 0,
+    })
 }
 
 /// What a feed says where the input ends.
