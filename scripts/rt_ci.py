@@ -4,17 +4,20 @@
 Usage: scripts/rt_ci.py [--processors N] [--anew] [--cache FOLDER]
 
 Some kits prove all anew at each `rt ci`, an hour or more of processor. So that it passed is kept, by a sum of all that it reads: the files in
-crates/, crates.txt, HANDLES, each file elsewhere that it would refuse or read, and the line of `rt version`. It isn't run again where that sum was
-kept, the programs that it left are there, byte for byte, and the libraries are those that it left, since other steps of the gate run the ones and stand on the others. --anew runs it in any case. With --processors it sees so many
+crates/, those that git ignores among them, crates.txt, HANDLES, each file elsewhere that it would refuse or read, the line of `rt version`, the variables RT_*, and this script. It isn't run
+again where that sum was kept, and the programs and the libraries that it left are there, byte for byte, since other steps of the gate run the ones and stand on the others. Those that are there before
+it runs are taken away, so that what it leaves is of that very run. --anew runs it in any case. With --processors it sees so many
 of them: it gives each check as many jobs as there are, and each job loads anew what it needs. The last
-line is that of `rt ci`, `N passed, M failed`, and so is the status.
+line is that of `rt ci`, `N passed, M failed`, and so is the status; where it isn't run again, the line says so and counts nothing.
 """
 
 import argparse
+import contextlib
 import hashlib
 import json
 import os
 import re
+import shutil
 import subprocess
 import sys
 
@@ -38,9 +41,11 @@ def is_read(path):
 
 def sum_of_tree():
     """A sum of all that `rt ci` reads."""
-    listed = clones.git(["ls-files", "-z", "--cached", "--others", "--exclude-standard"], clones.TOP)
-    found = hashlib.sha256(clones.version().encode())
-    for path in sorted(filter(is_read, set(listed.split("\0")))):
+    listed = clones.git(["ls-files", "-z", "--cached", "--others", "--exclude-standard"], clones.TOP).split("\0")
+    listed += [it for it in clones.git(["ls-files", "-z", "--others", "--ignored", "--exclude-standard", "crates"], clones.TOP).split("\0") if "/out/" not in it]
+    asked = sorted((name, value) for name, value in os.environ.items() if name.startswith("RT_"))
+    found = hashlib.sha256(repr((clones.version(), asked, clones.text_of(__file__))).encode())
+    for path in sorted(filter(is_read, set(listed))):
         whole = os.path.join(clones.TOP, path)
         if os.path.isfile(whole):
             found.update(f"{path} {sum_of_file(whole)}\n".encode())
@@ -64,13 +69,26 @@ def programs():
 
 
 def libraries():
-    """Sums of the libraries on which others stand, by their names: of their files' paths, sizes and times. One that is built anew has other times."""
+    """Sums of the libraries on which others stand, by their names."""
     found = {}
-    for crate in {it.name: it for above in clones.crates_in(clones.TOP).values() for it in above.below}.values():
-        files = [os.path.join(at, it) for at, _, names in os.walk(clones.library_of(clones.TOP, crate)) for it in names]
-        told = [(os.path.relpath(it, clones.TOP), os.stat(it).st_size, os.stat(it).st_mtime_ns) for it in sorted(files)]
-        found[crate.name] = hashlib.sha256(repr(told).encode()).hexdigest() if told else ""
+    for name, folder in folders_of_libraries().items():
+        files = sorted(os.path.join(at, it) for at, _, names in os.walk(folder) for it in names)
+        found[name] = hashlib.sha256(repr([(os.path.relpath(it, clones.TOP), sum_of_file(it)) for it in files]).encode()).hexdigest() if files else ""
     return found
+
+
+def folders_of_libraries():
+    crates = {it.name: it for above in clones.crates_in(clones.TOP).values() for it in above.below}
+    return {name: clones.library_of(clones.TOP, crate) for name, crate in crates.items()}
+
+
+def sweep():
+    """Takes away the programs and the libraries of earlier runs."""
+    for folder in folders_of_libraries().values():
+        shutil.rmtree(folder, ignore_errors=True)
+    for path in programs():
+        with contextlib.suppress(FileNotFoundError):
+            os.remove(os.path.join(clones.TOP, path))
 
 
 def left():
@@ -100,6 +118,7 @@ def has_passed():
 def run_anew(place):
     """Runs `rt ci`, whose lines go through, keeps that it passed, and returns its status."""
     last = ""
+    sweep()
     ran = subprocess.Popen(["rt", "ci"], cwd=clones.TOP, stdin=subprocess.DEVNULL, stdout=subprocess.PIPE, stderr=subprocess.STDOUT, text=True, errors="replace")
     with ran:
         try:
@@ -113,8 +132,10 @@ def run_anew(place):
     stands = left()
     if ran.returncode == 0 and place.endswith(sum_of_tree()) and all(all(sums.values()) for sums in stands.values()):
         os.makedirs(os.path.dirname(place), exist_ok=True)
-        with open(place, "w", encoding="utf-8") as file:
+        # (it is kept as a whole or not at all)
+        with open(f"{place}.{os.getpid()}", "w", encoding="utf-8") as file:
             json.dump({"verdict": last, **stands}, file)
+        os.replace(f"{place}.{os.getpid()}", place)
     return ran.returncode
 
 
@@ -130,7 +151,7 @@ def main():
     verdict = "" if given.anew else kept_in(place)
     if not verdict:
         return run_anew(place)
-    print(f"rt ci: it has passed over this tree on this machine\n{verdict}")
+    print(f"rt ci: not run again: it has passed over this very tree on this machine ({verdict})\n0 passed, 0 failed (kept)")
     return 0
 
 
