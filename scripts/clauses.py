@@ -1,4 +1,4 @@
-"""What the clauses of a contract say, as far as their text tells: their names, and of which outcomes of a function they say nothing."""
+"""What the clauses of a contract say, as far as their text tells: their names, and of which outcomes nothing."""
 
 import re
 from dataclasses import dataclass
@@ -21,12 +21,14 @@ PREMISE = re.compile(r"result\S* ≡ \(?(Ok|Err|Some|None)\b")
 TAKEN = re.compile(r"^(?:\s*\{?\([^()]*(?:\([^()]*\)[^()]*)*\)\}?)*\s*")
 
 # An answer where it is made: returned, behind the arrow of an arm, or at the end of a body.
-ANSWER = re.compile(r"(?:\breturn |=> (?:\{ )?(?:return )?|^)(?:(Ok|Err|Some)\(|(None)\b)|; (?:(Ok|Err|Some)\([^;{}]*\)|(None)) ?\}")
+ANSWER = re.compile(
+    r"(?:\breturn |=> (?:\{ )?(?:return )?|^)(?:(Ok|Err|Some)\(|(None)\b)|; (?:(Ok|Err|Some)\([^;{}]*\)|(None)) ?\}"
+)
 
 
 @dataclass
 class Clause:
-    """A clause of a function: its name, where it begins and ends in the text before the body, and what stands between its brackets."""
+    """A clause: its name, where it begins and ends in the text before the body, and what it has between brackets."""
 
     name: str
     begin: int
@@ -58,7 +60,7 @@ def parts_at(text, mark):
 
 
 def untold(text):
-    """The outcomes of which a clause says nothing, whatever they are: `Err` of one that begins with `IfOk`, and so on."""
+    """The outcomes of which a clause says nothing, as `Err` of one that begins with `IfOk`."""
     *premises, said = parts_at(text, "→")
     for premise in premises:
         match = PREMISE.match(TAKEN.sub("", premise).strip())
@@ -90,8 +92,8 @@ def says_nothing_of(clause, old, new):
 
 
 def is_goal_of(goal, clause, is_only=False):
-    """Whether a goal is one at which a function ends, of this clause; it isn't named where it is the function's only one. In a cycle of calls the name of the function
-    stands before it."""
+    """Whether a goal is one at which a function ends, of this clause; it isn't named where it is the function's only
+    one. In a cycle of calls the name of the function stands before it."""
     unnamed, named = r"(?:-(?!\S*clause-)\S+)?", rf"(?:-\S+)?-clause-{re.escape(clause)}(?:-\d+)?"
     rests = [unnamed] * (is_only or clause == UNNAMED) + [named] * (clause != UNNAMED)
     return any(re.fullmatch(rf"(?:\w+-)?returns{rest}", goal) for rest in rests)
@@ -102,9 +104,9 @@ SAMPLES = [
     ("IfOk result (λ x. x ≡ n)", "n", "return Err(1);", True),
     ("IfOk result (λ x. x ≡ n)", "Ok(n)", "Err(n)", True),
     ("IfOk result (λ x. x ≡ n) × IfErr result (λ e. e ≡ 0)", "Ok(n)", "Err(n)", False),
-    ("(x : ℕ) (size : ℕ) → Taken p b.now lim x size → OnOk result ⊤", "a?", "match a { Ok(v) => v, Err(_) => return Err(Bad), }", True),
-    ("(reason : Reason) → result ≡ Err (Bad reason) → pool.new ≡ pool.old", "a?", "{ pool.clear(); return Ok(0); }", True),
-    ("(reason : Reason) → result ≡ Err (Bad reason) → pool.new ≡ pool.old", "a?", "{ pool.clear(); return Err(Bad); }", False),
+    ("(x n : ℕ) → Taken b x n → OnOk result ⊤", "a?", "match a { Ok(v) => v, Err(_) => return Err(Bad), }", True),
+    ("(r : Reason) → result ≡ Err (Bad r) → pool.new ≡ pool.old", "a?", "{ pool.clear(); return Ok(0); }", True),
+    ("(r : Reason) → result ≡ Err (Bad r) → pool.new ≡ pool.old", "a?", "{ pool.clear(); return Err(Bad); }", False),
     ("IfErr result (λ e. e ≡ NoMemory)", "Ok(n)", "Ok(n + 1)", False),
     ("IfSome result (λ x. x ≡ n)", "Some(n)", "None", True),
     ("result ≡ find n", "Some(n)", "None", False),

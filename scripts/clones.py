@@ -1,15 +1,17 @@
 #!/usr/bin/env python3
 """Clones of the tree at hand, with the libraries of its crates, for scripts that change sources and check them.
 
-Usage: scripts/clones.py make [--below] FOLDER NAME..   makes the clone FOLDER for a check above the libraries NAME, and prints the words that this wants
+Usage: scripts/clones.py make [--below] FOLDER NAME..   makes the clone FOLDER for a check above the libraries NAME,
+and prints the words that this wants
        scripts/clones.py sum NAME..                     prints a sum of all that a check above these crates reads
 
 With --below the libraries are those below the crates NAME.
 
-A clone has the files that git knows in the tree at hand, and those that it doesn't ignore, as they are now. Where `rt ci` has passed over this very tree
-(scripts/rt_ci.py), the libraries are those that it left in it, `crates/NAME/out/rlib/NAME.rlib`: `rt check` and `rt lib` in the clone are told of each by
-`--extern NAME=FOLDER`, and the clone's crates.txt names no library of the repository, so that none is proved once more. Else they are built in the clone by
-`rt lib`, from the lowest on. The tree at hand is never changed.
+A clone has the files that git knows in the tree at hand, and those that it doesn't ignore, as they are now. Where `rt
+ci` has passed over this very tree (scripts/rt_ci.py), the libraries are those that it left in it,
+`crates/NAME/out/rlib/NAME.rlib`: `rt check` and `rt lib` in the clone are told of each by `--extern NAME=FOLDER`, and
+the clone's crates.txt names no library of the repository, so that none is proved once more. Else they are built in
+the clone by `rt lib`, from the lowest on. The tree at hand is never changed.
 """
 
 import argparse
@@ -26,6 +28,9 @@ import threading
 from dataclasses import dataclass, field
 
 TOP = os.path.dirname(os.path.dirname(os.path.realpath(__file__)))
+
+# Where verdicts are kept, in a folder of the one who runs this.
+CACHE = os.environ.get("XDG_CACHE_HOME") or os.path.expanduser("~/.cache")
 
 # What a check of a crate reads, of all that is in its folder.
 READ = (".rt", ".antt")
@@ -143,7 +148,8 @@ _ends = threading.Event()
 
 def run(words, folder):
     """Runs a command to its end, unless the script is about to end."""
-    how = {"stdin": subprocess.DEVNULL, "stdout": subprocess.PIPE, "stderr": subprocess.STDOUT, "text": True, "errors": "replace"}
+    how = {"stdin": subprocess.DEVNULL, "stdout": subprocess.PIPE, "stderr": subprocess.STDOUT}
+    how |= {"text": True, "errors": "replace"}
     with _lock:
         if _ends.is_set():
             raise Stop("it was ended")
@@ -234,7 +240,7 @@ def library_of(top, crate):
 
 
 def words_for(top, crates):
-    """The words by which `rt check` and `rt lib` are told of these libraries and all below them, where they stand in a tree."""
+    """The words by which `rt check` and `rt lib` are told of these libraries and all below them, of a tree."""
     return [word for crate in with_all_below(crates) for word in ("--extern", f"{crate.name}={library_of(top, crate)}")]
 
 
@@ -243,17 +249,22 @@ def name_no_libraries(folder):
     path = os.path.join(folder, "crates.txt")
     known = crates_in(folder)
     lines = [line.partition(":") for line in text_of(path).split("\n")]
-    lines = [line if line[0].startswith("#") else (*line[:2], "".join(f" {it}" for it in line[2].split() if it not in known)) for line in lines]
+
+    def others(words):
+        return "".join(f" {it}" for it in words.split() if it not in known)
+
+    lines = [line if line[0].startswith("#") else (*line[:2], others(line[2])) for line in lines]
     with open(path, "w", encoding="utf-8") as file:
         file.write("\n".join("".join(line) for line in lines))
 
 
 def build(folder, crate):
-    """Builds the library of a crate in a clone, over those below it. One job takes two thirds of the minutes of processor that four take: each
-    loads what it needs by itself."""
+    """Builds the library of a crate in a clone, over those below it. One job takes two thirds of the minutes of
+    processor that four take: each loads what it needs by itself."""
     ran = run(["rt", "lib", "--jobs", "1"], crate.path(folder))
     if ran.status:
-        lines = [it for it in ran.said.split("\n") if "error" in it or it.startswith("fn ") and ": proved" not in it] or ran.said.strip().split("\n")[-1:]
+        said = ran.said.strip().split("\n")
+        lines = [it for it in said if "error" in it or it.startswith("fn ") and ": proved" not in it] or said[-1:]
         raise Stop(f"the library of {crate.name} could not be built: {lines[0]}")
     return ran.seconds
 

@@ -1,34 +1,43 @@
 #!/usr/bin/env python3
 """Changes functions at random, mutant by mutant, and lets the prover judge each: how many do the contracts let through?
 
-Usage: scripts/mutants.py NAME.. [--most N] [--side-by-side N] [--round N] [--function WORD] [--again] [--logs FOLDER] [--list]
+Usage: scripts/mutants.py NAME.. [--most N] [--side-by-side N] [--round N] [--function WORD] [--again] [--logs FOLDER]
+       [--list]
        scripts/mutants.py --draw N --seed S
        scripts/mutants.py --report
 
-A mutant is a function with one small change of its body: a comparison turned or off by one, another operator, a constant one more or one less, a condition negated, two arms or two
-arguments exchanged, a statement left out, an answer dropped, `None` for `Some`, `Ok` for `Err`, an early return of a default, a loop that leaves its first or last turn out, a field or a
-call exchanged with its like. Of each function with a body --most mutants are taken, by default eight, as many of each kind as there are places, in an order that a sum of their texts gives.
+A mutant is a function with one small change of its body: a comparison turned or off by one, another operator, a
+constant one more or one less, a condition negated, two arms or two arguments exchanged, a statement left out, an
+answer dropped, `None` for `Some`, `Ok` for `Err`, an early return of a default, a loop that leaves its first or last
+turn out, a field or a call exchanged with its like. Of each function with a body --most mutants are taken, by default
+eight, as many of each kind as there are places, in an order that a sum of their texts gives.
 
-They are tried as wrong bodies are (scripts/wrong_bodies.py): in copies, or where that can't be in their places, many in one check. What doesn't compile doesn't count: all copies of a
-crate are put into its files at once and looked at by `rt check --only ''`, which takes seconds, until no error is left. Then each is one of these:
+They are tried as wrong bodies are (scripts/wrong_bodies.py): in copies, or where that can't be in their places, many
+in one check. What doesn't compile doesn't count: all copies of a crate are put into its files at once and looked at
+by `rt check --only ''`, which takes seconds, until no error is left. Then each is one of these:
 
     refused     a goal of the mutant's own is refused
     not judged  only its proof file names what is gone, or nothing is told of it
     accepted    it is proved
 
-An early return that isn't judged is tried with its value at the end instead, behind the whole body, of which nothing is gone then. What isn't judged then is tried without the answers of its
-proof file that name what is gone, and what is refused without those that no longer fit, so that their goals are searched for: it is refused "by a search" where no proof of one is found, and else
-"by an answer" alone. --again tries once more what wasn't judged.
+An early return that isn't judged is tried with its value at the end instead, behind the whole body, of which nothing
+is gone then. What isn't judged then is tried without the answers of its proof file that name what is gone, and what
+is refused without those that no longer fit, so that their goals are searched for: it is refused "by a search" where
+no proof of one is found, and else "by an answer" alone. --again tries once more what wasn't judged.
 
-A verdict is kept in mutants/NAME.tsv, by a sum of the mutant's text and one of what its crate and those below say, besides proofs, comments, line breaks and bodies (which are the mutants');
-what stands there isn't tried again. Of each accepted one a line of mutants/lines.tsv says why (`ID reason`): it means the same, or costs time or memory alone, or no clause can say it and a case
-or a test is named that catches it.
+A verdict is kept in mutants/NAME.tsv, by a sum of the mutant's text and one of what its crate and those below say,
+besides proofs, comments, line breaks and bodies (which are the mutants'); what stands there isn't tried again. Of
+each accepted one a line of mutants/lines.tsv says why (`ID reason`): it means the same, or costs time or memory
+alone, or no clause can say it and a case or a test is named that catches it.
 
-A refusal says that the proof goes through no more, and a search misses proofs that a person would find. So some are read: --draw N prints as many of the refused ones, by --seed, and mutants/read.tsv has
-a line for each (`ID CRATE breaks|same CASE`): a case in which the contract is broken, or why the answers are the same.
+A refusal says that the proof goes through no more, and a search misses proofs that a person would find. So some are
+read: --draw N prints as many of the refused ones, by --seed, and mutants/read.tsv has a line for each (`ID CRATE
+breaks|same CASE`): a case in which the contract is broken, or why the answers are the same.
 
---report writes docs/mutants.md out of these three, and its status is 1 where a verdict that counts is stale, an accepted one has no line, one that was drawn isn't read, or the README has other sums. The libraries
-are those of `rt ci`, where it has passed over this tree; else the first check of a crate proves them. `.ci/run` doesn't run this: a crate takes minutes to an hour, and all of them hours.
+--report writes docs/mutants.md out of these three, and its status is 1 where a verdict that counts is stale, an
+accepted one has no line, one that was drawn isn't read, or the README has other sums. The libraries are those of `rt
+ci`, where it has passed over this tree; else the first check of a crate proves them. `.ci/run` doesn't run this: a
+crate takes minutes to an hour, and all of them hours.
 """
 
 import argparse
@@ -41,13 +50,16 @@ import math
 import os
 import re
 import shutil
-import sys
 from concurrent.futures import ThreadPoolExecutor
 
 import clones
 import rt_ci
-import wrong_bodies as rounds
 from clones import Stop
+from edits import ACCEPTED as NOT_REFUSED
+from edits import BAD, REFUSED, UNCLEAR, WEAK, Edit, proofs_of_copy, texts_with
+from functions import Judged, all_functions, behind, functions_in, parts_of, sum_of_statements, text_of
+from rounds import put, try_round
+from verdicts import UNREAD
 
 FOLDER = f"{clones.TOP}/mutants"
 LINES = f"{FOLDER}/lines.tsv"
@@ -57,8 +69,8 @@ NOT_CRATES = ("lines.tsv", "read.tsv")
 # Those that are read: so many, drawn by this seed.
 DRAWN, SEED = 150, "2026-12-01"
 COLUMNS = ["id", "sum", "function", "kind", "change", "verdict", "goals"]
-REFUSED, NOT_JUDGED, ACCEPTED, BROKEN = "refused", "not judged", "accepted", "doesn't compile"
-VERDICTS = {rounds.REFUSED: REFUSED, rounds.ACCEPTED: ACCEPTED, rounds.BAD: BROKEN, rounds.WEAK: NOT_JUDGED, rounds.UNCLEAR: NOT_JUDGED}
+NOT_JUDGED, ACCEPTED, BROKEN = "not judged", "accepted", "doesn't compile"
+VERDICTS = {REFUSED: REFUSED, NOT_REFUSED: ACCEPTED, BAD: BROKEN, WEAK: NOT_JUDGED, UNCLEAR: NOT_JUDGED}
 
 # How often answers that name what is gone are left out: without one another may do so.
 SEARCHES = 3
@@ -218,8 +230,8 @@ def answer_of(text, function):
 
 def mutants_of(crate, path, function, most):
     """Edits of one function, of each kind in turn."""
-    text = rounds.text_of(crate, path)
-    first, behind = function.first, rounds.behind(text, function)
+    text = text_of(crate, path)
+    first, last = function.first, behind(text, function)
     body, by_kind, seen = text[function.begin : function.end], collections.defaultdict(list), set()
     for kind, new in changes(body, answer_of(text, function)):
         if new != body and new not in seen:
@@ -230,11 +242,11 @@ def mutants_of(crate, path, function, most):
     of_turns = [(kinds[n], it) for turn in itertools.zip_longest(*order) for n, it in enumerate(turn) if it is not None]
     for kind, new in of_turns[:most]:
         name = "m" + hashlib.sha256(f"{function.name}{new}".encode()).hexdigest()[:11]
-        edit = rounds.Edit(crate, name, new)
-        edit.pairs = [(path, text[first:behind], text[first : function.begin] + new + text[function.end : behind])]
+        edit = Edit(crate, name, new)
+        edit.pairs = [(path, text[first:last], text[first : function.begin] + new + text[function.end : last])]
         edit.mutated, edit.of_kind, edit.change = function.name, kind, told(body, new)
         value = new.removeprefix("\n    return ").partition(";")[0] if kind == "early return" else ""
-        edit.at_end = text[first : function.begin] + f"\n    let _answer = {{{body}}};\n    {value}\n" + text[function.end : behind] if value.strip() not in ("", "return") else ""
+        edit.at_end = text[first : function.begin] + f"\n    let _answer = {{{body}}};\n    {value}\n" + text[function.end : last] if value.strip() not in ("", "return") else ""
         if function.can_be_copied:
             edit.copied = {function.name: path}
             edit.within = {f"{function.name}_{name}"}
@@ -245,14 +257,14 @@ def mutants_of(crate, path, function, most):
 
 
 def all_mutants(crate, given):
-    for path, function in rounds.all_functions(crate):
+    for path, function in all_functions(crate):
         if re.search(given.function, function.name) and function.name != "main" and not path.startswith("src/laws"):
             yield from mutants_of(crate, path, function, given.most)
 
 
 def at_end(edit):
     """An early return with its value at the end instead, behind all that the function does."""
-    other = rounds.Edit(edit.crate, f"{edit.name}e", edit.at_end)
+    other = Edit(edit.crate, f"{edit.name}e", edit.at_end)
     (path, old, _), = edit.pairs
     other.pairs = [(path, old, edit.at_end)]
     other.copied = edit.copied
@@ -268,35 +280,35 @@ def without_broken(crate, edits):
     """The mutants in copies without those that the front end refuses."""
     left = list(edits)
     while left:
-        texts = rounds.texts_with(crate, left)
+        texts = texts_with(crate, left)
         said = looked_at(crate, texts)
         errors = {(path, int(line)) for path, line in ERROR.findall(said)}
         broken = set()
         for path in {path for path, _ in errors}:
             text = texts.get(path, "")
-            for it in rounds.functions_in(crate, path, text):
+            for it in functions_in(crate, path, text):
                 first, last = (text.count("\n", 0, at) + 1 for at in (it.first, it.end))
                 if any(first <= line <= last + 1 for where, line in errors if where == path):
                     broken.add(it.name)
         gone = [it for it in left if not broken.isdisjoint(it.within)]
         if not gone:
-            if rounds.UNREAD.search(said):
-                raise Stop(f"{crate.name}: the front end refuses something else: {rounds.UNREAD.search(said)[0][:200]}")
+            if UNREAD.search(said):
+                raise Stop(f"{crate.name}: the front end refuses something else: {UNREAD.search(said)[0][:200]}")
             return left
         for it in gone:
-            it.set(rounds.BAD)
+            it.set(BAD)
         left = [it for it in left if not it.kind]
     return left
 
 
 def looked_at(crate, texts):
     """What the front end says of a crate with these texts, which takes seconds."""
-    before = {path: rounds.text_of(crate, path) if os.path.isfile(f"{crate.folder}/{path}") else None for path in texts}
+    before = {path: text_of(crate, path) if os.path.isfile(f"{crate.folder}/{path}") else None for path in texts}
     try:
-        rounds.put(crate, texts)
+        put(crate, texts)
         return clones.run(["rt", "check", "--jobs", "1", *(crate.words or []), "--only", ""], crate.folder).said
     finally:
-        rounds.put(crate, before)
+        put(crate, before)
 
 
 def in_rounds(edits, size):
@@ -316,7 +328,7 @@ def in_rounds(edits, size):
 
 def sum_of(crate, top):
     """A sum of what the verdicts of a crate stand on: what it and those below it say."""
-    return rounds.sum_of_statements(top, [*crate.below, crate])[:16]
+    return sum_of_statements(top, [*crate.below, crate])[:16]
 
 
 def kept(name):
@@ -343,7 +355,7 @@ def try_crate(name, room, given, words):
     """Tries the mutants of a crate in a clone, and keeps their verdicts as they come."""
     crate = clones.known(clones.crates_in(clones.TOP), name)
     base, rows = sum_of(crate, clones.TOP), kept(name)
-    judged = rounds.Judged(name, crate.path(room), given.logs, words)
+    judged = Judged(name, crate.path(room), given.logs, words)
     edits = list(all_mutants(judged, given))
     # (those that another --most took stay)
     ids = {it.name for it in all_mutants(judged, argparse.Namespace(function=given.function, most=10**6))}
@@ -354,7 +366,7 @@ def try_crate(name, room, given, words):
     rows |= {it.name: row_of(it, base) for it in left if it.kind}
     keep(name, rows)
     for some in in_rounds(compiled, given.round):
-        rounds.try_round(judged, some)
+        try_round(judged, some)
         try_at_end(judged, [it for it in some if it.at_end and VERDICTS[it.kind] == NOT_JUDGED])
         try_by_search(judged, [it for it in some if VERDICTS[it.kind] == NOT_JUDGED])
         try_without_answers(judged, [it for it in some if VERDICTS[it.kind] == REFUSED and it.unfit])
@@ -377,7 +389,7 @@ def try_at_end(judged, edits):
     """Tries these early returns with their values at the end, and takes over what is told of them so."""
     others = {it.name: at_end(it) for it in edits}
     if others:
-        rounds.try_round(judged, list(others.values()))
+        try_round(judged, list(others.values()))
     for it in edits:
         other = others[it.name]
         if VERDICTS[other.kind] in (REFUSED, ACCEPTED):
@@ -390,7 +402,7 @@ def try_by_search(judged, edits):
     for _ in range(SEARCHES):
         left = [(it, other) for it, other in ((it, searched(judged, last)) for it, last in left) if other]
         if left:
-            rounds.try_round(judged, [other for _, other in left])
+            try_round(judged, [other for _, other in left])
         for it, other in left:
             if VERDICTS[other.kind] in (REFUSED, ACCEPTED):
                 it.kind, it.what = other.kind, f" at {BY_SEARCH}:{other.what.removeprefix(' at')}"
@@ -398,8 +410,8 @@ def try_by_search(judged, edits):
 
 
 def try_without_answers(judged, edits):
-    """Tries refused mutants without the answers that no longer fit, so that their goals are searched for, and takes over what is told of them so. Where nothing is told,
-    they are refused by an answer alone."""
+    """Tries refused mutants without the answers that no longer fit, so that their goals are searched for, and takes
+    over what is told of them so. Where nothing is told, they are refused by an answer alone."""
     found = [dataclasses.replace(it, gone=it.unfit) for it in edits]
     try_by_search(judged, found)
     for it, other in zip(edits, found):
@@ -413,17 +425,17 @@ def searched(judged, edit):
     """The mutant with its proof files without the answers that name what is gone, and all that cites them; None where that leaves out nothing."""
     proofs = dict(edit.proofs)
     for name in edit.copied if not proofs else []:
-        proofs |= rounds.proofs_of_copy(judged, edit, name)
+        proofs |= proofs_of_copy(judged, edit, name)
     for key in edit.within if not edit.copied and not proofs else []:
         path = f"proofs/{key.replace('::', '/')}/Answers.antt"
-        proofs |= {path: rounds.text_of(judged, path)} if os.path.isfile(f"{judged.folder}/{path}") else {}
+        proofs |= {path: text_of(judged, path)} if os.path.isfile(f"{judged.folder}/{path}") else {}
     fewer = {path: without(text, set(edit.gone)) if path.endswith("/Answers.antt") else text for path, text in proofs.items()}
     return dataclasses.replace(edit, proofs=fewer, gone=[], kind="", what="") if edit.gone and fewer != proofs else None
 
 
 def without(text, gone):
     """A proof file without these answers, and without all that cites them."""
-    head, *parts = rounds.parts_of(text)
+    head, *parts = parts_of(text)
     while True:
         kept = [it for it in parts if gone.isdisjoint(re.findall(r"[^\s(){}\[\],.:]+", it.text))]
         if len(kept) == len(parts):
@@ -486,7 +498,7 @@ def bounds(hits, count):
 def possible():
     """How many mutants there are in all, those that don't compile among them."""
     crates, most = clones.crates_in(clones.TOP), argparse.Namespace(function="", most=10**6)
-    return sum(1 for name in of_crates() for _ in all_mutants(rounds.Judged(name, crates[name].path(clones.TOP)), most))
+    return sum(1 for name in of_crates() for _ in all_mutants(Judged(name, crates[name].path(clones.TOP)), most))
 
 
 HEAD = """# Mutants
@@ -571,7 +583,7 @@ def main():
     wanted = [clones.known(crates, it) for it in given.names]
     if given.list:
         for crate in wanted:
-            for it in all_mutants(rounds.Judged(crate.name, crate.path(clones.TOP)), given):
+            for it in all_mutants(Judged(crate.name, crate.path(clones.TOP)), given):
                 print(f"{it.name} {crate.name}::{it.mutated}: {it.of_kind}: {it.change}")
         return 0
     if given.logs:

@@ -3,21 +3,28 @@
 
 Usage: scripts/refusals.py REFUSALS DWARF [--all]
 
-REFUSALS is the built program of scenarios (crates/refusals/out/refusals), DWARF the built `dwarf` (crates/dwarf/out/dwarf). Tried are
+REFUSALS is the built program of scenarios (crates/refusals/out/refusals), DWARF the built `dwarf`
+(crates/dwarf/out/dwarf). Tried are
 
-- each scenario with each of its requests for memory refused: a call answers NoMemory and leaves what its documentation says, the same call
-  made again succeeds, and all else is told as with ample memory; or the scenario itself has no memory, and tells nothing (status 4);
+- each scenario with each of its requests for memory refused: a call answers NoMemory and leaves what its
+  documentation says, the same call made again succeeds, and all else is told as with ample memory; or the scenario
+  itself has no memory, and tells nothing (status 4);
 - that no more requests are the scenario's own than are known to be, so that no call answers NoMemory for good;
-- calls that take no memory: however often they are made, as much is asked for; each call of which docs/guarantees.md says so is made;
-- `dwarf` with each of its commands over the sections in examples/, with a request for memory refused: `memory` and status 4 behind a beginning of
-  the output, or the ample answer where the request merely saves steps;
-- `show` and `copy` of a section of two units, with each read and each write failing in turn, also where each moves one byte;
-- the commands over examples/ with a read that fails or is interrupted, with reads and writes of one byte, and with a write that fails, is interrupted, takes nothing or
-  finds a full disk: only that is told, with status 3, behind a beginning of the output;
-- `dwarf` over files that aren't there, can't be read, are folders, or end early, and with an output or a standard error that is closed or full.
+- calls that take no memory: however often they are made, as much is asked for; each call of which docs/guarantees.md
+says so is made;
+- `dwarf` with each of its commands over the sections in examples/, with a request for memory refused: `memory` and
+  status 4 behind a beginning of the output, or the ample answer where the request merely saves steps;
+- `show` and `copy` of a section of two units, with each read and each write failing in turn, also where each moves
+one byte;
+- the commands over examples/ with a read that fails or is interrupted, with reads and writes of one byte, and with a
+  write that fails, is interrupted, takes nothing or finds a full disk: only that is told, with status 3, behind a
+  beginning of the output;
+- `dwarf` over files that aren't there, can't be read, are folders, or end early, and with an output or a standard
+error that is closed or full.
 
-Without --all the commands are run with a sample of their requests and calls; with it scenarios are run under valgrind too, where that is there. A few lines of C, which `cc` compiles, stand between a program and
-its C library, count and refuse. The last line is `N passed, M failed`, and the status is 0 where none failed, else 1.
+Without --all the commands are run with a sample of their requests and calls; with it scenarios are run under valgrind
+too, where that is there. A few lines of C, which `cc` compiles, stand between a program and its C library, count and
+refuse. The last line is `N passed, M failed`, and the status is 0 where none failed, else 1.
 """
 
 import argparse
@@ -38,8 +45,8 @@ SCENARIOS = (
     " run-show run-find run-type run-check run-set run-copy"
 ).split()
 
-# How many requests are a scenario's own, for its words, its lines, and what it is over: where one of them is refused it ends with 4.
-# A call that answers NoMemory for good, where one growth was refused, would add to these.
+# How many requests are a scenario's own, for its words, its lines, and what it is over: where one of them is refused
+# it ends with 4. A call that answers NoMemory for good, where one growth was refused, would add to these.
 OWN = {name: -1 for name in SCENARIOS}
 
 # Calls that take no memory, and how often they are made beside not at all.
@@ -57,11 +64,12 @@ CALLS = 81
 TWO_UNITS = bytes.fromhex("0b 00 00 00 05 00 01 08 00 00 00 00 01 61 00" "0d 00 00 00 05 00 01 08 08 00 00 00 01 0c 00 00 00")
 TWO_TABLES = bytes.fromhex("01 11 00 03 08 00 00 00" "01 11 00 49 10 00 00 00")
 
-# How many of its requests, reads or writes are refused a run of a command without --all: as many of the first ones, and as many among the others.
+# How many of its requests, reads or writes are refused a run of a command without --all: as many of the first ones,
+# and as many among the others.
 SAMPLE = 12
 
-# Of so many of the first requests of a copy of examples/linked so many at the least end it, if refused: an entry or a null for which there is no memory is
-# never asked for again, only the first values of an entry are.
+# Of so many of the first requests of a copy of examples/linked so many at the least end it, if refused: an entry or a
+# null for which there is no memory is never asked for again, only the first values of an entry are.
 FIRST, ENDING = 300, 282
 
 SHIM = r"""
@@ -310,7 +318,8 @@ def try_command(tried, program, command, shim, is_all):
     for number in sample(ample.writes, is_all):
         for why in (errno.EIO, errno.EINTR, errno.ENOSPC, 0):
             ran = Ran(words, folder, shim, WRITE=number, WHY=why)
-            # (what the buffer of standard output has at the end is written again where that was interrupted, as Rust's is)
+            # (what the buffer of standard output has at the end is written again where that was interrupted, as
+            # Rust's is)
             again = why == errno.EINTR and ran.said() == ample.said()
             tried.judge(again or ended_so(ran, ample, 3, b"file standard output\n"), f"{name}: write {number} fails by {why}: {ran}")
     for most in (1, 7):

@@ -3,12 +3,14 @@
 
 Usage: scripts/rt_ci.py [--processors N] [--anew] [--cache FOLDER]
 
-Some kits prove all anew at each `rt ci`, an hour or more of processor. So that it passed is kept, by a sum of all that it reads: the files in
-crates/, those that git ignores among them, crates.txt, HANDLES, each file elsewhere that it would refuse or read, the line of `rt version`, the variables RT_*, and this script. It isn't run
-again where that sum was kept, and the programs and the libraries that it left are there, byte for byte, since other steps of the gate run the ones and stand on the others. Those that are there before
-it runs are taken away, so that what it leaves is of that very run. --anew runs it in any case. With --processors it sees so many
-of them: it gives each check as many jobs as there are, and each job loads anew what it needs. The last
-line is that of `rt ci`, `N passed, M failed`, and so is the status; where it isn't run again, the line says so and counts nothing.
+Some kits prove all anew at each `rt ci`, an hour or more of processor. So that it passed is kept, by a sum of all
+that it reads: the files in crates/, those that git ignores among them, crates.txt, HANDLES, each file elsewhere that
+it would refuse or read, the line of `rt version`, the variables RT_*, and this script. It isn't run again where that
+sum was kept, and the programs and the libraries that it left are there, byte for byte, since other steps of the gate
+run the ones and stand on the others. Those that are there before it runs are taken away, so that what it leaves is of
+that very run. --anew runs it in any case. With --processors it sees so many of them: it gives each check as many jobs
+as there are, and each job loads anew what it needs. The last line is that of `rt ci`, `N passed, M failed`, and so is
+the status; where it isn't run again, the line says so and counts nothing.
 """
 
 import argparse
@@ -24,7 +26,7 @@ import sys
 import clones
 
 # Where it is kept that `rt ci` passed.
-CACHE = f"{os.environ.get('XDG_CACHE_HOME') or os.path.expanduser('~/.cache')}/rt_ci"
+CACHE = f"{clones.CACHE}/rt_ci"
 
 # What `rt ci` reads, or refuses where no crate has it, wherever it lies.
 READ_ANYWHERE = (".rt", ".antt", ".edit", ".bazel")
@@ -42,7 +44,8 @@ def is_read(path):
 def sum_of_tree():
     """A sum of all that `rt ci` reads."""
     listed = clones.git(["ls-files", "-z", "--cached", "--others", "--exclude-standard"], clones.TOP).split("\0")
-    listed += [it for it in clones.git(["ls-files", "-z", "--others", "--ignored", "--exclude-standard", "crates"], clones.TOP).split("\0") if "/out/" not in it]
+    ignored = clones.git(["ls-files", "-z", "--others", "--ignored", "--exclude-standard", "crates"], clones.TOP)
+    listed += [it for it in ignored.split("\0") if "/out/" not in it]
     asked = sorted((name, value) for name, value in os.environ.items() if name.startswith("RT_"))
     found = hashlib.sha256(repr((clones.version(), asked, clones.text_of(__file__))).encode())
     for path in sorted(filter(is_read, set(listed))):
@@ -73,7 +76,8 @@ def libraries():
     found = {}
     for name, folder in folders_of_libraries().items():
         files = sorted(os.path.join(at, it) for at, _, names in os.walk(folder) for it in names)
-        found[name] = hashlib.sha256(repr([(os.path.relpath(it, clones.TOP), sum_of_file(it)) for it in files]).encode()).hexdigest() if files else ""
+        sums = [(os.path.relpath(it, clones.TOP), sum_of_file(it)) for it in files]
+        found[name] = hashlib.sha256(repr(sums).encode()).hexdigest() if files else ""
     return found
 
 
@@ -119,7 +123,8 @@ def run_anew(place):
     """Runs `rt ci`, whose lines go through, keeps that it passed, and returns its status."""
     last = ""
     sweep()
-    ran = subprocess.Popen(["rt", "ci"], cwd=clones.TOP, stdin=subprocess.DEVNULL, stdout=subprocess.PIPE, stderr=subprocess.STDOUT, text=True, errors="replace")
+    how = {"stdin": subprocess.DEVNULL, "stdout": subprocess.PIPE, "stderr": subprocess.STDOUT}
+    ran = subprocess.Popen(["rt", "ci"], cwd=clones.TOP, **how, text=True, errors="replace")
     with ran:
         try:
             for line in ran.stdout:
@@ -151,7 +156,8 @@ def main():
     verdict = "" if given.anew else kept_in(place)
     if not verdict:
         return run_anew(place)
-    print(f"rt ci: not run again: it has passed over this very tree on this machine ({verdict})\n0 passed, 0 failed (kept)")
+    print(f"rt ci: not run again: it has passed over this very tree on this machine ({verdict})")
+    print("0 passed, 0 failed (kept)")
     return 0
 
 
