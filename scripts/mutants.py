@@ -86,14 +86,25 @@ ERROR = re.compile(r"(?m)^(?:rattle: )?(?:\./)?(src/\S+?):(\d+):\d+: error")
 
 OPERATORS = {
     "comparison": {" < ": " <= ", " <= ": " < ", " > ": " >= ", " >= ": " > ", " == ": " != ", " != ": " == "},
-    "operator": {" + ": " - ", " - ": " + ", " * ": " + ", " / ": " * ", " % ": " / ", " & ": " | ", " << ": " >> ", " >> ": " << ", " && ": " || ", " || ": " && ", " += ": " -= ", " -= ": " += "},
+    "operator": {
+        **{" + ": " - ", " - ": " + ", " * ": " + ", " / ": " * ", " % ": " / ", " & ": " | ", " << ": " >> "},
+        **{" >> ": " << ", " && ": " || ", " || ": " && ", " += ": " -= ", " -= ": " += "},
+    },
 }
 LIKE = [
-    ("first", "last"), ("split_first", "split_last"), ("min", "max"), ("is_some", "is_none"), ("is_ok", "is_err"), ("saturating_sub", "saturating_add"), ("wrapping_add", "wrapping_sub"),
-    ("checked_add", "checked_sub"), ("take", "skip"), ("any", "all"), ("to_le_bytes", "to_be_bytes"), ("from_le_bytes", "from_be_bytes"), ("starts_with", "ends_with"), ("push", "pop"),
+    ("first", "last"), ("split_first", "split_last"), ("min", "max"), ("is_some", "is_none"), ("is_ok", "is_err"),
+    ("saturating_sub", "saturating_add"), ("wrapping_add", "wrapping_sub"), ("checked_add", "checked_sub"),
+    ("take", "skip"), ("any", "all"), ("to_le_bytes", "to_be_bytes"), ("from_le_bytes", "from_be_bytes"),
+    ("starts_with", "ends_with"), ("push", "pop"),
 ]
 NUMBER = re.compile(r"(?<![\w.'])(0x[0-9a-fA-F_]+|\d[\d_]*)(?=(?:[iu](?:8|16|32|64|128|size))?(?![\w.]))")
-DEFAULTS = [(r"bool", ["true", "false"]), (r"[iu](?:8|16|32|64|128|size)", ["0"]), (r"Option<.*>", ["None"]), (r"Result<\(\), .*>|io::Result<\(\)>|fmt::Result", ["Ok(())"]), (r"", [""])]
+DEFAULTS = [
+    (r"bool", ["true", "false"]),
+    (r"[iu](?:8|16|32|64|128|size)", ["0"]),
+    (r"Option<.*>", ["None"]),
+    (r"Result<\(\), .*>|io::Result<\(\)>|fmt::Result", ["Ok(())"]),
+    (r"", [""]),
+]
 
 
 def blank(body):
@@ -116,7 +127,8 @@ def of_numbers(body, plain):
     for at in NUMBER.finditer(plain):
         value = int(at[1].replace("_", ""), 0)
         for other in [value + 1, *([value - 1] if value else [])]:
-            yield "constant", replaced(body, at.start(1), at.end(1), f"{other:#x}" if at[1].startswith("0x") else str(other))
+            spelled = f"{other:#x}" if at[1].startswith("0x") else str(other)
+            yield "constant", replaced(body, at.start(1), at.end(1), spelled)
 
 
 def of_conditions(body, plain):
@@ -153,7 +165,8 @@ def of_statements(body, plain):
 
 
 def of_answers(body, plain):
-    errors = sorted({body[slice(*it.span())] for it in re.finditer(r"\bErr\([^(){}\n]*(?:\([^()]*\))?[^(){}\n]*\)(?! =>)", plain)})
+    found = re.finditer(r"\bErr\([^(){}\n]*(?:\([^()]*\))?[^(){}\n]*\)(?! =>)", plain)
+    errors = sorted({body[slice(*it.span())] for it in found})
     for at in re.finditer(r"(?<!let )\bSome\((?:[^()\n]|\([^()\n]*\))*\)(?!\)? =)", plain):
         yield "answer", replaced(body, *at.span(), "None")
     for at in re.finditer(r"\bOk\((?:[^()\n]|\([^()\n]*\))*\)(?!\)? =)", plain):
@@ -169,7 +182,8 @@ def of_loops(body, plain):
     for at in re.finditer(r"\bin (\w+)\.\.([\w.]+(?:\(\))?) \{", plain):
         yield "loop", replaced(body, *at.span(2), f"({body[slice(*at.span(2))]}).saturating_sub(1)")
     for at in re.finditer(r"\.iter\(\)|\bin (?!\d)([\w.&]+(?:\(\))?)(?= \{)", plain):
-        yield "loop", replaced(body, at.end(), at.end(), ".skip(1)" if at[0].startswith(".iter") else ".into_iter().skip(1)")
+        fewer = ".skip(1)" if at[0].startswith(".iter") else ".into_iter().skip(1)"
+        yield "loop", replaced(body, at.end(), at.end(), fewer)
 
 
 def of_likes(body, plain):
@@ -201,10 +215,15 @@ def of_defaults(body, answer):
             return
 
 
+OF_KINDS = (
+    of_operators, of_numbers, of_conditions, of_arms, of_arguments, of_statements, of_answers, of_loops, of_likes
+)
+
+
 def changes(body, answer):
     """The changes of a body, each with its kind."""
     plain = blank(body)
-    for of_kind in (of_operators, of_numbers, of_conditions, of_arms, of_arguments, of_statements, of_answers, of_loops, of_likes):
+    for of_kind in OF_KINDS:
         yield from of_kind(body, plain)
     yield from of_defaults(body, answer)
     yield from of_errors(body, answer)
@@ -216,7 +235,8 @@ def told(old, new):
     front = len(list(itertools.takewhile(lambda it: it[0] == it[1], zip(old, new))))
     back = len(list(itertools.takewhile(lambda it: it[0] == it[1], zip(old[front:][::-1], new[front:][::-1]))))
     around = " ".join(old[max(0, front - 2) : front])
-    return f"{around} [{' '.join(old[front : len(old) - back])}] -> [{' '.join(new[front : len(new) - back])}]".strip()[:160]
+    gone, come = old[front : len(old) - back], new[front : len(new) - back]
+    return f"{around} [{' '.join(gone)}] -> [{' '.join(come)}]".strip()[:160]
 
 
 # ---- the mutants of a crate
@@ -246,7 +266,9 @@ def mutants_of(crate, path, function, most):
         edit.pairs = [(path, text[first:last], text[first : function.begin] + new + text[function.end : last])]
         edit.mutated, edit.of_kind, edit.change = function.name, kind, told(body, new)
         value = new.removeprefix("\n    return ").partition(";")[0] if kind == "early return" else ""
-        edit.at_end = text[first : function.begin] + f"\n    let _answer = {{{body}}};\n    {value}\n" + text[function.end : last] if value.strip() not in ("", "return") else ""
+        at_the_end = f"\n    let _answer = {{{body}}};\n    {value}\n"
+        has_value = value.strip() not in ("", "return")
+        edit.at_end = text[first : function.begin] + at_the_end + text[function.end : last] if has_value else ""
         if function.can_be_copied:
             edit.copied = {function.name: path}
             edit.within = {f"{function.name}_{name}"}
@@ -348,7 +370,8 @@ def keep(name, rows):
 
 
 def row_of(edit, base):
-    return {"id": edit.name, "sum": base, "function": edit.mutated, "kind": edit.of_kind, "change": edit.change, "verdict": VERDICTS[edit.kind], "goals": edit.what.removeprefix(" at ").replace("\t", " ")[:300]}
+    goals = edit.what.removeprefix(" at ").replace("\t", " ")[:300]
+    return dict(zip(COLUMNS, [edit.name, base, edit.mutated, edit.of_kind, edit.change, VERDICTS[edit.kind], goals]))
 
 
 def try_crate(name, room, given, words):
@@ -361,7 +384,8 @@ def try_crate(name, room, given, words):
     ids = {it.name for it in all_mutants(judged, argparse.Namespace(function=given.function, most=10**6))}
     if not given.function:
         rows = {key: row for key, row in rows.items() if key in ids}
-    left = [it for it in edits if rows.get(it.name, {}).get("sum") != base or given.again and rows[it.name]["verdict"] == NOT_JUDGED]
+    stale = [it for it in edits if rows.get(it.name, {}).get("sum") != base]
+    left = stale + [it for it in edits if given.again and it not in stale and rows[it.name]["verdict"] == NOT_JUDGED]
     compiled = without_broken(judged, [it for it in left if it.copied]) + [it for it in left if not it.copied]
     rows |= {it.name: row_of(it, base) for it in left if it.kind}
     keep(name, rows)
@@ -422,14 +446,16 @@ def try_without_answers(judged, edits):
 
 
 def searched(judged, edit):
-    """The mutant with its proof files without the answers that name what is gone, and all that cites them; None where that leaves out nothing."""
+    """The mutant with its proof files without the answers that name what is gone, and all that cites them; None where
+    that leaves out nothing."""
     proofs = dict(edit.proofs)
     for name in edit.copied if not proofs else []:
         proofs |= proofs_of_copy(judged, edit, name)
     for key in edit.within if not edit.copied and not proofs else []:
         path = f"proofs/{key.replace('::', '/')}/Answers.antt"
         proofs |= {path: text_of(judged, path)} if os.path.isfile(f"{judged.folder}/{path}") else {}
-    fewer = {path: without(text, set(edit.gone)) if path.endswith("/Answers.antt") else text for path, text in proofs.items()}
+    gone = set(edit.gone)
+    fewer = {path: without(text, gone) if path.endswith("/Answers.antt") else text for path, text in proofs.items()}
     return dataclasses.replace(edit, proofs=fewer, gone=[], kind="", what="") if edit.gone and fewer != proofs else None
 
 
@@ -440,7 +466,8 @@ def without(text, gone):
         kept = [it for it in parts if gone.isdisjoint(re.findall(r"[^\s(){}\[\],.:]+", it.text))]
         if len(kept) == len(parts):
             return "\n\n".join(it.text for it in [head, *kept])
-        gone = gone | {name for it in parts if it not in kept for name in re.findall(r"(?m)^(?:abbrev )?(?:pub )?(\S+) :", it.text)}
+        left_out = [it for it in parts if it not in kept]
+        gone = gone | {name for it in left_out for name in re.findall(r"(?m)^(?:abbrev )?(?:pub )?(\S+) :", it.text)}
         parts = kept
 
 
@@ -453,7 +480,7 @@ def counts(rows):
 
 
 def row_of_table(name, found):
-    told = [found["tried"], found[REFUSED], found[BY_ANSWER], found[NOT_JUDGED], found["same"], found[ACCEPTED] - found["same"]]
+    told = [found[it] for it in ("tried", REFUSED, BY_ANSWER, NOT_JUDGED, "same")] + [found[ACCEPTED] - found["same"]]
     return f"| {name} | {' | '.join(map(str, told))} |"
 
 
@@ -467,7 +494,8 @@ def table_of(path):
 def of_crates():
     """The mutants that compile, by their crates, with which are stale."""
     crates, found = clones.crates_in(clones.TOP), {}
-    for name in sorted(it.removesuffix(".tsv") for it in os.listdir(FOLDER) if it.endswith(".tsv") and it not in NOT_CRATES):
+    files = [it for it in os.listdir(FOLDER) if it.endswith(".tsv") and it not in NOT_CRATES]
+    for name in sorted(it.removesuffix(".tsv") for it in files):
         base = sum_of(crates[name], clones.TOP)
         found[name] = [it | {"stale": it["sum"] != base} for it in kept(name).values() if it["verdict"] != BROKEN]
     return found
@@ -480,7 +508,7 @@ def drawn(count, seed):
 
 
 def bounds(hits, count):
-    """Between which shares the one of all lies, at 95 % certainty, where so many of so many hit (Clopper and Pearson)."""
+    """Between which shares that of all lies, at 95 % certainty, where so many of so many hit (Clopper and Pearson)."""
 
     def at_least(share, most):
         return sum(math.comb(count, n) * share**n * (1 - share) ** (count - n) for n in range(most, count + 1))
@@ -492,7 +520,9 @@ def bounds(hits, count):
             low, high = (middle, high) if is_below(middle) else (low, middle)
         return low
 
-    return where(lambda it: at_least(it, hits) < 0.025) if hits else 0.0, where(lambda it: 1 - at_least(it, hits + 1) > 0.025) if hits < count else 1.0
+    least = where(lambda it: at_least(it, hits) < 0.025) if hits else 0.0
+    most = where(lambda it: 1 - at_least(it, hits + 1) > 0.025) if hits < count else 1.0
+    return least, most
 
 
 def possible():
@@ -503,17 +533,22 @@ def possible():
 
 HEAD = """# Mutants
 
-Small changes of functions, made by `scripts/mutants.py`, and what the prover says of them. What doesn't compile doesn't count.
-{possible:,} could be made; of each function at most eight are tried, {tried:,} of which compile.
+Small changes of functions, made by `scripts/mutants.py`, and what the prover says of them. What doesn't compile doesn't
+count. {possible:,} could be made; of each function at most eight are tried, {tried:,} of which compile.
 
-*Refused* says that the proof no longer goes through. Where a goal has no answer in a proof file, or an answer that no longer fits and was left out, no proof of
-it was found by a search; where that couldn't be told, the mutant is refused *by an answer alone*. A search misses proofs that a person would find. So of the refused ones {count} were
-drawn (`--draw {count} --seed {seed}`) and read one by one: **{breaks} break the contract**, with a case for each (`mutants/read.tsv`), and {same} give the same answers. So between
-{low:.1f} and {high:.1f} % of all refused ones break it, at 95 % certainty.
+*Refused* says that the proof no longer goes through. Where a goal has no answer in a proof file, or an answer that no
+longer fits and was left out, no proof of it was found by a search; where that couldn't be told, the mutant is refused
+*by an answer alone*. A search misses proofs that a person would find. So of the refused ones {count} were drawn
+(`--draw {count} --seed {seed}`) and read one by one: **{breaks} break the contract**, with a case for each
+(`mutants/read.tsv`), and {same} don't. So between {low:.1f} and {high:.1f} % of all refused ones break it, at 95 %
+certainty.
 
-*Accepted* are those of the last two columns: those of the first answer the same, though some cost time or memory, and of the others the list below says why no clause refuses them, and which
-case or test should fail (where it was tried, it says so).
+*Accepted* are those of the last two columns: those of the first answer the same, though some cost time or memory, and
+of the others the list below says why no clause refuses them, and which case or test should fail (where it was tried, it
+says so).
 """
+
+COLUMNS_OF_TABLE = "Crate | Tried | Refused | of these by an answer alone | Not judged | Same answers | Others accepted"
 
 
 def report():
@@ -540,14 +575,16 @@ def report():
         table.append(row_of_table(f"`{name}`", found))
     table.append(row_of_table("all", total))
     low, high = bounds(verdicts["breaks"], sum(verdicts.values())) if verdicts else (0, 1)
-    numbers = {"possible": possible(), "tried": total["tried"], "count": len(sample), "seed": SEED, "breaks": verdicts["breaks"], "same": verdicts["same"], "low": 100 * low, "high": 100 * high}
-    out = [HEAD.format(**numbers), "| Crate | Tried | Refused | of these by an answer alone | Not judged | Same answers | Others accepted |", "|---|--:|--:|--:|--:|--:|--:|", *table]
+    numbers = {"possible": possible(), "tried": total["tried"], "count": len(sample), "seed": SEED}
+    numbers |= {"breaks": verdicts["breaks"], "same": verdicts["same"], "low": 100 * low, "high": 100 * high}
+    out = [HEAD.format(**numbers), f"| {COLUMNS_OF_TABLE} |", "|---" + "|--:" * 6 + "|", *table]
     out += ["", "## Accepted", "", "| Function | Changes | Why they pass |", "|---|---|---|"]
     told = collections.defaultdict(list)
     for name, it in accepted:
         missing += not it["why"]
         told[f"{name}::{it['function']}", it["why"]].append("`" + it["change"].replace("|", "\\|") + "`")
-    out += [f"| `{function}` | {'; '.join(changes)} | {why or '**nothing is written of it**'} |" for (function, why), changes in told.items()]
+    nothing = "**nothing is written of it**"
+    out += [f"| `{it}` | {'; '.join(changes)} | {why or nothing} |" for (it, why), changes in told.items()]
     with open(f"{clones.TOP}/docs/mutants.md", "w", encoding="utf-8") as file:
         file.write("\n".join(out) + "\n")
     own = [total["tried"], total[REFUSED], total[NOT_JUDGED], total["same"], total[ACCEPTED] - total["same"]]
@@ -565,7 +602,7 @@ def main():
     ask.add_argument("--most", type=int, default=8, metavar="N", help="how many mutants of a function at most")
     ask.add_argument("--round", type=int, default=60, metavar="N", help="how many in one check")
     ask.add_argument("--side-by-side", type=int, default=1, metavar="N", help="how many crates at one time")
-    ask.add_argument("--function", default="", metavar="WORD", help="functions alone in whose name this expression is found")
+    ask.add_argument("--function", default="", metavar="WORD", help="functions alone in whose name this is found")
     ask.add_argument("--again", action="store_true", help="try what wasn't judged once more")
     ask.add_argument("--logs", default="")
     ask.add_argument("--list", action="store_true", help="print the mutants, and try none")
@@ -591,7 +628,8 @@ def main():
     with clones.folder_for_clones() as folder:
         is_over_ci = rt_ci.has_passed()
         with ThreadPoolExecutor(max(1, given.side_by_side)) as pool:
-            for it in [pool.submit(try_apart, crate, f"{folder}/{number}", given, is_over_ci) for number, crate in enumerate(wanted)]:
+            rooms = [(crate, f"{folder}/{number}") for number, crate in enumerate(wanted)]
+            for it in [pool.submit(try_apart, crate, room, given, is_over_ci) for crate, room in rooms]:
                 it.result()
     return 0
 

@@ -61,7 +61,9 @@ MADE = ("quiet.rt", "quiet_parts.rt", "drafts.rt")
 CALLS = 81
 
 # A section of two units, and its tables: a unit of the name "a", and one that refers to its entry by ref_addr.
-TWO_UNITS = bytes.fromhex("0b 00 00 00 05 00 01 08 00 00 00 00 01 61 00" "0d 00 00 00 05 00 01 08 08 00 00 00 01 0c 00 00 00")
+TWO_UNITS = bytes.fromhex(
+    "0b 00 00 00 05 00 01 08 00 00 00 00 01 61 00" "0d 00 00 00 05 00 01 08 08 00 00 00 01 0c 00 00 00"
+)
 TWO_TABLES = bytes.fromhex("01 11 00 03 08 00 00 00" "01 11 00 49 10 00 00 00")
 
 # How many of its requests, reads or writes are refused a run of a command without --all: as many of the first ones,
@@ -83,8 +85,10 @@ SHIM = r"""
 #include <unistd.h>
 #include <dlfcn.h>
 
-static void *(*next_malloc)(size_t), *(*next_calloc)(size_t, size_t), *(*next_realloc)(void *, size_t), *(*next_aligned)(size_t, size_t);
-/* The C library's own functions. While they are looked up, what that asks for is taken from here, and never given back. */
+static void *(*next_malloc)(size_t), *(*next_calloc)(size_t, size_t);
+static void *(*next_realloc)(void *, size_t), *(*next_aligned)(size_t, size_t);
+/* The C library's own functions. While they are looked up, what that asks for is taken from here, and never given
+ * back. */
 static char spare[4096];
 static size_t spared;
 static void find_next(void) {
@@ -162,7 +166,9 @@ class Ran:
     def __init__(self, words, folder, shim, program="", **asked):
         with tempfile.NamedTemporaryFile() as counted:
             # (what was given back is filled with other bytes, so that nobody reads it unseen)
-            env = {"PATH": os.environ["PATH"], "LD_PRELOAD": shim, "COUNTED": counted.name, "MALLOC_PERTURB_": "165", "PROGRAM": os.path.basename(program or words[0]), **{word: str(value) for word, value in asked.items()}}
+            env = {"PATH": os.environ["PATH"], "LD_PRELOAD": shim, "COUNTED": counted.name, "MALLOC_PERTURB_": "165"}
+            env |= {"PROGRAM": os.path.basename(program or words[0])}
+            env |= {word: str(value) for word, value in asked.items()}
             ran = subprocess.run(words, cwd=folder, stdin=subprocess.DEVNULL, capture_output=True, env=env)
             self.status, self.output, self.error = ran.returncode, ran.stdout, ran.stderr
             numbers = counted.read().split()
@@ -208,7 +214,8 @@ def try_scenario(tried, program, name, shim):
     """Refuses each of a scenario's requests in turn."""
     ample = Ran([program, name], "/", shim)
     text = ample.output.decode()
-    tried.judge(ample.status == 0 and text and "NoMemory" not in text and "FAILED" not in text, f"{name}: with ample memory: {ample}: {text[:200]!r}")
+    is_ample = ample.status == 0 and text and "NoMemory" not in text and "FAILED" not in text
+    tried.judge(is_ample, f"{name}: with ample memory: {ample}: {text[:200]!r}")
     told = own = 0
     for number in range(1, ample.requests + 1):
         ran = Ran([program, name], "/", shim, REFUSED=number)
@@ -223,19 +230,23 @@ def try_scenario(tried, program, name, shim):
 
 
 def try_memory(tried, program, name, shim):
-    """Runs a scenario under valgrind, some of its requests refused: no byte is used that isn't the program's, and none is lost."""
-    watched = ["valgrind", "-q", "--error-exitcode=99", "--leak-check=full", "--soname-synonyms=somalloc=nouserintercepts", program, name]
+    """Runs a scenario under valgrind, some of its requests refused: no byte is used that isn't the program's, and none
+    is lost."""
+    watched = ["valgrind", "-q", "--error-exitcode=99", "--leak-check=full"]
+    watched += ["--soname-synonyms=somalloc=nouserintercepts", program, name]
     count = Ran([program, name], "/", shim).requests
     for number in sample(count, False)[::3]:
         ran = Ran(watched, "/", shim, program, REFUSED=number)
-        tried.judge(ran.status in (0, 4), f"{name}: request {number} refused under valgrind: {ran}: {ran.error[:400].decode(errors='replace')}")
+        said = ran.error[:400].decode(errors="replace")
+        tried.judge(ran.status in (0, 4), f"{name}: request {number} refused under valgrind: {ran}: {said}")
 
 
 def try_quiet(tried, program, calls, count, shim):
     """Looks whether calls that are made ask for as much as where they aren't made."""
     none, some = (Ran([program, calls, str(it)], "/", shim) for it in (0, count))
     tried.judge(none.status == some.status == 0 and none.output != some.output, f"{calls}: {none}, {some}")
-    tried.judge(none.requests == some.requests, f"{calls}: {none.requests} requests without its calls, {some.requests} with {count} of each")
+    more = f"{none.requests} requests without its calls, {some.requests} with {count} of each"
+    tried.judge(none.requests == some.requests, f"{calls}: {more}")
 
 
 def try_said(tried):
@@ -248,7 +259,8 @@ def try_said(tried):
             made += file.read()
     rows = re.findall(r"(?m)^\| `\w+` \| (.*) \|$", said.partition("\n## ")[0])
     calls = re.findall(r"`(?:\w+::)?(\w+)`", " ".join(rows))
-    tried.judge(heading and len(calls) >= CALLS, f"{SAID}: {len(calls)} calls are said to take no memory, and not {CALLS}")
+    is_said = heading and len(calls) >= CALLS
+    tried.judge(is_said, f"{SAID}: {len(calls)} calls are said to take no memory, and not {CALLS}")
     for call in calls:
         tried.judge(re.search(rf"\b{call}\(", made), f"{call} is said to take no memory, and isn't made")
 
@@ -257,21 +269,25 @@ def try_said(tried):
 
 
 def try_two_units(tried, program, command, most, shim):
-    """Fails each read and each write of a command over two units in turn; each moves at most so many bytes, where that isn't 0."""
+    """Fails each read and each write of a command over two units in turn; each moves at most so many bytes, where that
+    isn't 0."""
     with tempfile.TemporaryDirectory(prefix="refusals-") as folder:
         for name, text in (("info", TWO_UNITS), ("abbrev", TWO_TABLES)):
             with open(f"{folder}/{name}", "wb") as file:
                 file.write(text)
         words = [program, command, "--info", "info", "--abbrev", "abbrev"]
         ample = Ran(words, folder, shim, MOST=most)
-        tried.judge(ample.status == 0 and ample.output and (command != "copy" or ample.output == TWO_UNITS), f"{command} of two units: {ample}")
+        is_right = ample.status == 0 and ample.output and (command != "copy" or ample.output == TWO_UNITS)
+        tried.judge(is_right, f"{command} of two units: {ample}")
         for number in range(1, ample.reads + 1):
             ran = Ran(words, folder, shim, MOST=most, READ=number, WHY=errno.EIO)
-            tried.judge((ran.status, ran.output) == (3, b"") and ran.error in (b"file info\n", b"file abbrev\n"), f"{command} of two units: read {number} fails: {ran}")
+            is_told = (ran.status, ran.output) == (3, b"") and ran.error in (b"file info\n", b"file abbrev\n")
+            tried.judge(is_told, f"{command} of two units: read {number} fails: {ran}")
         for number in range(1, ample.writes + 1):
             ran = Ran(words, folder, shim, MOST=most, WRITE=number, WHY=errno.EIO)
-            tried.judge(ended_so(ran, ample, 3, b"file standard output\n"), f"{command} of two units: write {number} fails: {ran}")
-            tried.judge(not most or len(ran.output) == most * (number - 1), f"{command} of two units: {len(ran.output)} bytes before write {number}")
+            is_told = ended_so(ran, ample, 3, b"file standard output\n")
+            is_told = is_told and (not most or len(ran.output) == most * (number - 1))
+            tried.judge(is_told, f"{command} of two units: write {number} fails: {ran}")
 
 
 def commands():
@@ -314,14 +330,16 @@ def try_command(tried, program, command, shim, is_all):
             ran = Ran(words, folder, shim, READ=number, WHY=why)
             held = ran.status == 3 and not ran.output and re.fullmatch(rb"file debug_\w+\n", ran.error)
             # (of a file that is read whole an interrupted read is made again)
-            tried.judge(held or why == errno.EINTR and ran.said() == ample.said(), f"{name}: read {number} fails by {errno.errorcode[why]}: {ran}")
+            again = why == errno.EINTR and ran.said() == ample.said()
+            tried.judge(held or again, f"{name}: read {number} fails by {errno.errorcode[why]}: {ran}")
     for number in sample(ample.writes, is_all):
         for why in (errno.EIO, errno.EINTR, errno.ENOSPC, 0):
             ran = Ran(words, folder, shim, WRITE=number, WHY=why)
             # (what the buffer of standard output has at the end is written again where that was interrupted, as
             # Rust's is)
             again = why == errno.EINTR and ran.said() == ample.said()
-            tried.judge(again or ended_so(ran, ample, 3, b"file standard output\n"), f"{name}: write {number} fails by {why}: {ran}")
+            is_told = again or ended_so(ran, ample, 3, b"file standard output\n")
+            tried.judge(is_told, f"{name}: write {number} fails by {why}: {ran}")
     for most in (1, 7):
         ran = Ran(words, folder, shim, MOST=most)
         tried.judge(ran.said() == ample.said(), f"{name}: {most} bytes a call: {ran}")
@@ -334,7 +352,8 @@ def try_growths(tried, program, command, shim):
     for number in range(1, FIRST + 1):
         ended += Ran([program, *words], folder, shim, REFUSED=number).said() == (4, b"", b"memory\n")
     tried.refused += ended
-    tried.judge(ended >= ENDING, f"{name}: of the first {FIRST} requests {ended} end it where they are refused, and not {ENDING}")
+    end = f"of the first {FIRST} requests {ended} end it where they are refused, and not {ENDING}"
+    tried.judge(ended >= ENDING, f"{name}: {end}")
 
 
 # ---- files, and what is written to
@@ -368,9 +387,11 @@ def try_files(tried, program):
             file.write(b"\0")
         os.chmod(secret, 0)
         for section in sections:
-            for path, how in (("/no/such/file", {}), (f"{folder}/{given['info']}/below", {}), (room, {}), (secret, {"preexec_fn": as_nobody})):
+            below = f"{folder}/{given['info']}/below"
+            for path, how in (("/no/such/file", {}), (below, {}), (room, {}), (secret, {"preexec_fn": as_nobody})):
                 ran = run({**given, section: path}, **how)
-                tried.judge((ran.returncode, ran.stdout, ran.stderr) == (3, b"", f"file {path}\n".encode()), f"{section} is {path}: {ran}")
+                is_told = (ran.returncode, ran.stdout, ran.stderr) == (3, b"", f"file {path}\n".encode())
+                tried.judge(is_told, f"{section} is {path}: {ran}")
         try_fifo(tried, run, given, folder, f"{room}/fifo")
     for text, how in (("full", {"stdout": open("/dev/full", "wb")}), ("closed", {"preexec_fn": lambda: os.close(1)})):
         ran = run(**how)
@@ -385,7 +406,8 @@ def try_fifo(tried, run, given, folder, fifo):
     with open(f"{folder}/{given['info']}", "rb") as file:
         section = file.read()
     for size in (len(section), len(section) - 1, 20, 0):
-        writer = subprocess.Popen([sys.executable, "-c", "import sys; open(sys.argv[1], 'wb').write(sys.stdin.buffer.read())", fifo], stdin=subprocess.PIPE)
+        copy = "import sys; open(sys.argv[1], 'wb').write(sys.stdin.buffer.read())"
+        writer = subprocess.Popen([sys.executable, "-c", copy, fifo], stdin=subprocess.PIPE)
         writer.stdin.write(section[:size])
         writer.stdin.close()
         ran = run({**given, "info": fifo})
@@ -394,7 +416,8 @@ def try_fifo(tried, run, given, folder, fifo):
             cut.write(section[:size])
             cut.flush()
             same = run({**given, "info": cut.name})
-        tried.judge((ran.returncode, ran.stdout, ran.stderr) == (same.returncode, same.stdout, same.stderr), f"a fifo of {size} bytes: {ran}")
+        is_same = (ran.returncode, ran.stdout, ran.stderr) == (same.returncode, same.stdout, same.stderr)
+        tried.judge(is_same, f"a fifo of {size} bytes: {ran}")
 
 
 def main():
@@ -404,9 +427,11 @@ def main():
     ask.add_argument("--all", action="store_true", help="refuse each request, read and write of each command")
     given = ask.parse_args()
     scenarios, dwarf, tried = os.path.abspath(given.refusals), os.path.abspath(given.dwarf), Tried()
-    with tempfile.TemporaryDirectory(prefix="refusals-") as room, concurrent.futures.ThreadPoolExecutor(os.cpu_count()) as side_by_side:
+    pool = concurrent.futures.ThreadPoolExecutor(os.cpu_count())
+    with tempfile.TemporaryDirectory(prefix="refusals-") as room, pool as side_by_side:
         shim = f"{room}/shim.so"
-        built = subprocess.run(["cc", "-shared", "-fPIC", "-O1", "-o", shim, "-x", "c", "-", "-ldl"], input=SHIM, text=True, capture_output=True)
+        words = ["cc", "-shared", "-fPIC", "-O1", "-o", shim, "-x", "c", "-", "-ldl"]
+        built = subprocess.run(words, input=SHIM, text=True, capture_output=True, check=False)
         if built.returncode:
             sys.exit(f"refusals.py: the C compiler: {built.stderr.strip()}")
         jobs = [(try_scenario, scenarios, name, shim) for name in SCENARIOS]
@@ -417,7 +442,9 @@ def main():
         jobs += [(try_two_units, dwarf, command, most, shim) for command in ("show", "copy") for most in (0, 1)]
         jobs += [(try_growths, dwarf, command, shim) for command in commands() if command[0] == "copy over linked"]
         for parts in side_by_side.map(lambda job: job[0](own := Tried(), *job[1:]) or own, jobs):
-            tried.passed, tried.failed, tried.refused = tried.passed + parts.passed, tried.failed + parts.failed, tried.refused + parts.refused
+            tried.passed += parts.passed
+            tried.failed += parts.failed
+            tried.refused += parts.refused
         try_files(tried, dwarf)
         try_said(tried)
     print(f"{tried.refused} calls and runs were refused memory and said so")
