@@ -112,41 +112,51 @@ fn ask_value(number: u64, buffer: Vec<u8>) -> Result<Vec<u8>, ReadError> {
     Ok(writer.into_inner())
 }
 
-/// What is made new.
+/// What is made new, one thing a function: each that is owned beside others doubles what a proof of these takes.
 pub(crate) fn of_makers(alloc: Global, count: u64) -> Result<u64, ReadError> {
     let table = table(alloc)?;
     let mut sum: u64 = 0;
     for _ in 0..count {
-        sum = sum.wrapping_add(make_parts(alloc)?);
-        sum = sum.wrapping_add(make_units(alloc, &table)?);
-        sum = sum.wrapping_add(make_sections(alloc));
+        sum = sum.wrapping_add(make_tables(alloc) ^ make_header()?);
+        sum = sum.wrapping_add(make_feed(alloc, &table)? ^ make_draft(alloc, &table)?);
+        sum = sum.wrapping_add(make_builder(alloc, &table)? ^ make_sections(alloc));
     }
     Ok(sum)
 }
 
-fn make_parts(alloc: Global) -> Result<u64, ReadError> {
-    let _tables = Tables::new(alloc, &TYPED);
-    let _builder = TableBuilder::new(alloc);
-    let made = Decl::new(alloc, Uleb::least(1), Uleb::least(0x11), true, (1, 1)).is_ok();
-    let header = Header::new(Order::Little, Format::Dwarf64, Kind::Partial, 8, 0);
-    let (read, _) = read_header_as(Order::Little, Versions::FourAndFive, &ROOT_AND_CHILD)?;
-    Ok(made as u64 ^ header.is_some() as u64 ^ read.size())
+fn make_tables(alloc: Global) -> u64 {
+    drop(Tables::new(alloc, &TYPED));
+    drop(TableBuilder::new(alloc));
+    Decl::new(alloc, Uleb::least(1), Uleb::least(0x11), true, (1, 1)).is_ok() as u64
 }
 
-fn make_units(alloc: Global, table: &Rc<Table>) -> Result<u64, ReadError> {
+fn make_header() -> Result<u64, ReadError> {
+    let header = Header::new(Order::Little, Format::Dwarf64, Kind::Partial, 8, 0);
+    let (read, _) = read_header_as(Order::Little, Versions::FourAndFive, &ROOT_AND_CHILD)?;
+    let wants = HeadFeed::new_as(Order::Big, Versions::FourAndFive).wants();
+    Ok(header.is_some() as u64 ^ read.size() ^ wants as u64)
+}
+
+fn make_feed(alloc: Global, table: &Rc<Table>) -> Result<u64, ReadError> {
     let (header, unit_length) = read_header(Order::Little, &ROOT_AND_CHILD)?;
-    let _feed = HeadFeed::new_as(Order::Big, Versions::FourAndFive);
-    let body = BodyFeed::new(alloc, header, unit_length, table.clone()?);
-    let draft = Draft::new(alloc, header, table.clone()?);
-    let _builder = UnitBuilder::new(alloc, header, table.clone()?);
-    Ok(body.pending() as u64 ^ draft.size())
+    Ok(BodyFeed::new(alloc, header, unit_length, table.clone()?).pending() as u64)
+}
+
+fn make_draft(alloc: Global, table: &Rc<Table>) -> Result<u64, ReadError> {
+    Ok(Draft::new(alloc, header()?, table.clone()?).size())
+}
+
+fn make_builder(alloc: Global, table: &Rc<Table>) -> Result<u64, ReadError> {
+    drop(UnitBuilder::new(alloc, header()?, table.clone()?));
+    Ok(1)
 }
 
 fn make_sections(alloc: Global) -> u64 {
-    let _offsets = EntryOffsets::new(alloc);
-    let five = Section::new(alloc, Order::Little);
-    let both = Section::new_as(alloc, Order::Big, Versions::FourAndFive);
-    five.size() ^ both.items().len() as u64
+    drop(EntryOffsets::new(alloc));
+    let sum = Section::new(alloc, Order::Little).size();
+    sum ^ Section::new_as(alloc, Order::Big, Versions::FourAndFive)
+        .items()
+        .len() as u64
 }
 
 /// A text that is ended, where the count isn't 0.
