@@ -18,22 +18,23 @@ sys.path.insert(0, f"{TOP}/bindings/python")
 
 import reference  # noqa: E402
 import rothelduf  # noqa: E402
+import section_names  # noqa: E402
 
-FILES = {"info": "--info", "abbrev": "--abbrev", "str": "--str", "line_str": "--line-str", "str_offsets": "--str-offsets"}
 KINDS = ["four", "compile", "type", "partial", "skeleton"]
 
 
 def bytes_of(folder):
+    """The bytes of the sections, by the words of the binding for them."""
     found = {}
-    for name in FILES:
-        path = f"{folder}/debug_{name}"
-        found[name] = open(path, "rb").read() if os.path.exists(path) else b""
+    for name, path in section_names.paths_in(folder).items():
+        found[section_names.word_of(name)] = open(path, "rb").read() if os.path.exists(path) else b""
     return found
 
 
 def said(program, command, folder, *words):
-    files = [word for name, option in FILES.items() if os.path.exists(f"{folder}/debug_{name}") for word in (option, f"{folder}/debug_{name}")]
-    return subprocess.run([program, command, *words, *files, "--v4"], capture_output=True, text=True, encoding="latin-1", check=False).stdout.splitlines()
+    paths = {name: path for name, path in section_names.paths_in(folder).items() if os.path.exists(path)}
+    words = [program, command, *words, *section_names.words_of(paths), "--v4"]
+    return subprocess.run(words, capture_output=True, text=True, encoding="latin-1", check=False).stdout.splitlines()
 
 
 def shown(section):

@@ -7,8 +7,9 @@ import os
 import re
 import sys
 
+import section_names
+
 TOP = os.path.dirname(os.path.dirname(os.path.abspath(__file__)))
-FILES = ["info", "abbrev", "str", "line-str", "str-offsets"]
 
 MARK = re.compile(r"(!\^|[$%=~!?|^])(?: |$)")
 NAME = re.compile(r"([a-z][a-z0-9_-]+) =(?: |$)")
@@ -113,7 +114,7 @@ class Reader:
     def spell(self, text):
         self.spelled += words_of(text)
         self.names[self.name] = bytes_of(self.spelled, self.names)
-        if self.name in FILES:
+        if self.name in section_names.NAMES:
             self.files[self.name] = self.names[self.name]
 
     def ask(self, mark, text):
@@ -121,7 +122,8 @@ class Reader:
             self.name, self.answer, self.is_asked = None, Answer(), True
         words = [unquoted(word) for word in WORD.findall(text)]
         if mark == "$":
-            words += [word.encode() for name in FILES if name in self.files for word in ("--" + name, name)]
+            files = {name: name for name in section_names.NAMES if name in self.files}
+            words += [word.encode() for word in section_names.words_of(files)]
         self.cases.append(Case(self.place, words, dict(self.files), self.answer))
 
     def say(self, answer, mark, text):

@@ -16,10 +16,9 @@ import subprocess
 import sys
 import tempfile
 
-SECTIONS = os.path.join(os.path.dirname(os.path.abspath(__file__)), "sections.sh")
+import section_names
 
-# The sections that the program is given, as its options name them.
-FILES = ["info", "abbrev", "str", "line-str", "str-offsets"]
+SECTIONS = os.path.join(os.path.dirname(os.path.abspath(__file__)), "sections.sh")
 
 # How readelf writes a number that stands in the unit.
 NUMBER = re.compile(
@@ -102,7 +101,7 @@ def by_show(program, file):
     with tempfile.TemporaryDirectory() as room:
         if subprocess.run(["sh", SECTIONS, file, room]).returncode:
             sys.exit(1)
-        words = [it for name in FILES for it in (f"--{name}", f"{room}/debug_{name.replace('-', '_')}")]
+        words = section_names.words_of(section_names.paths_in(room))
         told = subprocess.run([program, "show", *words], stdout=subprocess.PIPE, check=True)
     return shown(told.stdout.decode())
 

@@ -17,15 +17,10 @@ import sys
 import zlib
 from dataclasses import dataclass
 
-# The sections, and the options by which the program is given their files.
-OPTIONS = {
-    "debug_info": "--info",
-    "debug_abbrev": "--abbrev",
-    "debug_str": "--str",
-    "debug_line_str": "--line-str",
-    "debug_str_offsets": "--str-offsets",
-}
-NAMES = {f".{name}".encode(): name for name in OPTIONS}
+import section_names
+
+# The names of the sections as a file spells them, and the files into which they are written.
+NAMES = {f".{file}".encode(): file for file in section_names.FILES}
 LONGEST = max(map(len, NAMES)) + 1
 
 # Of the header: the type of a file that isn't linked, and the number of a section whose own stands in the first section header.
@@ -212,12 +207,12 @@ def extract(path, folder, most=MOST_BYTES):
             size = sum(elf.unpacked_size(it)[0] for it in found.values())
             if size > most:
                 raise Unreadable("large", f"has {size} bytes of debugging entries, which is more than the {most} that are asked for")
-            for name in OPTIONS:
+            for name in section_names.FILES:
                 with open(os.path.join(folder, name), "wb") as out:
                     out.writelines(elf.content(found[name]) if name in found else ())
     except OSError as error:
         raise Unreadable("unreadable", f"can't be read: {error.strerror}") from None
-    if not os.path.getsize(os.path.join(folder, "debug_info")):
+    if not os.path.getsize(section_names.path_in(folder, "info")):
         raise Unreadable("none", "has no debugging entries (.debug_info)")
     return elf.order == ">"
 
@@ -279,8 +274,7 @@ def behind_zeros(section, at):
 
 def words_of(folder, big, four):
     """The options of the program over these sections."""
-    words = [word for name, option in OPTIONS.items() for word in (option, os.path.join(folder, name))]
-    return words + ["--big"] * big + ["--v4"] * four
+    return section_names.words_of(section_names.paths_in(folder)) + ["--big"] * big + ["--v4"] * four
 
 
 # ---- the program over them

@@ -18,6 +18,8 @@ import subprocess
 import sys
 import tempfile
 
+import section_names
+
 EXAMPLES = os.path.join(os.path.dirname(os.path.dirname(os.path.abspath(__file__))), "examples")
 
 # The size of the pieces, what it is called, and how many times the instructions of the read at hand it may take.
@@ -36,9 +38,13 @@ def instructions(program, abbrev, info, size):
         return int(found.group(1))
 
 
+def sections_in(folder):
+    """The table of an example and its unit, as the program is given them."""
+    return section_names.path_in(folder, "abbrev"), section_names.path_in(folder, "info")
+
+
 def same_in_pieces(program, folder):
-    sections = [os.path.join(folder, name) for name in ("debug_abbrev", "debug_info")]
-    run = subprocess.run([program, *sections], capture_output=True, text=True)
+    run = subprocess.run([program, *sections_in(folder)], capture_output=True, text=True)
     lines = run.stdout.split("\n")[:-1]
     return run.returncode == 0 and len(lines) == 7 and all(line.endswith(": true") for line in lines)
 
@@ -71,11 +77,12 @@ def compare_examples(program):
     well = True
     for name in sorted(os.listdir(EXAMPLES)):
         folder = os.path.join(EXAMPLES, name)
-        if os.path.exists(os.path.join(folder, "debug_info")):
+        abbrev, info = sections_in(folder)
+        if os.path.exists(info):
             same = same_in_pieces(program, folder)
-            abbrev, info = (os.path.join(folder, it) for it in ("debug_abbrev", "debug_info"))
             tried, differences = count_differences(program, abbrev, info)
-            print(f"{name}: {'the same in all pieces' if same else 'DIFFERENT'}; {tried} changed, {differences} differences")
+            told = "the same in all pieces" if same else "DIFFERENT"
+            print(f"{name}: {told}; {tried} changed, {differences} differences")
             well = well and same and not differences
     return well
 

@@ -13,6 +13,8 @@ import os
 import sys
 from dataclasses import dataclass, field
 
+import section_names
+
 # The limits that the standard leaves open (docs/definitions.md).
 NESTING = 4096
 MOST_PAIRS = 1024
@@ -779,7 +781,7 @@ class Usage(Exception):
     """Words that aren't taken."""
 
 
-OPTIONS = ("--info", "--abbrev", "--str", "--line-str", "--str-offsets")
+OPTIONS = {section_names.option_of(it): it for it in section_names.NAMES}
 WORDS = {"show": 0, "find": 1, "type": 1, "check": 0, "set": 3, "copy": 0}
 
 
@@ -797,29 +799,41 @@ def attribute_in(word):
     return number_in(word, 2**64)
 
 
+@dataclass
+class Line:
+    """What the words of a line ask for: a subcommand, over files by the names of their sections, with flags and other words."""
+
+    command: str
+    files: dict
+    flags: set
+    others: list
+
+    def is_wanting(self):
+        return len(self.others) != WORDS[self.command] or not {"info", "abbrev"} <= self.files.keys()
+
+
 def line_of(words):
-    """The subcommand, the options with their files, the flags, and the other words."""
     if not words or words[0] not in WORDS:
         raise Usage("a subcommand is wanted: " + ", ".join(WORDS))
-    files, flags, others, left = {}, set(), [], list(words[1:])
+    line, left = Line(words[0], {}, set(), []), list(words[1:])
     while left:
         word = left.pop(0)
         option, equals, path = word.partition("=")
         if option in OPTIONS:
-            if option in files or not (equals or left):
+            if OPTIONS[option] in line.files or not (equals or left):
                 raise Usage(f"{option} wants one file")
-            files[option] = path if equals else left.pop(0)
-        elif word in ("--big", "--v4") or word == "--minus" and words[0] == "set":
-            if word in flags:
+            line.files[OPTIONS[option]] = path if equals else left.pop(0)
+        elif word in ("--big", "--v4") or word == "--minus" and line.command == "set":
+            if word in line.flags:
                 raise Usage(f"{word} stands twice")
-            flags.add(word)
+            line.flags.add(word)
         elif word.startswith("-") and word != "-":
-            raise Usage(f"{word} is no option of {words[0]}")
+            raise Usage(f"{word} is no option of {line.command}")
         else:
-            others.append(word)
-    if len(others) != WORDS[words[0]] or not {"--info", "--abbrev"} <= files.keys():
-        raise Usage(f"{words[0]} wants --info, --abbrev and {WORDS[words[0]]} words")
-    return words[0], files, flags, others
+            line.others.append(word)
+    if line.is_wanting():
+        raise Usage(f"{line.command} wants --info, --abbrev and {WORDS[line.command]} words")
+    return line
 
 
 def answer(command, section, words, flags):
@@ -840,13 +854,13 @@ def answer(command, section, words, flags):
 def read_files(files):
     """The bytes of each file, in the order in which they are read."""
     found = {}
-    for option in (*OPTIONS[1:], OPTIONS[0]):
-        if option in files:
+    for name in (*section_names.NAMES[1:], section_names.NAMES[0]):
+        if name in files:
             try:
-                with open(files[option], "rb") as file:
-                    found[option[2:]] = file.read()
+                with open(files[name], "rb") as file:
+                    found[name] = file.read()
             except OSError:
-                raise FileNotFoundError(files[option]) from None
+                raise FileNotFoundError(files[name]) from None
     return found
 
 
@@ -862,11 +876,12 @@ def judged_words(command, words):
 def main(words):
     sys.setrecursionlimit(100_000)
     try:
-        command, files, flags, others = line_of(words)
-        others = judged_words(command, others)
-        found = read_files(files)
-        section = read_section(found["info"], found["abbrev"], "--big" in flags, (4, 5) if "--v4" in flags else (5,), found)
-        output, status = answer(command, section, others, flags)
+        line = line_of(words)
+        others = judged_words(line.command, line.others)
+        found = read_files(line.files)
+        versions = (4, 5) if "--v4" in line.flags else (5,)
+        section = read_section(found["info"], found["abbrev"], "--big" in line.flags, versions, found)
+        output, status = answer(line.command, section, others, line.flags)
     except Usage as why:
         print(f"error: {why}", file=sys.stderr)
         return 2

@@ -22,8 +22,9 @@ import sys
 import tempfile
 
 import reference
+import section_names
 import sweeps
-from case_reader import FILES, TOP, Reader
+from case_reader import TOP, Reader
 from made import Maker
 
 MOST = 300
@@ -83,12 +84,11 @@ SECONDS = 60
 
 def ran(program, files, is_big, is_four, words):
     with tempfile.TemporaryDirectory() as room:
-        options = ["--big"] * is_big + ["--v4"] * is_four
-        for name in FILES:
-            if name in files:
-                options += [f"--{name}", name]
-                with open(os.path.join(room, name), "wb") as file:
-                    file.write(files[name])
+        there = {name: name for name in section_names.NAMES if name in files}
+        options = ["--big"] * is_big + ["--v4"] * is_four + section_names.words_of(there)
+        for name in there:
+            with open(os.path.join(room, name), "wb") as file:
+                file.write(files[name])
         try:
             said = subprocess.run([program, *words, *options], cwd=room, stdin=subprocess.DEVNULL, capture_output=True, timeout=SECONDS, check=False)
         except subprocess.TimeoutExpired:
@@ -161,7 +161,7 @@ def main():
     sys.setrecursionlimit(100_000)
     program = os.path.abspath(given.program)
     if given.all:
-        jobs = [(program, vector, name) for vector in sweeps.vectors() for name in FILES if sweeps.sections_of(vector)[name]]
+        jobs = [(program, *it) for it in sweeps.of_all(sweeps.vectors())]
         job, what = swept_vector, f"{len(jobs)} sections of vectors"
     else:
         # (in parts of a thousand, each with a seed of its own, so that the same ones come however many processors there are)

@@ -15,10 +15,10 @@ import sys
 import zlib
 
 import reference
+import section_names
 
 TOP = os.path.dirname(os.path.dirname(os.path.abspath(__file__)))
 FOLDER = os.path.join(TOP, "crates", "sweeps")
-SECTIONS = ("info", "abbrev", "str", "line-str", "str-offsets")
 
 
 def vectors():
@@ -29,13 +29,18 @@ def vectors():
 
 def sections_of(vector):
     """The sections of a vector, by their names."""
-    found = dict.fromkeys(SECTIONS, b"")
+    found = dict.fromkeys(section_names.NAMES, b"")
     with open(os.path.join(FOLDER, "data", vector.partition(":")[0]), encoding="utf-8") as file:
         for line in file:
             words = line.split()
             if words[:1] == ["let"]:
                 found[words[1]] += bytes.fromhex("".join(words[3:]))
     return found
+
+
+def of_all(words):
+    """These vectors with each of their sections that has bytes."""
+    return [(vector, name) for vector in words for name, content in sections_of(vector).items() if content]
 
 
 def inputs(vector, name):
@@ -106,7 +111,7 @@ def control(vector):
 
 
 def main(words):
-    jobs = [(vector, name) for vector in words or vectors() for name in SECTIONS if sections_of(vector)[name]]
+    jobs = of_all(words or vectors())
     told = ""
     with concurrent.futures.ProcessPoolExecutor() as side_by_side:
         for (vector, _), lines in zip(jobs, side_by_side.map(swept, *zip(*jobs))):
