@@ -3,10 +3,11 @@
 
 Usage: scripts/sweeps.py [VECTOR..]
 
-A VECTOR is a word of crates/sweeps/args, which has them all: a file of crates/sweeps/data, and behind it `:v4` and `:big`. What is printed without words stands
-in crates/sweeps/stdout: `scripts/sweeps.py > crates/sweeps/stdout` where vectors are added. It takes minutes, on all processors.
+A VECTOR is a word of crates/sweeps/args, which has them all: a file of crates/sweeps/data, and behind it `:v4` and
+`:big`. What is printed without words stands in crates/sweeps/stdout: `scripts/sweeps.py > crates/sweeps/stdout` where
+vectors are added. It takes minutes, on all processors.
 
-As a module it has `vectors` and `inputs`, for what else goes over the same inputs.
+As a module it has `vectors`, `of_all` and `inputs`, for what else goes over the same inputs.
 """
 
 import concurrent.futures
@@ -64,7 +65,8 @@ def is_four(vector):
 
 
 def read(files, vector):
-    return reference.read_section(files["info"], files["abbrev"], is_big(vector), (4, 5) if is_four(vector) else (5,), files)
+    versions = (4, 5) if is_four(vector) else (5,)
+    return reference.read_section(files["info"], files["abbrev"], is_big(vector), versions, files)
 
 
 def told(section):
