@@ -3,9 +3,10 @@
 
 Usage: scripts/bindings.py PROGRAM
 
-Of each folder of examples/ and bench/ with a section: the lines of `dwarf show` are made anew of what the binding tells (each unit, entry and attribute, each reference and each text), those of
-`check` of its findings, and those of `type` for a hundred entries; the bytes are written as they were read. The binding is over the shared object that ROTHELDUF names. The last line is
-`N passed, M failed`.
+Of each folder of examples/ and bench/ with a section: the lines of `dwarf show` are made anew of what the binding tells
+(each unit, entry and attribute, each reference and each text), those of `check` of its findings, and those of `type`
+for a hundred entries; the bytes are written as they were read. The binding is over the shared object that ROTHELDUF
+names. The last line is `N passed, M failed`.
 """
 
 import glob
@@ -40,7 +41,8 @@ def said(program, command, folder, *words):
 def shown(section):
     """The lines of `show`, but for those of items that are no units."""
     for unit in section.units():
-        line = f"unit {unit.start:#x} {KINDS[unit.kind]} {64 if unit.wide else 32} size {unit.size} abbrev {unit.abbrev_offset:#x} addr {unit.address_size}"
+        line = f"unit {unit.start:#x} {KINDS[unit.kind]} {64 if unit.wide else 32} size {unit.size}"
+        line += f" abbrev {unit.abbrev_offset:#x} addr {unit.address_size}"
         line += f" signature {unit.signature:#x} type {unit.type_offset:#x}" if unit.kind == 2 else ""
         yield line + (f" dwo {unit.signature:#x}" if unit.kind == 4 else "")
         for entry in unit.entries():
@@ -123,7 +125,8 @@ def typed(entry):
 
 def main(program):
     passed = failed = 0
-    for folder in sorted(os.path.dirname(it) for it in glob.glob(f"{TOP}/examples/*/debug_info") + glob.glob(f"{TOP}/bench/*/debug_info")):
+    sections = glob.glob(f"{TOP}/examples/*/debug_info") + glob.glob(f"{TOP}/bench/*/debug_info")
+    for folder in sorted(map(os.path.dirname, sections)):
         for what, difference in compare(program, folder):
             passed, failed = passed + (not difference), failed + bool(difference)
             if difference:

@@ -1,7 +1,6 @@
 """Reads files of cases. scripts/cases.py says how they are written."""
 
 import ast
-import collections
 import dataclasses
 import os
 import re
@@ -16,8 +15,6 @@ NAME = re.compile(r"([a-z][a-z0-9_-]+) =(?: |$)")
 TITLE = re.compile(r"\[.*\]")
 WORD = re.compile(r'"(?:[^"\\]|\\.)*"\S*|\S+')
 
-Case = collections.namedtuple("Case", "place words files answer")
-
 
 @dataclasses.dataclass
 class Answer:
@@ -29,6 +26,16 @@ class Answer:
     error: bytes = b""
     error_begins: bytes = b""
     status: int = 0
+
+
+@dataclasses.dataclass
+class Case:
+    """A command: the line where it stands, its words and the files that lie beside it, and what it has to answer."""
+
+    place: str
+    words: list
+    files: dict
+    answer: Answer
 
 
 def words_of(text):

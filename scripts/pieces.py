@@ -5,10 +5,10 @@ Usage: scripts/pieces.py PROGRAM [ABBREV INFO]
 
 PROGRAM is the built `walk` (crates/walk/out/walk). The unit of each folder of `examples` is pushed in pieces of
 several sizes, and each time written and compared with its bytes. Each front of it, and it with each byte changed in
-three ways, is read at hand and pushed in pieces of one byte, and both have to end alike. Over ABBREV and INFO, the sections of one
-unit of some megabytes, instructions are counted by Valgrind: those of the read at hand, and of the feed by the size of
-its pieces, as a multiple of the first. The status is 1 where a unit differs, a run fails, or a multiple is
-above its bound (in one piece and in pieces of 4,096 bytes 1.1, of one byte 30), else 0.
+three ways, is read at hand and pushed in pieces of one byte, and both have to end alike. Over ABBREV and INFO, the
+sections of one unit of some megabytes, instructions are counted by Valgrind: those of the read at hand, and of the feed
+by the size of its pieces, as a multiple of the first. The status is 1 where a unit differs, a run fails, or a multiple
+is above its bound (in one piece and in pieces of 4,096 bytes 1.1, of one byte 30), else 0.
 """
 
 import os
