@@ -123,10 +123,15 @@ def typed(entry):
         return str(why)
 
 
+def folders():
+    """The folders of examples/ and bench/ with a section."""
+    found = (glob.glob(section_names.path_in(f"{TOP}/{it}/*", "info")) for it in ("examples", "bench"))
+    return sorted(os.path.dirname(path) for paths in found for path in paths)
+
+
 def main(program):
     passed = failed = 0
-    sections = glob.glob(f"{TOP}/examples/*/debug_info") + glob.glob(f"{TOP}/bench/*/debug_info")
-    for folder in sorted(map(os.path.dirname, sections)):
+    for folder in folders():
         for what, difference in compare(program, folder):
             passed, failed = passed + (not difference), failed + bool(difference)
             if difference:

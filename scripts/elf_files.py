@@ -209,9 +209,9 @@ def judge_hostile(judged, folder):
         file.truncate(1 << 40)
     refused("sections without number", "sections")
     # compressed zeros: more than is announced, and more than may be
-    unit = {"debug_info": b"\0" * (64 << 20), "debug_abbrev": b"\0"}
+    contents = {front_door.INFO: b"\0" * (64 << 20), front_door.ABBREV: b"\0"}
     with open(path, "wb") as file:
-        file.write(front_door.elf_file("<", True, 1, 2, unit))
+        file.write(front_door.elf_file("<", True, 1, 2, contents))
     began = time.monotonic()
     ran = within([sys.executable, script, path, room])
     took = time.monotonic() - began

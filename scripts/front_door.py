@@ -24,6 +24,8 @@ import sys
 import tempfile
 import zlib
 
+import section_names
+
 TOP = os.path.dirname(os.path.dirname(os.path.abspath(__file__)))
 
 
@@ -195,6 +197,7 @@ def judge_audit(judged, program, own, folder):
 # The first unit of version 5 that there can be, in both byte orders, and its table.
 UNITS = {"<": "0b000000 0500 01 08 00000000 01 6100", ">": "0000000b 0005 01 08 00000000 01 6100"}
 TABLE = "01 11 00 03 08 00 00 00"
+INFO, ABBREV = map(section_names.file_of, ("info", "abbrev"))
 
 
 def elf_file(order, wide, packed, kind, contents):
@@ -219,13 +222,13 @@ def elf_file(order, wide, packed, kind, contents):
 
 def contents_of(order):
     """The sections of an ELF file of this byte order."""
-    return {"debug_info": bytes.fromhex(UNITS[order]), "debug_abbrev": bytes.fromhex(TABLE)}
+    return {INFO: bytes.fromhex(UNITS[order]), ABBREV: bytes.fromhex(TABLE)}
 
 
 def broken_files(order, wide):
     """ELF files that can't be taken apart, by words of what is said of them."""
     contents = contents_of(order)
-    empty = elf_file(order, wide, 1, 2, {**contents, "debug_info": b""})
+    empty = elf_file(order, wide, 1, 2, {**contents, INFO: b""})
     return {
         "isn't linked": elf_file(order, wide, 0, 1, contents),
         "has no debugging entries": elf_file(order, wide, 0, 2, {"text": b"a"}),
@@ -253,7 +256,7 @@ def judge_linked(judged, program, folder):
                 file = elf_file(order, wide, packed, 2, contents)
                 of = f"scripts/dwarf over a file of order {order}, {wide=}, {packed=}"
                 copied, shown = ran(file, "copy"), ran(file, "show")
-                judged.judge(copied.returncode == 0 and copied.stdout == contents["debug_info"], f"{of}: {copied}")
+                judged.judge(copied.returncode == 0 and copied.stdout == contents[INFO], f"{of}: {copied}")
                 judged.judge(shown.returncode == 0 and b'DW_AT_name "a"' in shown.stdout, f"{of}: {shown}")
             for why, file in broken_files(order, wide).items():
                 refused = ran(file, "show")
