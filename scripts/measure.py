@@ -5,7 +5,8 @@ Usage: scripts/measure.py units PROGRAM [COUNT]
        scripts/measure.py section PROGRAM FILE
        scripts/measure.py peers PROGRAM FILE [--gimli WALK] [--turns N] [--csv OUT]
 
-PROGRAM is the built `dwarf` (crates/dwarf/out/dwarf).
+PROGRAM is the built `dwarf` (crates/dwarf/out/dwarf). Of a run that takes less memory than some 7 MB so much is told
+(scripts/measured.py), so small sections tell nothing of memory.
 
 units: over large units that compilers write. A C program of COUNT structures and as many functions (12,000 by default)
 is written, compiled as one unit by each compiler that is there, copied and shown. Printed are the size of the section,

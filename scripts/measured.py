@@ -25,6 +25,9 @@ for line in sys.stdin:
         try:
             for number, path, how in ((0, os.devnull, os.O_RDONLY), (1, output, WRITTEN), (2, error, WRITTEN)):
                 os.dup2(os.open(path, how, 0o666), number)
+            # (Python ignores these, and so would what it starts)
+            for number in (signal.SIGPIPE, signal.SIGXFSZ):
+                signal.signal(number, signal.SIG_DFL)
             os.execv(words[0], words)
         finally:
             os._exit(127)
