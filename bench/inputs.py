@@ -1,10 +1,11 @@
 #!/usr/bin/env python3
-"""Makes sections over which a change for speed can make calls dearer: bare entries, tables, long rows, look-ups, types, values one by one, small units.
+"""Makes sections over which a change for speed can make calls dearer: bare entries, tables, long rows, look-ups, types,
+values one by one, small units.
 
 usage: bench/inputs.py OUT [NAME..]
 
-Each is a folder OUT/NAME with the files `info` and `abbrev`, and where texts are named `str` and `str-offsets`. bench/dearer times two builds
-over them. The tables of `tables` are those of the units in this folder.
+Each is a folder OUT/NAME with the files `info` and `abbrev`, and where texts are named `str` and `str-offsets`.
+bench/dearer times two builds over them. The tables of `tables` are those of the units in this folder.
 """
 
 import os
@@ -24,7 +25,8 @@ def uleb(value):
 
 
 def declaration(code, tag, children, *pairs):
-    return uleb(code) + uleb(tag) + bytes([children]) + b"".join(uleb(name) + uleb(form) for name, form in pairs) + b"\0\0"
+    spelled = b"".join(uleb(name) + uleb(form) for name, form in pairs)
+    return uleb(code) + uleb(tag) + bytes([children]) + spelled + b"\0\0"
 
 
 def unit(body, table=0):
@@ -156,9 +158,13 @@ def looked_up(trees, many):
     return {"info": unit(b"\1" + b"\2" * many + b"\0") * trees, "abbrev": ROOT + declaration(2, 0x34, 0) + b"\0"}
 
 
-# Of types: 2 a base type, 3 a pointer, 4 an array with its children, 5 a subrange, 6 a subprogram with its children, 7 a parameter, 8 a label.
-TYPES = ROOT + declaration(2, 0x24, 0, (0x03, 0x08)) + declaration(3, 0x0F, 0, (0x49, 0x13)) + declaration(4, 0x01, 1, (0x49, 0x13))
-TYPES += declaration(5, 0x21, 0, (0x2F, 0x0B)) + declaration(6, 0x2E, 1, (0x49, 0x13)) + declaration(7, 0x05, 0, (0x49, 0x13)) + declaration(8, 0x0A, 0) + b"\0"
+# Of types: 2 a base type, 3 a pointer, 4 an array with its children, 5 a subrange, 6 a subprogram with its children,
+# 7 a parameter, 8 a label.
+OF_A_TYPE = (0x49, 0x13)
+TYPES = ROOT + declaration(2, 0x24, 0, (0x03, 0x08)) + declaration(3, 0x0F, 0, OF_A_TYPE)
+TYPES += declaration(4, 0x01, 1, OF_A_TYPE) + declaration(5, 0x21, 0, (0x2F, 0x0B))
+TYPES += declaration(6, 0x2E, 1, OF_A_TYPE) + declaration(7, 0x05, 0, OF_A_TYPE)
+TYPES += declaration(8, 0x0A, 0) + b"\0"
 BASE, POINTER, ARRAY, TO_ARRAY = FIRST, FIRST + 5, FIRST + 10, FIRST + 18
 
 
@@ -171,10 +177,12 @@ def functions(count, *children):
     return {"info": unit(body) * 50, "abbrev": TYPES}
 
 
-# A root without children of a language, a table of 12 bytes for it with two numbers more, and that of a type unit: its root, a structure and a member.
+# A root without children of a language, a table of 12 bytes for it with two numbers more, and that of a type unit: its
+# root, a structure and a member.
 LEAF = declaration(1, 0x11, 0, (0x13, 0x0B)) + b"\0"
 LEAF_OF_THREE = declaration(1, 0x11, 0, (0x13, 0x05), (0x36, 0x0B), (0x17, 0x0B)) + b"\0"
-OF_A_TYPE = declaration(1, 0x41, 1, (0x13, 0x05)) + declaration(2, 0x13, 1, (0x03, 0x08), (0x0B, 0x0B)) + declaration(3, 0x0D, 0, (0x03, 0x08), (0x49, 0x13)) + b"\0"
+TYPE_UNIT = declaration(1, 0x41, 1, (0x13, 0x05)) + declaration(2, 0x13, 1, (0x03, 0x08), (0x0B, 0x0B))
+TYPE_UNIT += declaration(3, 0x0D, 0, (0x03, 0x08), OF_A_TYPE) + b"\0"
 
 
 def small():
@@ -197,7 +205,7 @@ def small_types():
         body = b"\1\x1d\0" + b"\2S%09d\0\x08" % number + members + b"\0\0"
         return struct.pack("<IHBBIQI", len(body) + 20, 5, 2, 8, 0, 0x1234567800000000 + number, at) + body
 
-    return {"info": b"".join(map(one, range(80_000))), "abbrev": OF_A_TYPE}
+    return {"info": b"".join(map(one, range(80_000))), "abbrev": TYPE_UNIT}
 
 
 def leb_rows():
@@ -213,6 +221,9 @@ def leb_rows():
     pairs = [(0x3A, 0x0F), (0x3B, 0x0F), (0x39, 0x0F), (0x0B, 0x0F), (0x38, 0x0D), (0x1C, 0x0D)]
     return {"info": unit(body + b"\0") * 40, "abbrev": ROOT + declaration(2, 0x34, 0, *pairs) + b"\0"}
 
+
+# How many units of how many entries are looked up in.
+LOOKED_UP = ((2_000, 1_000), (200, 10_000), (20_000, 100))
 
 MADE = {
     "bare": bare,
@@ -238,7 +249,7 @@ MADE = {
     "small-types": small_types,
     "leb-rows": leb_rows,
     **{f"look-{many}": lambda many=many: looked_up(1, many) for many in (300, 8_000, 32_768, 65_534, 300_000)},
-    **{f"look-{trees}x{many}": lambda trees=trees, many=many: looked_up(trees, many) for trees, many in ((2_000, 1_000), (200, 10_000), (20_000, 100))},
+    **{f"look-{trees}x{many}": lambda trees=trees, many=many: looked_up(trees, many) for trees, many in LOOKED_UP},
 }
 
 

@@ -3,9 +3,10 @@
 
 Usage: scripts/bindings.py PROGRAM
 
-Of each folder of examples/ and bench/ with a section: the lines of `dwarf show` are made anew of what the binding tells (each unit, entry and attribute, each reference and each text), those of
-`check` of its findings, and those of `type` for a hundred entries; the bytes are written as they were read. The binding is over the shared object that ROTHELDUF names. The last line is
-`N passed, M failed`.
+Of each folder of examples/ and bench/ with a section: the lines of `dwarf show` are made anew of what the binding tells
+(each unit, entry and attribute, each reference and each text), those of `check` of its findings, and those of `type`
+for a hundred entries; the bytes are written as they were read. The binding is over the shared object that ROTHELDUF
+names. The last line is `N passed, M failed`.
 """
 
 import glob
@@ -18,28 +19,30 @@ sys.path.insert(0, f"{TOP}/bindings/python")
 
 import reference  # noqa: E402
 import rothelduf  # noqa: E402
+import section_names  # noqa: E402
 
-FILES = {"info": "--info", "abbrev": "--abbrev", "str": "--str", "line_str": "--line-str", "str_offsets": "--str-offsets"}
 KINDS = ["four", "compile", "type", "partial", "skeleton"]
 
 
 def bytes_of(folder):
+    """The bytes of the sections, by the words of the binding for them."""
     found = {}
-    for name in FILES:
-        path = f"{folder}/debug_{name}"
-        found[name] = open(path, "rb").read() if os.path.exists(path) else b""
+    for name, path in section_names.paths_in(folder).items():
+        found[section_names.word_of(name)] = open(path, "rb").read() if os.path.exists(path) else b""
     return found
 
 
 def said(program, command, folder, *words):
-    files = [word for name, option in FILES.items() if os.path.exists(f"{folder}/debug_{name}") for word in (option, f"{folder}/debug_{name}")]
-    return subprocess.run([program, command, *words, *files, "--v4"], capture_output=True, text=True, encoding="latin-1", check=False).stdout.splitlines()
+    paths = {name: path for name, path in section_names.paths_in(folder).items() if os.path.exists(path)}
+    words = [program, command, *words, *section_names.words_of(paths), "--v4"]
+    return subprocess.run(words, capture_output=True, text=True, encoding="latin-1", check=False).stdout.splitlines()
 
 
 def shown(section):
     """The lines of `show`, but for those of items that are no units."""
     for unit in section.units():
-        line = f"unit {unit.start:#x} {KINDS[unit.kind]} {64 if unit.wide else 32} size {unit.size} abbrev {unit.abbrev_offset:#x} addr {unit.address_size}"
+        line = f"unit {unit.start:#x} {KINDS[unit.kind]} {64 if unit.wide else 32} size {unit.size}"
+        line += f" abbrev {unit.abbrev_offset:#x} addr {unit.address_size}"
         line += f" signature {unit.signature:#x} type {unit.type_offset:#x}" if unit.kind == 2 else ""
         yield line + (f" dwo {unit.signature:#x}" if unit.kind == 4 else "")
         for entry in unit.entries():
@@ -120,9 +123,15 @@ def typed(entry):
         return str(why)
 
 
+def folders():
+    """The folders of examples/ and bench/ with a section."""
+    found = (glob.glob(section_names.path_in(f"{TOP}/{it}/*", "info")) for it in ("examples", "bench"))
+    return sorted(os.path.dirname(path) for paths in found for path in paths)
+
+
 def main(program):
     passed = failed = 0
-    for folder in sorted(os.path.dirname(it) for it in glob.glob(f"{TOP}/examples/*/debug_info") + glob.glob(f"{TOP}/bench/*/debug_info")):
+    for folder in folders():
         for what, difference in compare(program, folder):
             passed, failed = passed + (not difference), failed + bool(difference)
             if difference:

@@ -1,5 +1,5 @@
 #!/usr/bin/env python3
-"""Makes include/rothelduf_constants.h of the constants of the crate dw_leb: the names of tags, attributes and forms in C.
+"""Makes include/rothelduf_constants.h of the constants of dw_leb: the names of tags, attributes and forms in C.
 
 Usage: scripts/c_constants.py [--check]
 
@@ -17,7 +17,8 @@ CONSTANT = re.compile(r"(?m)^/// `(DW_\w+)`.*\n(?:///.*\n)*pub const DW_\w+: u64
 
 
 def written():
-    lines = ["/* rothelduf_constants.h: the names of tags, attributes and forms of DWARF 5 (sections 7.5.3 to 7.5.6). Made by scripts/c_constants.py. */"]
+    what = "the names of tags, attributes and forms of DWARF 5 (sections 7.5.3 to 7.5.6)"
+    lines = [f"/* rothelduf_constants.h: {what}. Made by scripts/c_constants.py. */"]
     lines += ["#ifndef ROTHELDUF_CONSTANTS_H", "#define ROTHELDUF_CONSTANTS_H", ""]
     for kind in ("tag", "attribute", "form"):
         with open(f"{TOP}/crates/dw_leb/src/constants/{kind}.rt", encoding="utf-8") as file:

@@ -16,7 +16,7 @@ import re
 import subprocess
 import sys
 
-FILES = ["info", "abbrev", "str", "line-str", "str-offsets"]
+import section_names
 
 DECLARED = {"DW_TAG_variable", "DW_TAG_formal_parameter", "DW_TAG_member"}
 
@@ -28,7 +28,7 @@ NUMBERS = {"unsigned", "signed", "short", "long", "int", "char", "double"}
 
 def run(program, command, folder):
     """The status of a run and the lines that it writes."""
-    files = [it for name in FILES for it in (f"--{name}", f"{folder}/debug_{name.replace('-', '_')}")]
+    files = section_names.words_of(section_names.paths_in(folder))
     ran = subprocess.run([program, *command, "--v4", *files], stdout=subprocess.PIPE)
     return ran.returncode, ran.stdout.decode("latin-1").splitlines()
 

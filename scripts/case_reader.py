@@ -1,21 +1,19 @@
 """Reads files of cases. scripts/cases.py says how they are written."""
 
 import ast
-import collections
 import dataclasses
 import os
 import re
 import sys
 
+import section_names
+
 TOP = os.path.dirname(os.path.dirname(os.path.abspath(__file__)))
-FILES = ["info", "abbrev", "str", "line-str", "str-offsets"]
 
 MARK = re.compile(r"(!\^|[$%=~!?|^])(?: |$)")
 NAME = re.compile(r"([a-z][a-z0-9_-]+) =(?: |$)")
 TITLE = re.compile(r"\[.*\]")
 WORD = re.compile(r'"(?:[^"\\]|\\.)*"\S*|\S+')
-
-Case = collections.namedtuple("Case", "place words files answer")
 
 
 @dataclasses.dataclass
@@ -28,6 +26,16 @@ class Answer:
     error: bytes = b""
     error_begins: bytes = b""
     status: int = 0
+
+
+@dataclasses.dataclass
+class Case:
+    """A command: the line where it stands, its words and the files that lie beside it, and what it has to answer."""
+
+    place: str
+    words: list
+    files: dict
+    answer: Answer
 
 
 def words_of(text):
@@ -113,7 +121,7 @@ class Reader:
     def spell(self, text):
         self.spelled += words_of(text)
         self.names[self.name] = bytes_of(self.spelled, self.names)
-        if self.name in FILES:
+        if self.name in section_names.NAMES:
             self.files[self.name] = self.names[self.name]
 
     def ask(self, mark, text):
@@ -121,7 +129,8 @@ class Reader:
             self.name, self.answer, self.is_asked = None, Answer(), True
         words = [unquoted(word) for word in WORD.findall(text)]
         if mark == "$":
-            words += [word.encode() for name in FILES if name in self.files for word in ("--" + name, name)]
+            files = {name: name for name in section_names.NAMES if name in self.files}
+            words += [word.encode() for word in section_names.words_of(files)]
         self.cases.append(Case(self.place, words, dict(self.files), self.answer))
 
     def say(self, answer, mark, text):

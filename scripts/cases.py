@@ -23,8 +23,8 @@ How a line of a FILE begins says what it is:
     !^ TEXT           standard error begins with TEXT, and whatever else may stand there
     ? NUMBER          the status
 
-Unless it is said, there is no output and no error, and the status is 0. Lines `$` and `%` directly below each other have
-one answer in common. Each answer says something, if only `? 0`.
+Unless it is said, there is no output and no error, and the status is 0. Lines `$` and `%` directly below each other
+have one answer in common. Each answer says something, if only `? 0`.
 
 BYTES are words: a byte in hexadecimal, a text as `"a\\0"`, a NAME, or `file:PATH` for a file of the repository, each as
 often as `*COUNT` behind it says. `@OFFSET` puts what follows in the place of the bytes from there on, `..SIZE` cuts off
@@ -59,10 +59,17 @@ $ type 13
 ? 2
 """
 FOUND = "$ find a\n0xc DW_TAG_compile_unit\n"
-WRONG = {"$ find a\n? 0": ["output"], "$ find a\n= info": ["output"], FOUND + "| ": ["output"], "$ find a\n~ 2 \"0xc\"": ["output"],
-         "$ find a\n^ 0xc": ["output"],
-         FOUND + "! memory": ["error"], FOUND + "!^ e": ["error"], FOUND + "? 1": ["status"],
-         "$ find a\n! memory\n? 1": ["output", "error", "status"]}
+WRONG = {
+    "$ find a\n? 0": ["output"],
+    "$ find a\n= info": ["output"],
+    FOUND + "| ": ["output"],
+    '$ find a\n~ 2 "0xc"': ["output"],
+    "$ find a\n^ 0xc": ["output"],
+    FOUND + "! memory": ["error"],
+    FOUND + "!^ e": ["error"],
+    FOUND + "? 1": ["status"],
+    "$ find a\n! memory\n? 1": ["output", "error", "status"],
+}
 
 
 def run(program, case):
@@ -74,8 +81,9 @@ def run(program, case):
             with open(os.path.join(folder, name), "wb") as file:
                 file.write(content)
         output = subprocess.PIPE if target == os.devnull else elsewhere
+        how = {"stdin": subprocess.DEVNULL, "stdout": output, "stderr": subprocess.PIPE, "timeout": SECONDS}
         try:
-            ran = subprocess.run(words, cwd=folder, stdin=subprocess.DEVNULL, stdout=output, stderr=subprocess.PIPE, timeout=SECONDS)
+            ran = subprocess.run(words, cwd=folder, **how)
         except subprocess.TimeoutExpired:
             return b"", b"", None
         return ran.stdout or b"", ran.stderr, ran.returncode
@@ -116,8 +124,10 @@ def judge(program, case):
 def tests_itself(program):
     """Whether right cases pass and wrong ones fail, each in what is wrong."""
     front = "\n".join(RIGHT.split("\n")[:2])
-    right = all(not judge(program, case)[0] for case in Reader("right", RIGHT).cases)
-    return right and all(judge(program, Reader("wrong", f"{front}\n{text}").cases[0])[0] == found for text, found in WRONG.items())
+    if any(judge(program, case)[0] for case in Reader("right", RIGHT).cases):
+        return False
+    wrong = {text: Reader("wrong", f"{front}\n{text}").cases[0] for text in WRONG}
+    return all(judge(program, wrong[text])[0] == found for text, found in WRONG.items())
 
 
 def main(program, *files):

@@ -15,11 +15,11 @@ import re
 import subprocess
 import sys
 import tempfile
+from dataclasses import dataclass, field
+
+import section_names
 
 SECTIONS = os.path.join(os.path.dirname(os.path.abspath(__file__)), "sections.sh")
-
-# The sections that the program is given, as its options name them.
-FILES = ["info", "abbrev", "str", "line-str", "str-offsets"]
 
 # How readelf writes a number that stands in the unit.
 NUMBER = re.compile(
@@ -28,12 +28,36 @@ NUMBER = re.compile(
 )
 
 # How readelf writes a text that stands in another section, and how `dwarf show` writes any text.
-NAMED_TEXT = re.compile(r"\((?:indirect string, offset|indirect line string, offset|indexed string): (?:0x[0-9a-f]+|0)\): (.*)$")
+NAMED_TEXT = re.compile(
+    r"\((?:indirect string, offset|indirect line string, offset|indexed string): (?:0x[0-9a-f]+|0)\): (.*)$"
+)
 QUOTED = re.compile(r'(?:0x[0-9a-f]+ )?"(.*)"$')
 ESCAPED = re.compile(r"\\(?:x([0-9a-f]{2})|(.))")
 
 # The forms of references that count from their unit's first byte. readelf adds the unit's place to them.
 WITHIN_ITS_UNIT = {"DW_FORM_ref1", "DW_FORM_ref2", "DW_FORM_ref4", "DW_FORM_ref8", "DW_FORM_ref_udata"}
+
+
+@dataclass
+class Attribute:
+    """An attribute as one of the two tells it: a number and a text where it has them, and whether it is a reference
+    that counts from its unit, to which readelf adds the unit's place."""
+
+    name: str
+    number: int
+    text: str
+    is_within: bool = False
+
+
+@dataclass
+class Entry:
+    level: int
+    offset: int
+    tag: str
+    attributes: list = field(default_factory=list)
+
+    def head(self):
+        return self.level, self.offset, self.tag
 
 
 def number(text):
@@ -56,7 +80,8 @@ def quoted_text(value):
 
 def dumped(what, file):
     """The lines that readelf writes of a section."""
-    told = subprocess.run(["readelf", f"--debug-dump={what}", file], stdout=subprocess.PIPE, stderr=subprocess.DEVNULL, check=True)
+    words = ["readelf", f"--debug-dump={what}", file]
+    told = subprocess.run(words, stdout=subprocess.PIPE, stderr=subprocess.DEVNULL, check=True)
     return told.stdout.decode("latin-1").split("\n")
 
 
@@ -78,8 +103,7 @@ def forms_by_readelf(file):
 
 
 def by_readelf(file):
-    """The entries as lists of a heading and attributes, as readelf tells them. An attribute has a name, a number,
-    a text, and whether its form is one of a reference that counts from its unit."""
+    """The entries as readelf tells them."""
     forms, table, entries, left = forms_by_readelf(file), 0, [], iter(())
     for line in dumped("info", file):
         unit = re.match(r"   Abbrev Offset: +(0x[0-9a-f]+|0)", line)
@@ -88,12 +112,12 @@ def by_readelf(file):
         if unit:
             table = int(unit[1], 0)
         elif entry:
-            entries.append([(int(entry[1]) + 1, int(entry[2], 16), entry[4])])
+            entries.append(Entry(int(entry[1]) + 1, int(entry[2], 16), entry[4]))
             left = iter(forms.get((table, int(entry[3])), ()))
         elif attribute and entries:
             form = next(left, "")
-            text = named_text(attribute[2], form)
-            entries[-1].append((attribute[1], number(attribute[2].strip()), text, form in WITHIN_ITS_UNIT))
+            told = number(attribute[2].strip()), named_text(attribute[2], form)
+            entries[-1].attributes.append(Attribute(attribute[1], *told, form in WITHIN_ITS_UNIT))
     return entries
 
 
@@ -102,7 +126,7 @@ def by_show(program, file):
     with tempfile.TemporaryDirectory() as room:
         if subprocess.run(["sh", SECTIONS, file, room]).returncode:
             sys.exit(1)
-        words = [it for name in FILES for it in (f"--{name}", f"{room}/debug_{name.replace('-', '_')}")]
+        words = section_names.words_of(section_names.paths_in(room))
         told = subprocess.run([program, "show", *words], stdout=subprocess.PIPE, check=True)
     return shown(told.stdout.decode())
 
@@ -116,10 +140,11 @@ def shown(text):
         if unit:
             places.append(range(int(unit[1], 16), int(unit[1], 16) + int(unit[2])))
         elif entry:
-            entries.append([(int(entry[1]), int(entry[2], 16), entry[3])])
+            entries.append(Entry(int(entry[1]), int(entry[2], 16), entry[3]))
         elif line.startswith("  "):
             name, _, value = line.strip().partition(" ")
-            entries[-1].append((name, number(value.partition(" -> ")[0].partition(' "')[0]), quoted_text(value)))
+            told = number(value.partition(" -> ")[0].partition(' "')[0]), quoted_text(value)
+            entries[-1].attributes.append(Attribute(name, *told))
     return entries, places
 
 
@@ -139,23 +164,24 @@ def differences(ours, theirs, places):
     lines, numbers, texts = [], 0, 0
     if len(ours) != len(theirs):
         lines.append(f"{len(ours)} entries, and {len(theirs)} by readelf")
-    for (head, *attributes), (their_head, *their_attributes) in zip(ours, theirs):
-        same = head[:2] == their_head[:2] and same_name(head[2], their_head[2])
-        if not same or len(attributes) != len(their_attributes):
-            lines.append(f"{head} with {len(attributes)} attributes, {their_head} with {len(their_attributes)} by readelf")
-        start = place_of(places, head[1]).start
-        for (name, value, text), (their_name, their_value, their_text, refers) in zip(attributes, their_attributes):
-            if not same_name(name, their_name):
-                lines.append(f"{head}: {name}, {their_name} by readelf")
+    for own, other in zip(ours, theirs):
+        same = own.head()[:2] == other.head()[:2] and same_name(own.tag, other.tag)
+        if not same or len(own.attributes) != len(other.attributes):
+            told = f"{own.head()} with {len(own.attributes)} attributes"
+            lines.append(f"{told}, {other.head()} with {len(other.attributes)} by readelf")
+        start = place_of(places, own.offset).start
+        for mine, its in zip(own.attributes, other.attributes):
+            if not same_name(mine.name, its.name):
+                lines.append(f"{own.head()}: {mine.name}, {its.name} by readelf")
                 continue
-            if their_text is not None:
+            if its.text is not None:
                 texts += 1
-                if text != their_text:
-                    lines.append(f"{head}: {name} {text!r}, {their_text!r} by readelf")
-            if value is not None and their_value is not None:
+                if mine.text != its.text:
+                    lines.append(f"{own.head()}: {mine.name} {mine.text!r}, {its.text!r} by readelf")
+            if mine.number is not None and its.number is not None:
                 numbers += 1
-                if value + (start if refers else 0) != their_value:
-                    lines.append(f"{head}: {name} {value:#x}, {their_value:#x} by readelf")
+                if mine.number + (start if its.is_within else 0) != its.number:
+                    lines.append(f"{own.head()}: {mine.name} {mine.number:#x}, {its.number:#x} by readelf")
     return lines, numbers, texts
 
 
@@ -163,13 +189,13 @@ def main(program, files):
     status = 0
     for file in files:
         ours, places = by_show(program, file)
-        theirs = [it for it in by_readelf(file) if places and place_of(places, it[0][1])]
+        theirs = [it for it in by_readelf(file) if places and place_of(places, it.offset)]
         lines, numbers, texts = differences(ours, theirs, places)
         for line in lines[:20]:
             print(f"{file}: {line}")
-        attributes = sum(len(it) - 1 for it in ours)
-        counts = f"{len(places)} units, {len(ours)} entries, {attributes} attributes, {numbers} numbers and {texts} texts compared"
-        print(f"{file}: {counts}, {len(lines)} differences")
+        attributes = sum(len(it.attributes) for it in ours)
+        counts = f"{len(places)} units, {len(ours)} entries, {attributes} attributes"
+        print(f"{file}: {counts}, {numbers} numbers and {texts} texts compared, {len(lines)} differences")
         status = 1 if lines or not ours else status
     return status
 

@@ -1,12 +1,15 @@
 #!/usr/bin/env python3
-"""Looks at what the scripts for ELF files do: `scripts/elf_sections.py`, `scripts/dwarf`, `scripts/audit` and `scripts/install.sh`.
+"""Looks at what the scripts for ELF files do: `scripts/elf_sections.py`, `scripts/dwarf`, `scripts/audit` and
+`scripts/install.sh`.
 
 Usage: scripts/elf_files.py PROGRAM
 
-PROGRAM is the built `dwarf` (crates/dwarf/out/dwarf). A small program is compiled and linked in many ways, where there is a C compiler, and changed at random 500 times in its headers: what is taken
-out of each file is compared with what `readelf -SW` says of its sections. Files that say much of themselves have to be refused in little memory. The scripts are run over folders
-and files as they shouldn't be, with a program that is missing, ended or none, and are ended by signals. The last line is `N passed, M failed`, and the status is 0 where none failed and
-some passed. What can't be tried here, for want of a compiler or of binutils, is said.
+PROGRAM is the built `dwarf` (crates/dwarf/out/dwarf). A small program is compiled and linked in many ways, where there
+is a C compiler, and changed at random 500 times in its headers: what is taken out of each file is compared with what
+`readelf -SW` says of its sections. Files that say much of themselves have to be refused in little memory. The scripts
+are run over folders and files as they shouldn't be, with a program that is missing, ended or none, and are ended by
+signals. The last line is `N passed, M failed`, and the status is 0 where none failed and some passed. What can't be
+tried here, for want of a compiler or of binutils, is said.
 """
 
 import csv
@@ -23,9 +26,11 @@ import sys
 import tempfile
 import time
 import zlib
+from dataclasses import dataclass
 
 import elf_sections
 import front_door
+import section_names
 
 TOP = os.path.dirname(os.path.dirname(os.path.abspath(__file__)))
 
@@ -33,40 +38,44 @@ SOURCE = "struct point { int x, y; }; struct point origin; int main(void) { retu
 
 # How the program is compiled, and what is done with it then.
 WAYS = [
-    "-gdwarf-5", "-gdwarf-4", "-gdwarf-3", "-gdwarf-2", "-gdwarf-5 -gz=zlib", "-gdwarf-4 -gz=zlib", "-gdwarf-5 -O2", "-gdwarf-5 -g3", "-gdwarf-5 -gdwarf64", "-g0", "-gdwarf-5 -static",
-    "-gdwarf-5 -shared -fPIC", "-gdwarf-5 -no-pie", "-gdwarf-5 -Wl,--emit-relocs", "-gdwarf-5 -c", "-gdwarf-5 -gz=zlib -c", "-gdwarf-5 -ffunction-sections", "-gdwarf-5 -gsplit-dwarf",
-    "-gdwarf-5 -s", "-gdwarf-5 -fdebug-types-section",
+    *("-gdwarf-5", "-gdwarf-4", "-gdwarf-3", "-gdwarf-2", "-gdwarf-5 -gz=zlib", "-gdwarf-4 -gz=zlib"),
+    *("-gdwarf-5 -O2", "-gdwarf-5 -g3", "-gdwarf-5 -gdwarf64", "-g0"),
+    *("-gdwarf-5 -static", "-gdwarf-5 -shared -fPIC", "-gdwarf-5 -no-pie", "-gdwarf-5 -Wl,--emit-relocs"),
+    *("-gdwarf-5 -c", "-gdwarf-5 -gz=zlib -c", "-gdwarf-5 -ffunction-sections", "-gdwarf-5 -gsplit-dwarf"),
+    *("-gdwarf-5 -s", "-gdwarf-5 -fdebug-types-section"),
 ]
 CHANGED = 500
 
 # A line of `readelf -SW`: the section's name and kind, its address, offset, size and entry size, its flags.
-SECTION = re.compile(r"(?m)^ +\[ *\d+\] (\.debug_\w+) +(\S.*?) +[0-9a-f]{8,} ([0-9a-f]{6,}) ([0-9a-f]{6,}) [0-9a-f]{2,} +([A-Za-z]*) ")
+SECTION = re.compile(
+    r"(?m)^ +\[ *\d+\] (\.debug_\w+) +(\S.*?) +[0-9a-f]{8,} ([0-9a-f]{6,}) ([0-9a-f]{6,}) [0-9a-f]{2,} +([A-Za-z]*) "
+)
 
 # The memory of a process, in bytes, within which a file has to be refused.
 ROOM = 300 << 20
 
 
-class Judged(front_door.Judged):
-    def judge(self, holds, what):
-        if holds:
-            self.passed += 1
-        else:
-            self.failed += 1
-            print(f"elf_files.py: {what}")
-
-
 # ---- sections, beside readelf
 
 
+@dataclass
+class Told:
+    """What `readelf` tells of a section: where it lies in the file, and whether it is compressed."""
+
+    offset: int
+    size: int
+    is_packed: bool
+
+
 def told_by_readelf(path):
-    """The sections of debugging entries by their names, as `readelf` tells of them: kind, offset, size and flags; None where it complains."""
+    """The sections of debugging entries by their names, as `readelf` tells of them; None where it complains."""
     ran = subprocess.run(["readelf", "-SW", path], capture_output=True, text=True, errors="replace", check=False)
     if ran.returncode or ran.stderr:
         return None
     found = {}
     for name, kind, offset, size, flags in re.findall(SECTION, ran.stdout):
-        if name[1:] in elf_sections.OPTIONS and kind != "NOBITS":
-            found[name[1:]] = (int(offset, 16), int(size, 16), flags)
+        if name[1:] in section_names.FILES and kind != "NOBITS":
+            found[name[1:]] = Told(int(offset, 16), int(size, 16), "C" in flags)
     return found
 
 
@@ -74,10 +83,11 @@ def wanted(path, told):
     """The bytes of the sections that `readelf` tells of."""
     with open(path, "rb") as file:
         whole = file.read()
+    head = 24 if whole[4] == 2 else 12
     found = {}
-    for name, (offset, size, flags) in told.items():
-        content = whole[offset : offset + size]
-        found[name] = zlib.decompress(content[24:] if whole[4] == 2 else content[12:]) if "C" in flags else content
+    for name, it in told.items():
+        content = whole[it.offset : it.offset + it.size]
+        found[name] = zlib.decompress(content[head:]) if it.is_packed else content
     return found
 
 
@@ -88,7 +98,7 @@ def taken(path, folder):
     except elf_sections.Unreadable as why:
         return None, why.kind
     found = {}
-    for name in elf_sections.OPTIONS:
+    for name in section_names.FILES:
         with open(os.path.join(folder, name), "rb") as file:
             found[name] = file.read()
     return found, ""
@@ -105,7 +115,8 @@ def compare(judged, path, folder, what):
     except zlib.error:
         judged.judge(False, f"{what}: it is taken apart, and zlib can't inflate it")
         return why
-    judged.judge(all(found[name] == given.get(name, b"") for name in elf_sections.OPTIONS), f"{what}: {path}: other sections than readelf's")
+    is_same = all(found[name] == given.get(name, b"") for name in section_names.FILES)
+    judged.judge(is_same, f"{what}: {path}: other sections than readelf's")
     return why
 
 
@@ -118,7 +129,8 @@ def judge_sections(judged, folder):
         file.write(SOURCE)
     for number, way in enumerate(WAYS):
         path = f"{folder}/elf{number}"
-        if subprocess.run(["cc", *way.split(), "-o", path, source], cwd=folder, capture_output=True, check=False).returncode == 0:
+        words = ["cc", *way.split(), "-o", path, source]
+        if subprocess.run(words, cwd=folder, capture_output=True, check=False).returncode == 0:
             made.append((path, way))
     judged.judge(len(made) >= 16, f"of {len(WAYS)} ways to compile {len(made)} are known here")
     room = f"{folder}/room"
@@ -158,17 +170,22 @@ def within(words, room=ROOM, seconds=60):
     def limit():
         resource.setrlimit(resource.RLIMIT_AS, (room, room))
 
-    return subprocess.run(words, capture_output=True, text=True, errors="replace", preexec_fn=limit, timeout=seconds, check=False)
+    how = {"capture_output": True, "text": True, "errors": "replace", "timeout": seconds, "check": False}
+    return subprocess.run(words, preexec_fn=limit, **how)
 
 
 def elf_with(count, names, each=b""):
     """An ELF file of so many section headers, all of whose names begin somewhere in a table of this size."""
-    headers = b"".join(struct.pack("<II4QII2Q", at % max(1, names), 1, 0, 0, 64, 0, 0, 0, 1, 0) for at in range(1, count - 1))
+    places = (at % max(1, names) for at in range(1, count - 1))
+    headers = b"".join(struct.pack("<II4QII2Q", at, 1, 0, 0, 64, 0, 0, 0, 1, 0) for at in places)
     table = struct.pack("<II4QII2Q", 0, 3, 0, 0, 64, names, 0, 0, 1, 0)
     ident = b"\x7fELF" + bytes([2, 1, 1]) + bytes(9)
     start = 64 + names + len(each)
-    head = ident + struct.pack("<HHI3QI6H", 2, 62, 1, 0, 0, start, 0, 64, 0, 0, 64, count if count < 0xFF00 else 0, count - 1 if count < 0xFF00 else 0xFFFF)
-    return head + b"a" * names + each + struct.pack("<II4QII2Q", 0, 0, 0, 0, 0, count, count - 1, 0, 0, 0) + headers + table
+    # (how many sections there are, and which has the names, stands elsewhere where these are many)
+    counts = (count, count - 1) if count < 0xFF00 else (0, 0xFFFF)
+    head = ident + struct.pack("<HHI3QI6H", 2, 62, 1, 0, 0, start, 0, 64, 0, 0, 64, *counts)
+    first = struct.pack("<II4QII2Q", 0, 0, 0, 0, 0, count, count - 1, 0, 0, 0)
+    return head + b"a" * names + each + first + headers + table
 
 
 def judge_hostile(judged, folder):
@@ -177,7 +194,8 @@ def judge_hostile(judged, folder):
 
     def refused(what, kind):
         ran = within([sys.executable, script, path, room])
-        judged.judge(ran.returncode == 1 and ran.stderr.count("\n") == 1 and kind in ran.stderr, f"{what}: {ran}")
+        is_one_line = ran.stderr.count("\n") == 1 and kind in ran.stderr
+        judged.judge(ran.returncode == 1 and is_one_line, f"{what}: {ran}")
 
     # many names that end nowhere, in 392 KB
     with open(path, "wb") as file:
@@ -185,16 +203,19 @@ def judge_hostile(judged, folder):
     refused("names without an end", "has no debugging entries")
     # sections without number, in a file that takes no room
     with open(path, "wb") as file:
-        file.write(struct.pack("<4sBBB9xHHI3QI6H", b"\x7fELF", 2, 1, 1, 2, 62, 1, 0, 0, 64, 0, 64, 0, 0, 64, 0, 0xFFFF) + struct.pack("<II4QII2Q", 0, 0, 0, 0, 0, 1 << 34, 0, 0, 0, 0))
+        head = b"\x7fELF", 2, 1, 1, 2, 62, 1, 0, 0, 64, 0, 64, 0, 0, 64, 0, 0xFFFF
+        file.write(struct.pack("<4sBBB9xHHI3QI6H", *head))
+        file.write(struct.pack("<II4QII2Q", 0, 0, 0, 0, 0, 1 << 34, 0, 0, 0, 0))
         file.truncate(1 << 40)
     refused("sections without number", "sections")
     # compressed zeros: more than is announced, and more than may be
-    unit = {"debug_info": b"\0" * (64 << 20), "debug_abbrev": b"\0"}
+    contents = {front_door.INFO: b"\0" * (64 << 20), front_door.ABBREV: b"\0"}
     with open(path, "wb") as file:
-        file.write(front_door.elf_file("<", True, 1, 2, unit))
+        file.write(front_door.elf_file("<", True, 1, 2, contents))
     began = time.monotonic()
     ran = within([sys.executable, script, path, room])
-    judged.judge(ran.returncode == 0 and time.monotonic() - began < 8, f"64 MB of zeros take {time.monotonic() - began:.1f} seconds: {ran}")
+    took = time.monotonic() - began
+    judged.judge(ran.returncode == 0 and took < 8, f"64 MB of zeros take {took:.1f} seconds: {ran}")
     ran = within([sys.executable, script, path, room, "--most", "1000000"])
     judged.judge(ran.returncode == 1 and "more than the 1000000" in ran.stderr, f"more than is asked for: {ran}")
     with open(path, "rb") as file:
@@ -212,7 +233,9 @@ def judge_hostile(judged, folder):
 
 
 def script(name, *words, env=None, **how):
-    return subprocess.run([f"{TOP}/scripts/{name}", *words], capture_output=True, text=True, errors="surrogateescape", env={**os.environ, **(env or {})}, timeout=120, check=False, **how)
+    """What a script does and says, with these variables besides."""
+    how |= {"capture_output": True, "text": True, "errors": "surrogateescape", "timeout": 120, "check": False}
+    return subprocess.run([f"{TOP}/scripts/{name}", *words], env={**os.environ, **(env or {})}, **how)
 
 
 def rows_in(text):
@@ -223,11 +246,14 @@ def judge_dwarf(judged, program, own, folder):
     env = {"DWARF": program}
     for words, status in ((["--help"], 0), ([own], 2), ([], 2)):
         ran = script("dwarf", *words, env=env)
-        judged.judge(ran.returncode == status and (ran.stdout if not status else ran.stderr).startswith("Runs"), f"scripts/dwarf {words}: {ran}")
+        said = ran.stderr if status else ran.stdout
+        judged.judge(ran.returncode == status and said.startswith("Runs"), f"scripts/dwarf {words}: {ran}")
     here, there = script("dwarf", own, "show", env=env), script("dwarf", "show", own, env=env)
-    judged.judge(here.returncode == 0 and here.stdout and here.stdout == there.stdout, f"scripts/dwarf show FILE: {there}")
+    is_same = here.returncode == 0 and here.stdout and here.stdout == there.stdout
+    judged.judge(is_same, f"scripts/dwarf show FILE: {there}")
     named = script("dwarf", "find", own, "main", env=env)
-    judged.judge(named.returncode == 0 and "DW_TAG_subprogram" in named.stdout, f"scripts/dwarf find FILE main: {named}")
+    holds = named.returncode == 0 and "DW_TAG_subprogram" in named.stdout
+    judged.judge(holds, f"scripts/dwarf find FILE main: {named}")
     for none in (f"{folder}/no-such-program", f"{folder}/own.c"):
         ran = script("dwarf", own, "show", env={"DWARF": none})
         judged.judge(ran.returncode == 3 and not ran.stdout, f"scripts/dwarf without a program ({none}): {ran}")
@@ -249,15 +275,19 @@ def judge_signals(judged, own, folder):
     below = f"{folder}/below"
     os.mkdir(below)
     shutil.copy(own, below)
+    env = {**os.environ, "DWARF": slow, "TMPDIR": room}
+    how = {"env": env, "stdout": subprocess.DEVNULL, "stderr": subprocess.DEVNULL}
     for name, words in (("dwarf", [own, "show"]), ("audit", [below])):
         for number in (signal.SIGTERM, signal.SIGINT):
             open(f"{folder}/began", "w", encoding="utf-8").close()
-            ran = subprocess.Popen([f"{TOP}/scripts/{name}", *words], env={**os.environ, "DWARF": slow, "TMPDIR": room}, stdout=subprocess.DEVNULL, stderr=subprocess.DEVNULL)
+            ran = subprocess.Popen([f"{TOP}/scripts/{name}", *words], **how)
             pids = waited_for(lambda: open(f"{folder}/began", encoding="utf-8").read().split())
             ran.send_signal(number)
             status = ran.wait(timeout=30)
             gone = waited_for(lambda: not any(is_there(int(pid)) for pid in pids))
-            judged.judge(pids and gone and status == 128 + number and not os.listdir(room), f"scripts/{name} ended by {number.name}: status {status}, {os.listdir(room)}, {pids}")
+            left = os.listdir(room)
+            holds = pids and gone and status == 128 + number and not left
+            judged.judge(holds, f"scripts/{name} ended by {number.name}: status {status}, {left}, {pids}")
 
 
 def waited_for(what):
@@ -276,25 +306,22 @@ def is_there(pid):
     return True
 
 
+# What becomes of the program, by how it is compiled.
+RESULTS = {
+    **dict.fromkeys(("-gdwarf-5", "-gdwarf-4", "-gdwarf-5 -Wl,--emit-relocs"), "sound"),
+    **dict.fromkeys(("-gdwarf-3", "-gdwarf-2"), "unread"),
+    "-gdwarf-5 -c": "unlinked",
+    "-g0": "none",
+}
+
+
 def judge_audit(judged, program, made, folder):
     env, below = {"DWARF": program}, f"{folder}/-audited"
     os.mkdir(below)
-    named = {}
-    for path, way in made:
-        name = f"{below}/{os.path.basename(path)}"
-        shutil.copy(path, name)
-        named[way] = name
+    named = {way: shutil.copy(path, below) for path, way in made}
     odd = f'{below}/a "quoted"\nname, too'
     shutil.copy(made[0][0], odd)
-    ran = subprocess.run([f"{TOP}/scripts/audit", "--", "-audited"], cwd=folder, capture_output=True, text=True, env={**os.environ, **env}, timeout=120, check=False)
-    rows = list(csv.DictReader(ran.stdout.splitlines(keepends=True)))
-    results = {f"{folder}/{row['file']}": row for row in rows}
-    expected = {"-gdwarf-5": "sound", "-gdwarf-4": "sound", "-gdwarf-3": "unread", "-gdwarf-2": "unread", "-gdwarf-5 -c": "unlinked", "-g0": "none", "-gdwarf-5 -Wl,--emit-relocs": "sound"}
-    for way, result in expected.items():
-        if way in named:
-            judged.judge(results.get(named[way], {}).get("result") == result, f"audit: {way}: {results.get(named[way])}")
-    judged.judge(results.get(odd, {}).get("result") == "sound", f"audit: a path with a newline: {results.get(odd)}")
-    judged.judge(len(rows) == len(named) + 1 and ran.returncode == 1, f"audit: {len(rows)} rows of {len(named) + 1} files, status {ran.returncode}")
+    judge_results(judged, env, named, odd, folder)
     for words, status in (([f"{folder}/nowhere"], 2), ([odd], 2), ([], 2)):
         ran = script("audit", *words, env=env)
         judged.judge(ran.returncode == status, f"scripts/audit {words}: {ran}")
@@ -303,6 +330,20 @@ def judge_audit(judged, program, made, folder):
     judge_killed(judged, made[0][0], folder)
     judge_rows(judged, env, made[:3], folder)
     judge_unreadable(judged, env, made[0][0], folder)
+
+
+def judge_results(judged, env, named, odd, folder):
+    """What is said of the files by how they were compiled, and of one with an odd name."""
+    ran = script("audit", "--", "-audited", cwd=folder, env=env)
+    rows = list(csv.DictReader(ran.stdout.splitlines(keepends=True)))
+    results = {f"{folder}/{row['file']}": row for row in rows}
+    for way, result in RESULTS.items():
+        if way in named:
+            found = results.get(named[way])
+            judged.judge((found or {}).get("result") == result, f"audit: {way}: {found}")
+    judged.judge(results.get(odd, {}).get("result") == "sound", f"audit: a path with a newline: {results.get(odd)}")
+    holds = len(rows) == len(named) + 1 and ran.returncode == 1
+    judged.judge(holds, f"audit: {len(rows)} rows of {len(named) + 1} files, status {ran.returncode}")
 
 
 def judge_killed(judged, own, folder):
@@ -316,11 +357,19 @@ def judge_killed(judged, own, folder):
         shutil.copy(own, f"{below}/{name}")
     ran = script("audit", below, "--jobs", "1", env={"DWARF": killer})
     rows = rows_in(ran.stdout)
-    judged.judge(len(rows) == 3 and ran.returncode == 1 and all(it["result"] == "failed" and "SIGKILL" in it["which"] for it in rows.values()), f"scripts/audit, each checker killed: {ran}")
+    are_killed = all(it["result"] == "failed" and "SIGKILL" in it["which"] for it in rows.values())
+    holds = len(rows) == 3 and ran.returncode == 1 and are_killed
+    judged.judge(holds, f"scripts/audit, each checker killed: {ran}")
+
+
+def without_seconds(rows):
+    """The lines of rows, without what differs from run to run."""
+    return {it.rpartition(",")[0] for it in rows.decode("utf-8", "surrogateescape").splitlines()}
 
 
 def judge_rows(judged, env, made, folder):
-    """A run goes on from its rows, from a line that was cut, and not from others' rows; rows that others made are taken up."""
+    """A run goes on from its rows, from a line that was cut, and not from others' rows; rows that others made are taken
+    up."""
     path, below = f"{folder}/rows.csv", f"{folder}/few"
     os.mkdir(below)
     for one, _ in made:
@@ -334,24 +383,37 @@ def judge_rows(judged, env, made, folder):
         again = script("audit", below, "--csv", path, env=env)
         with open(path, "rb") as file:
             now = file.read()
-        same = {it.rpartition(",")[0] for it in now.decode("utf-8", "surrogateescape").splitlines()} == {it.rpartition(",")[0] for it in whole.decode("utf-8", "surrogateescape").splitlines()}
-        judged.judge(again.returncode == first.returncode and same and len(now.splitlines()) == len(whole.splitlines()), f"scripts/audit --csv, cut at {cut}: {again}")
+        is_same = without_seconds(now) == without_seconds(whole) and len(now.splitlines()) == len(whole.splitlines())
+        holds = again.returncode == first.returncode and is_same
+        judged.judge(holds, f"scripts/audit --csv, cut at {cut}: {again}")
     with open(path, "w", encoding="utf-8") as file:
         file.write("a,b\n1,2\n")
     other = script("audit", below, "--csv", path, env=env)
-    judged.judge(other.returncode == 2 and open(path, encoding="utf-8").read() == "a,b\n1,2\n", f"scripts/audit --csv over another file: {other}")
+    is_kept = open(path, encoding="utf-8").read() == "a,b\n1,2\n"
+    judged.judge(other.returncode == 2 and is_kept, f"scripts/audit --csv over another file: {other}")
     os.remove(path)
-    left = subprocess.run([f"{TOP}/scripts/audit", below, "--csv", path, "--left"], env={**os.environ, **env}, capture_output=True, timeout=60, check=False).stdout.split(b"\0")
+    judge_shared(judged, env, first.returncode, below, path)
+
+
+def judge_shared(judged, env, status, below, path):
+    """Rows that others made, of the paths that have none, are taken up."""
+    audit, how = os.fsencode(f"{TOP}/scripts/audit"), {"env": {**os.environ, **env}, "timeout": 60, "check": False}
+    listed = subprocess.run([audit, below, "--csv", path, "--left"], capture_output=True, **how)
+    left = listed.stdout.split(b"\0")
     with open(path, "ab") as file:
         for one in filter(None, left):
-            ran = subprocess.run([os.fsencode(f"{TOP}/scripts/audit"), b"--one=" + one], env={**os.environ, **env}, stdout=file, timeout=60, check=False)
+            ran = subprocess.run([audit, b"--one=" + one], stdout=file, **how)
             judged.judge(ran.returncode == 0, f"scripts/audit --one={one}: {ran}")
     again = script("audit", below, "--csv", path, env=env)
-    judged.judge(again.returncode == first.returncode and len(left) > 2 and len(rows_in(open(path, newline="", encoding="utf-8").read())) > 2, f"scripts/audit, rows that others made: {again}")
+    with open(path, newline="", encoding="utf-8") as file:
+        rows = rows_in(file.read())
+    holds = again.returncode == status and len(left) > 2 and len(rows) > 2
+    judged.judge(holds, f"scripts/audit, rows that others made: {again}")
 
 
 def judge_unreadable(judged, env, own, folder):
-    """A file and a folder that may not be read have rows (where the tests run as a user to whom something can be forbidden)."""
+    """A file and a folder that may not be read have rows (where the tests run as a user to whom something can be
+    forbidden)."""
     below = f"{folder}/closed"
     os.makedirs(f"{below}/folder")
     shutil.copy(own, f"{below}/file")
@@ -373,7 +435,8 @@ def judge_unreadable(judged, env, own, folder):
     ran = script("audit", below, env={**env, "TMPDIR": room, "PYTHONDONTWRITEBYTECODE": "1"}, preexec_fn=as_nobody)
     rows = rows_in(ran.stdout)
     results = {os.path.relpath(path, below): row["result"] for path, row in rows.items()}
-    judged.judge(results.get("file") == results.get("folder") == "failed" and ran.returncode == 1, f"scripts/audit over what may not be read: {results} {ran.stderr[:300]}")
+    holds = results.get("file") == results.get("folder") == "failed" and ran.returncode == 1
+    judged.judge(holds, f"scripts/audit over what may not be read: {results} {ran.stderr[:300]}")
     os.chmod(f"{below}/folder", 0o755)
 
 
@@ -389,12 +452,17 @@ def judge_install(judged, folder):
     os.symlink(f"{folder}/elsewhere", f"{stage}{prefix}/bin/dwarf")
     ran = script("install.sh", prefix.removeprefix("/"), env={"DESTDIR": stage})
     judged.judge(ran.returncode == 0, f"scripts/install.sh: {ran}")
-    judged.judge(open(f"{folder}/elsewhere", encoding="utf-8").read() == "mine" and not os.path.islink(f"{stage}{prefix}/bin/dwarf"), "scripts/install.sh writes through a link")
+    is_kept = open(f"{folder}/elsewhere", encoding="utf-8").read() == "mine"
+    holds = is_kept and not os.path.islink(f"{stage}{prefix}/bin/dwarf")
+    judged.judge(holds, "scripts/install.sh writes through a link")
+    how = {"capture_output": True, "text": True, "check": False}
     for name in ("dwarf-elf", "dwarf-audit"):
-        ran = subprocess.run([f"{stage}{prefix}/bin/{name}", "--help"], capture_output=True, text=True, env={"PATH": os.environ["PATH"]}, check=False)
+        ran = subprocess.run([f"{stage}{prefix}/bin/{name}", "--help"], env={"PATH": os.environ["PATH"]}, **how)
         judged.judge(ran.returncode == 0 and "Usage" in ran.stdout, f"{name} where it is installed: {ran}")
-    if os.path.isfile(f"{stage}{prefix}/lib/pkgconfig/rothelduf.pc") and shutil.which("pkg-config"):
-        named = subprocess.run(["pkg-config", "--cflags", "rothelduf"], capture_output=True, text=True, env={**os.environ, "PKG_CONFIG_PATH": f"{stage}{prefix}/lib/pkgconfig"}, check=False)
+    configured = f"{stage}{prefix}/lib/pkgconfig"
+    if os.path.isfile(f"{configured}/rothelduf.pc") and shutil.which("pkg-config"):
+        env = {**os.environ, "PKG_CONFIG_PATH": configured}
+        named = subprocess.run(["pkg-config", "--cflags", "rothelduf"], env=env, **how)
         judged.judge(named.returncode == 0 and "opt/a" in named.stdout, f"pkg-config: {named}")
     ran = script("install.sh", prefix.removeprefix("/"), "--uninstall", env={"DESTDIR": stage})
     left = [name for _, _, names in os.walk(stage) for name in names]
@@ -402,7 +470,7 @@ def judge_install(judged, folder):
 
 
 def main(program):
-    judged = Judged()
+    judged = front_door.Judged("elf_files.py")
     with tempfile.TemporaryDirectory(prefix="elf-files-") as folder:
         made = judge_sections(judged, folder)
         judge_hostile(judged, folder)

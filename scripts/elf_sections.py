@@ -2,8 +2,9 @@
 
 Usage: scripts/elf_sections.py FILE DIR [--most BYTES]
 
-Writes them to files in DIR, as scripts/sections.sh says. Other scripts use it as a module. A section that is compressed (by zlib) is decompressed, to no more
-than it announces, and all of them together to no more than BYTES, by default 16 GiB. Memory stays small, whatever the file says of itself.
+Writes them to files in DIR, as scripts/sections.sh says. Other scripts use it as a module. A section that is compressed
+(by zlib) is decompressed, to no more than it announces, and all of them together to no more than BYTES, by default
+16 GiB. Memory stays small, whatever the file says of itself.
 """
 
 import argparse
@@ -17,23 +18,19 @@ import sys
 import zlib
 from dataclasses import dataclass
 
-# The sections, and the options by which the program is given their files.
-OPTIONS = {
-    "debug_info": "--info",
-    "debug_abbrev": "--abbrev",
-    "debug_str": "--str",
-    "debug_line_str": "--line-str",
-    "debug_str_offsets": "--str-offsets",
-}
-NAMES = {f".{name}".encode(): name for name in OPTIONS}
+import section_names
+
+# The names of the sections as a file spells them, and the files into which they are written.
+NAMES = {f".{file}".encode(): file for file in section_names.FILES}
 LONGEST = max(map(len, NAMES)) + 1
 
-# Of the header: the type of a file that isn't linked, and the number of a section whose own stands in the first section header.
+# Of the header: the type of a file that isn't linked, and the number of a section whose own stands in the first section
+# header.
 RELOCATABLE = 1
 ELSEWHERE = 0xFFFF
 
-# Of a section header: relocations of another section, with and without addends; a section without bytes in the file; the flag of a compressed one. Of a compressed
-# section's header: by zlib.
+# Of a section header: relocations of another section, with and without addends; a section without bytes in the file;
+# the flag of a compressed one. Of a compressed section's header: by zlib.
 RELOCATIONS = (4, 9)
 NO_BYTES = 8
 COMPRESSED = 0x800
@@ -67,7 +64,8 @@ def broken(why):
 
 @dataclass
 class Section:
-    """What a section header says: where the section's name stands, and its bytes in the file; of relocations which section they are of."""
+    """What a section header says: where the section's name stands, and its bytes in the file; of relocations which
+    section they are of."""
 
     name: int
     kind: int
@@ -91,8 +89,10 @@ class Elf:
             raise Unreadable("other", "is no ELF file")
         self.wide, self.order = head[4] == 2, ">" if head[5] == 2 else "<"
         self.is_relocatable = struct.unpack_from(f"{self.order}H", head, 16)[0] == RELOCATABLE
-        self.start, = struct.unpack_from(f"{self.order}Q" if self.wide else f"{self.order}I", head, 40 if self.wide else 32)
-        self.each, self.count, self.names = struct.unpack_from(f"{self.order}HHH", head.ljust(64, b"\0"), 58 if self.wide else 46)
+        place = ("Q", 40) if self.wide else ("I", 32)
+        self.start, = struct.unpack_from(self.order + place[0], head, place[1])
+        counts = struct.unpack_from(f"{self.order}HHH", head.ljust(64, b"\0"), 58 if self.wide else 46)
+        self.each, self.count, self.names = counts
         self.layout = struct.Struct(self.order + ("IIQQQQII" if self.wide else "IIIIIIII"))
 
     def at(self, offset, size):
@@ -105,7 +105,8 @@ class Elf:
         """A section header."""
         if self.each < self.layout.size:
             raise broken("its section headers are too small")
-        name, kind, flags, _, offset, size, link, info = self.layout.unpack(self.at(self.start + number * self.each, self.layout.size))
+        fields = self.layout.unpack(self.at(self.start + number * self.each, self.layout.size))
+        name, kind, flags, _, offset, size, link, info = fields
         return Section(name, kind, flags, offset, size, link, info)
 
     def headers(self):
@@ -153,7 +154,8 @@ class Elf:
             yield self.bytes[at : min(at + most, offset + size)]
 
     def unpacked_size(self, section):
-        """How many bytes a section has, where it is compressed as many as it says, and how many of it are its header."""
+        """How many bytes a section has, where it is compressed as many as it says, and how many of it are its
+        header."""
         if not section.flags & COMPRESSED:
             return section.size, 0
         layout = f"{self.order}IIQ" if self.wide else f"{self.order}II"
@@ -162,7 +164,8 @@ class Elf:
             raise broken("a compressed section has no header")
         kind, *_, size = struct.unpack_from(layout, self.at(section.offset, head))
         if kind != BY_ZLIB:
-            raise Unreadable("packed", "can't be taken apart: a section is compressed in another way than by zlib (try objcopy --decompress-debug-sections)")
+            why = "a section is compressed in another way than by zlib (try objcopy --decompress-debug-sections)"
+            raise Unreadable("packed", f"can't be taken apart: {why}")
         if size > (section.size - head) * ZLIB_FACTOR + ZLIB_MORE:
             raise broken("a compressed section says that it has more bytes than it can have")
         return size, head
@@ -203,21 +206,22 @@ def is_elf(path):
 
 
 def extract(path, folder, most=MOST_BYTES):
-    """Writes the sections to files in a folder, decompressed, one that isn't there as an empty file. The answer is whether they are
-    big-endian."""
+    """Writes the sections to files in a folder, decompressed, one that isn't there as an empty file. The answer is
+    whether they are big-endian."""
     try:
         with opened(path) as file:
             elf = Elf(file)
             found = elf.sections()
             size = sum(elf.unpacked_size(it)[0] for it in found.values())
             if size > most:
-                raise Unreadable("large", f"has {size} bytes of debugging entries, which is more than the {most} that are asked for")
-            for name in OPTIONS:
+                why = f"has {size} bytes of debugging entries, which is more than the {most} that are asked for"
+                raise Unreadable("large", why)
+            for name in section_names.FILES:
                 with open(os.path.join(folder, name), "wb") as out:
                     out.writelines(elf.content(found[name]) if name in found else ())
     except OSError as error:
         raise Unreadable("unreadable", f"can't be read: {error.strerror}") from None
-    if not os.path.getsize(os.path.join(folder, "debug_info")):
+    if not os.path.getsize(section_names.path_in(folder, "info")):
         raise Unreadable("none", "has no debugging entries (.debug_info)")
     return elf.order == ">"
 
@@ -227,8 +231,8 @@ def extract(path, folder, most=MOST_BYTES):
 
 @dataclass
 class Items:
-    """How many items of a section are units of version 5 and of version 4, and how many others, which the program keeps as their bytes. A length of 0, as
-    where a linker padded, is no item."""
+    """How many items of a section are units of version 5 and of version 4, and how many others, which the program keeps
+    as their bytes. A length of 0, as where a linker padded, is no item."""
 
     five: int = 0
     four: int = 0
@@ -279,8 +283,7 @@ def behind_zeros(section, at):
 
 def words_of(folder, big, four):
     """The options of the program over these sections."""
-    words = [word for name, option in OPTIONS.items() for word in (option, os.path.join(folder, name))]
-    return words + ["--big"] * big + ["--v4"] * four
+    return section_names.words_of(section_names.paths_in(folder)) + ["--big"] * big + ["--v4"] * four
 
 
 # ---- the program over them
@@ -292,7 +295,8 @@ PLACES = (os.path.join(HERE, "..", "crates", "dwarf", "out", "dwarf"), os.path.j
 
 
 def program():
-    """The program: the one that the variable DWARF names, or the one at hand, or the one on the path; None where there is none."""
+    """The program: the one that the variable DWARF names, or the one at hand, or the one on the path; None where there
+    is none."""
     if os.environ.get("DWARF"):
         return shutil.which(os.environ["DWARF"])
     return next((it for it in PLACES if os.path.isfile(it) and os.access(it, os.X_OK)), None) or shutil.which("dwarf")

@@ -1,17 +1,20 @@
 #!/usr/bin/env python3
-"""What the gate costs: runs `.ci/run`, and says how many minutes of processor each of its steps took, and of the wrong bodies each crate's rounds.
+"""What the gate costs: runs `.ci/run`, and says how many minutes of processor each of its steps took, and of the wrong
+bodies each crate's rounds.
 
 Usage: scripts/gate-cost.py [COMMAND WORD..]
 
-COMMAND stands in the place of `.ci/run`, as `scripts/wrong_bodies.py dw_leb`. What the command prints goes through, and the table follows it;
-docs/proving.md holds one. The status is the command's.
+COMMAND stands in the place of `.ci/run`, as `scripts/wrong_bodies.py dw_leb`. What the command prints goes through, and
+the table follows it; docs/proving.md holds one. The status is the command's.
 
-Whole commands are timed and nothing else: `.ci/run` tells what each step took, and `scripts/wrong_bodies.py` what the checks of each crate's rounds took. `rt ci` prints a line as it ends with a crate, or with its tests: a table tells by the clock when these came.
-Where this is interrupted, it ends what it runs and prints that table so far.
+Whole commands are timed and nothing else: `.ci/run` tells what each step took, and `scripts/wrong_bodies.py` what the
+checks of each crate's rounds took. `rt ci` prints a line as it ends with a crate, or with its tests: a table tells by
+the clock when these came. Where this is interrupted, it ends what it runs and prints that table so far.
 
-Before it and behind it, the yardstick is measured, TIMES times each: `rt lib` of dw_leb, from nothing with nothing beside it. The sum is told as it is and
-by the yardstick, that is divided by how much longer dw_leb took than its YARDSTICK minutes, in the mean of all: a machine may change while it runs, and one
-yardstick differs by a tenth from the next one. How much it changed is told beside it: all along, a short loop is timed every few seconds on the first
+Before it and behind it, the yardstick is measured, TIMES times each: `rt lib` of dw_leb, from nothing with nothing
+beside it. The sum is told as it is and by the yardstick, that is divided by how much longer dw_leb took than its
+YARDSTICK minutes, in the mean of all: a machine may change while it runs, and one yardstick differs by a tenth from the
+next one. How much it changed is told beside it: all along, a short loop is timed every few seconds on the first
 processor. Nothing is divided by that: it varies four times as much as a yardstick does.
 """
 
@@ -25,11 +28,12 @@ import sys
 import tempfile
 import threading
 import time
+from dataclasses import dataclass
 
 import clones
 
-# The minutes of processor that the library of dw_leb took on the machine by which the budget is set: its check took 1.25, and where that
-# takes 1.79, all of `rt lib` takes 2.16.
+# The minutes of processor that the library of dw_leb took on the machine by which the budget is set: its check took
+# 1.25, and where that takes 1.79, all of `rt lib` takes 2.16.
 YARDSTICK = 1.51
 
 # How many yardsticks are measured before a run, and behind it.
@@ -44,7 +48,8 @@ ROUNDS = re.compile(r"(\w+): [0-9]+ rounds, [0-9]+ checks, ([0-9]+) s of process
 
 
 class Speed(threading.Thread):
-    """How fast the first processor is, by a loop of the same turns that is timed again and again. That is less than a hundredth of its time."""
+    """How fast the first processor is, by a loop of the same turns that is timed again and again. That is less than a
+    hundredth of its time."""
 
     def __init__(self):
         super().__init__(daemon=True)
@@ -64,12 +69,22 @@ class Speed(threading.Thread):
         return 1000 * len(took) / sum(1 / it for it in took) if took else 0.0
 
 
-def minutes_of(words, folder, ended):
-    """The minutes of processor that a command takes with all that it starts, those by the clock, its status, and the lines that it prints,
-    which go through. What `rt ci` ends with, and when, is put into `ended`."""
+@dataclass
+class Whole:
+    """The minutes of processor that a command took with all that it started, those by the clock, its status, and the
+    lines that it printed."""
+
+    minutes: float
+    by_the_clock: float
+    status: int
+    lines: list
+
+
+def whole_run(words, folder, ended):
+    """Runs a command, whose lines go through. What `rt ci` ends with, and when, is put into `ended`."""
     began, lines = time.monotonic(), []
-    how = {"stdin": subprocess.DEVNULL, "stdout": subprocess.PIPE, "stderr": subprocess.STDOUT, "text": True, "errors": "replace"}
-    ran = subprocess.Popen(words, cwd=folder, start_new_session=True, **how)
+    how = {"stdin": subprocess.DEVNULL, "stdout": subprocess.PIPE, "stderr": subprocess.STDOUT}
+    ran = subprocess.Popen(words, cwd=folder, start_new_session=True, text=True, errors="replace", **how)
     with ran:
         try:
             for line in ran.stdout:
@@ -81,7 +96,8 @@ def minutes_of(words, folder, ended):
             raise
         _, status, used = os.wait4(ran.pid, 0)
         ran.returncode = os.waitstatus_to_exitcode(status)
-    return (used.ru_utime + used.ru_stime) / 60, (time.monotonic() - began) / 60, ran.returncode, lines
+    minutes, passed = (used.ru_utime + used.ru_stime) / 60, (time.monotonic() - began) / 60
+    return Whole(minutes, passed, ran.returncode, lines)
 
 
 def print_ends(began, ended):
@@ -118,7 +134,8 @@ def yardsticks(speed):
     took = []
     for _ in range(TIMES):
         minutes, span = yardstick()
-        print(f"The library of dw_leb took {minutes:.2f} minutes alone, and the loop {speed.milliseconds([span]):.1f} milliseconds.", flush=True)
+        loop = f"the loop {speed.milliseconds([span]):.1f} milliseconds"
+        print(f"The library of dw_leb took {minutes:.2f} minutes alone, and {loop}.", flush=True)
         took.append(minutes)
     return took
 
@@ -155,18 +172,21 @@ def main():
     before = yardsticks(speed)
     began, ended = time.monotonic(), []
     try:
-        whole, passed, status, lines = minutes_of(sys.argv[1:] or [".ci/run"], ".", ended)
+        whole = whole_run(sys.argv[1:] or [".ci/run"], ".", ended)
     finally:
         within = (began, time.monotonic())
         print_ends(began, ended)
-    print_table(lines)
+    print_table(whole.lines)
     after = yardsticks(speed)
     speed.ends.set()
     stick = sum(before + after) / (2 * TIMES)
-    print(f"| all | **{whole:.1f}** | {passed:.1f} |\n\nOn {len(os.sched_getaffinity(0))} processors ({processor()}).")
-    print(f"The library of dw_leb took {sum(before) / TIMES:.2f} minutes alone before it and {sum(after) / TIMES:.2f} behind it, {stick / YARDSTICK:.2f} times the yardstick; by that all took {whole * YARDSTICK / stick:.1f}.")
+    print(f"| all | **{whole.minutes:.1f}** | {whole.by_the_clock:.1f} |\n")
+    print(f"On {len(os.sched_getaffinity(0))} processors ({processor()}).")
+    alone = f"{sum(before) / TIMES:.2f} minutes alone before it and {sum(after) / TIMES:.2f} behind it"
+    ratio = f"{stick / YARDSTICK:.2f} times the yardstick; by that all took {whole.minutes * YARDSTICK / stick:.1f}"
+    print(f"The library of dw_leb took {alone}, {ratio}.")
     print(f"The loop took {speed.milliseconds([within]):.1f} milliseconds within the run.")
-    return status
+    return whole.status
 
 
 if __name__ == "__main__":

@@ -3,14 +3,16 @@
 
 Usage: scripts/growth.py PROGRAM [SHAPE..]
 
-PROGRAM is the built `dwarf` (crates/dwarf/out/dwarf). Sections are made that grow in one way each, some as compilers write them and most as a stranger
-would who means to cost us time or memory: deep and wide trees, nulls, entries that have no bytes but their code, lengths that announce what isn't there,
-large tables, many units over one table and over one each, references in rings and to one entry, texts without an end. Each is made in
-three sizes, of which the next is twice the last, and handed to each of its commands. Valgrind counts the instructions of each run. Printed are the bytes of the
-largest sections, the instructions for each of them, how many times as much the last doubling adds as the one before it (linear growth gives 2),
-and, over sections LARGE times as large as the smallest, the most memory in bytes for each byte of the sections, beyond what the program takes anyhow. The status is 1
-where a run ends otherwise than it should, where that number isn't between 1.4 and 2.2, nor over sections twice as large, though a byte takes FEW instructions or more, where the memory is more than MOST bytes a byte,
-or where valgrind or GNU time isn't there, else 0.
+PROGRAM is the built `dwarf` (crates/dwarf/out/dwarf). Sections are made that grow in one way each, some as compilers
+write them and most as a stranger would who means to cost us time or memory: deep and wide trees, nulls, entries that
+have no bytes but their code, lengths that announce what isn't there, large tables, many units over one table and over
+one each, references in rings and to one entry, texts without an end. Each is made in three sizes, of which the next is
+twice the last, and handed to each of its commands. Valgrind counts the instructions of each run. Printed are the bytes
+of the largest sections, the instructions for each of them, how many times as much the last doubling adds as the one
+before it (linear growth gives 2), and, over sections of at least ENOUGH bytes, the most memory in bytes for each byte
+of the sections, with what the program takes anyhow. The status is 1 where a run ends otherwise than it should, where
+that number isn't between 1.4 and 2.2, nor over sections twice as large, though a byte takes FEW instructions or more,
+where the memory is more than MOST bytes a byte, or where valgrind isn't there, else 0.
 """
 
 import os
@@ -20,18 +22,23 @@ import shutil
 import subprocess
 import sys
 import tempfile
+from dataclasses import dataclass
+
+import measured
+import section_names
 
 # The most levels that may stand below the root (docs/definitions.md).
 DEEPEST = 4_095
 
-# Memory is measured over sections so many times as large as the smallest.
+# Memory is measured over sections so many times as large as the smallest, or larger ones.
 LARGE = 64
 
 # The most memory, in bytes for each byte of the sections.
 MOST = 60
 
-# So many bytes of sections tell of memory.
-ENOUGH = 60_000
+# So many bytes of sections tell of memory: beside what they take, the few megabytes that a run takes anyhow, or the
+# process that starts it (scripts/measured.py), are little.
+ENOUGH = 8_000_000
 
 # How many times as much the last doubling may add as the one before it.
 LEAST, GREATEST = 1.4, 2.2
@@ -72,9 +79,21 @@ def unit(body, table=0, head=b"\x01\x08"):
     return four(len(rest)) + rest
 
 
+@dataclass
+class Made:
+    """Sections by their names, the commands that are tried over them, and the status with which these end."""
+
+    files: dict
+    commands: list
+    status: int
+
+    def size(self):
+        return sum(map(len, self.files.values()))
+
+
 def made(table, info, *commands, status=0, **texts):
-    """Sections, the commands that are tried over them, and the status with which they end."""
-    return {"abbrev": table + b"\0", "info": info, **texts}, [it.split() for it in commands], status
+    files = {"abbrev": table + b"\0", "info": info, **{section_names.named(it): text for it, text in texts.items()}}
+    return Made(files, [it.split() for it in commands], status)
 
 
 def under_root(declared, entries, *commands, **texts):
@@ -105,7 +124,8 @@ def within(most, times):
 
 def nesting(times):
     depth, count = within(DEEPEST, times)
-    return made(ROOT, unit(b"\x01" + (b"\x01" * depth + b"\0" * depth) * count + b"\0"), "copy", "show", "check")
+    chain = b"\x01" * depth + b"\0" * depth
+    return made(ROOT, unit(b"\x01" + chain * count + b"\0"), "copy", "show", "check")
 
 
 def chains(times):
@@ -115,12 +135,14 @@ def chains(times):
 
 def chains_with_entries_before(times):
     depth, count = within(DEEPEST, times)
-    return under_root(declaration(2, 0x0A, 0, []), (b"\x02\x01" * depth + b"\0" * depth) * count, "copy", "show", "check")
+    chain = b"\x02\x01" * depth + b"\0" * depth
+    return under_root(declaration(2, 0x0A, 0, []), chain * count, "copy", "show", "check")
 
 
 def chains_with_entries_behind(times):
     depth, count = within(DEEPEST - 1, times)
-    return under_root(declaration(2, 0x0A, 0, []), (b"\x01" * depth + b"\x02\0" * depth) * count, "copy", "show", "check")
+    chain = b"\x01" * depth + b"\x02\0" * depth
+    return under_root(declaration(2, 0x0A, 0, []), chain * count, "copy", "show", "check")
 
 
 def nulls(times):
@@ -137,12 +159,14 @@ def wide_nulls(times):
 
 def attributes(times):
     most, count = within(1_024, times)
-    return under_root(declaration(2, 0x24, 0, [(0x0B, 0x0B)] * most), (b"\x02" + b"\x04" * most) * count, "copy", "show", "check")
+    declared = declaration(2, 0x24, 0, [(0x0B, 0x0B)] * most)
+    return under_root(declared, (b"\x02" + b"\x04" * most) * count, "copy", "show", "check")
 
 
 def flags(times):
     """Entries of one byte, each with 1,024 attributes that have none."""
-    return under_root(declaration(2, 0x34, 0, [(0x2000 + it, 0x19) for it in range(1_024)]), b"\x02" * (10 * times), "copy", "check")
+    declared = declaration(2, 0x34, 0, [(0x2000 + it, 0x19) for it in range(1_024)])
+    return under_root(declared, b"\x02" * (10 * times), "copy", "check")
 
 
 def flags_behind_a_number(times):
@@ -152,11 +176,14 @@ def flags_behind_a_number(times):
 
 def wide_numbers(times):
     """Each entry has 1,000 numbers of sixteen bytes."""
-    return under_root(declaration(2, 0x34, 0, [(0x2000 + it, 0x0F) for it in range(1_000)]), (b"\x02" + (b"\x81" + b"\x80" * 14 + b"\0") * 1_000) * times, "copy", "show", "check")
+    declared = declaration(2, 0x34, 0, [(0x2000 + it, 0x0F) for it in range(1_000)])
+    number = b"\x81" + b"\x80" * 14 + b"\0"
+    return under_root(declared, (b"\x02" + number * 1_000) * times, "copy", "show", "check")
 
 
 def numbers(times):
-    return under_root(declaration(2, 0x34, 0, [(0x0B, 0x0F), (0x1C, 0x0D)]), b"\x02\x85\x01\x7f" * (2_000 * times), "copy", "show", "check")
+    declared = declaration(2, 0x34, 0, [(0x0B, 0x0F), (0x1C, 0x0D)])
+    return under_root(declared, b"\x02\x85\x01\x7f" * (2_000 * times), "copy", "show", "check")
 
 
 # ---- tables and units
@@ -186,14 +213,16 @@ def units_over_one_table(times):
 
 
 def units_over_a_table_each(times):
-    table = declaration(1, 0x11, 0, [(0x13, 0x0B)]) + b"\0"
-    return made(table * (500 * times), b"".join(unit(b"\x01\x04", len(table) * it) for it in range(500 * times)), "copy", "show", "check")
+    table, count = declaration(1, 0x11, 0, [(0x13, 0x0B)]) + b"\0", 500 * times
+    units = b"".join(unit(b"\x01\x04", len(table) * it) for it in range(count))
+    return made(table * count, units, "copy", "show", "check")
 
 
 def tables_of_many_pairs(times):
     """Each unit has one entry, over a table of its own of 1,024 pairs."""
-    table = declaration(1, 0x11, 0, [(0x2000 + it, 0x19) for it in range(1_024)]) + b"\0"
-    return made(table * (8 * times), b"".join(unit(b"\x01", len(table) * it) for it in range(8 * times)), "copy", "check")
+    table, count = declaration(1, 0x11, 0, [(0x2000 + it, 0x19) for it in range(1_024)]) + b"\0", 8 * times
+    units = b"".join(unit(b"\x01", len(table) * it) for it in range(count))
+    return made(table * count, units, "copy", "check")
 
 
 def other_items(times):
@@ -224,9 +253,11 @@ def announced_block(times):
 
 
 def references(times, target):
-    """Each entry has a reference of four bytes in its unit; `target` tells from its number and their count which entry it names."""
+    """Each entry has a reference of four bytes in its unit; `target` tells from its number and their count which entry
+    it names."""
     count = 1_000 * times
-    return under_root(declaration(2, 0x34, 0, [(0x49, 0x13)]), b"".join(b"\x02" + four(target(it, count)) for it in range(count)), "check", "show")
+    named = b"".join(b"\x02" + four(target(it, count)) for it in range(count))
+    return under_root(declaration(2, 0x34, 0, [(0x49, 0x13)]), named, "check", "show")
 
 
 def place(number):
@@ -253,12 +284,17 @@ def between_units(times):
     """Each unit has 100 entries, with references to entries of other units."""
     chance, count, size = random.Random(66), 20 * times, 14 + 100 * 5
     starts = [it * size for it in range(count)]
-    body = lambda: b"\x01" + b"".join(b"\x02" + four(chance.choice(starts) + place(chance.randrange(100))) for _ in range(100)) + b"\0"
-    return made(ROOT + declaration(2, 0x34, 0, [(0x49, 0x10)]), b"".join(unit(body()) for _ in range(count)), "check", "show")
+
+    def entry():
+        return b"\x02" + four(chance.choice(starts) + place(chance.randrange(100)))
+
+    units = [unit(b"\x01" + b"".join(entry() for _ in range(100)) + b"\0") for _ in range(count)]
+    return made(ROOT + declaration(2, 0x34, 0, [(0x49, 0x10)]), b"".join(units), "check", "show")
 
 
 def type_units(times, signature):
-    """Type units, and behind them a unit with a reference to each by its signature, which `signature` tells from its number."""
+    """Type units, and behind them a unit with a reference to each by its signature, which `signature` tells from its
+    number."""
     count = 200 * times
     signed = [signature(it).to_bytes(8, "little") for it in range(count)]
     typed = b"".join(unit(it + four(25) + b"\x03\x02\x04\0", 0, b"\x02\x08") for it in signed)
@@ -280,25 +316,29 @@ def signatures_that_collide(times):
 
 def texts(times):
     # (a byte of a text costs so little that what a run costs anyhow hides it in a short one)
-    return made(declaration(1, 0x11, 0, [(0x03, 0x08)]), unit(b"\x01" + b"a" * (131_072 * times) + b"\0"), "copy", "show", "check")
+    text = b"a" * (131_072 * times) + b"\0"
+    return made(declaration(1, 0x11, 0, [(0x03, 0x08)]), unit(b"\x01" + text), "copy", "show", "check")
 
 
 def texts_without_an_end(times):
     count = 1_000 * times
-    return under_root(declaration(2, 0x34, 0, [(0x03, 0x0E)]), b"".join(b"\x02" + four(it) for it in range(count)), "check", str=b"a" * count)
+    named = b"".join(b"\x02" + four(it) for it in range(count))
+    return under_root(declaration(2, 0x34, 0, [(0x03, 0x0E)]), named, "check", str=b"a" * count)
 
 
 def names_of_one_long_text(times):
     """All entries are named by one text, and what is looked for is its first byte."""
     count = 1_000 * times
-    return under_root(declaration(2, 0x34, 0, [(0x03, 0x0E)]), (b"\x02" + four(0)) * count, "find a", "find aa", str=b"a" * count + b"\0")
+    named, text = (b"\x02" + four(0)) * count, b"a" * count + b"\0"
+    return under_root(declaration(2, 0x34, 0, [(0x03, 0x0E)]), named, "find a", "find aa", str=text)
 
 
 def indices_at_the_edge(times):
     """Texts by an index that leads past 64 bits."""
     root = declaration(1, 0x11, 1, [(0x72, 0x17)])
     body = b"\x01" + b"\xff" * 4 + (b"\x02" + b"\xff" * 9 + b"\x01") * (1_000 * times) + b"\0"
-    return made(root + declaration(2, 0x34, 0, [(0x03, 0x1A)]), unit(body), "check", "show", str_offsets=bytes(64), str=b"a\0")
+    table = root + declaration(2, 0x34, 0, [(0x03, 0x1A)])
+    return made(table, unit(body), "check", "show", str_offsets=bytes(64), str=b"a\0")
 
 
 # ---- types
@@ -307,7 +347,8 @@ def indices_at_the_edge(times):
 def functions_of_arrays(times):
     """Functions of 190 parameters, each of which points to an array."""
     table = ROOT + LEAF + declaration(3, 0x01, 1, [(0x49, 0x13)]) + declaration(4, 0x21, 0, [(0x37, 0x0B)])
-    table += declaration(5, 0x0F, 0, [(0x49, 0x13)]) + declaration(6, 0x15, 1, []) + declaration(7, 0x05, 0, [(0x49, 0x13)])
+    table += declaration(5, 0x0F, 0, [(0x49, 0x13)]) + declaration(6, 0x15, 1, [])
+    table += declaration(7, 0x05, 0, [(0x49, 0x13)])
     leaf, array, pointer = FIRST, FIRST + 2, FIRST + 2 + 5 + 3
     shared = b"\x02\x04" + b"\x03" + four(leaf) + b"\x04\x08\0" + b"\x05" + four(array)
     function = b"\x06" + (b"\x07" + four(pointer)) * 190 + b"\0"
@@ -316,87 +357,87 @@ def functions_of_arrays(times):
 
 
 SHAPES = [
-    *(entries, bare_entries, childless_parents, nesting, chains, chains_with_entries_before, chains_with_entries_behind, nulls, wide_nulls),
+    *(entries, bare_entries, childless_parents, nesting, chains),
+    *(chains_with_entries_before, chains_with_entries_behind, nulls, wide_nulls),
     *(attributes, flags, flags_behind_a_number, wide_numbers, numbers),
-    *(declarations, declarations_falling, declarations_at_random, units_over_one_table, units_over_a_table_each, tables_of_many_pairs, other_items),
+    *(declarations, declarations_falling, declarations_at_random),
+    *(units_over_one_table, units_over_a_table_each, tables_of_many_pairs, other_items),
     *(announced_unit, announced_item, announced_block),
     *(ring, to_one_entry, to_none, backwards, between_units, signatures, signatures_that_collide),
     *(texts, texts_without_an_end, names_of_one_long_text, indices_at_the_edge, functions_of_arrays),
 ]
 
 
-def words_over(program, files, command, room):
-    """The words of a run, for which the sections are written."""
-    words = [program, *command]
-    for name, content in files.items():
-        with open(f"{room}/{name}", "wb") as out:
-            out.write(content)
-        words += [f"--{name.replace('_', '-')}", f"{room}/{name}"]
-    return words
+class Meter:
+    """Measures runs of the program over sections that lie in a folder."""
 
+    def __init__(self, program, room, runner):
+        self.program, self.room, self.runner = program, room, runner
 
-def instructions(words, room):
-    """The status of a run, and how many instructions it takes."""
-    counted = ["valgrind", "--tool=callgrind", f"--callgrind-out-file={room}/counted"]
-    ran = subprocess.run([*counted, *words], stdout=subprocess.DEVNULL, stderr=subprocess.PIPE)
-    told = re.search(rb"Collected : (\d+)", ran.stderr)
-    return ran.returncode, int(told[1]) if told else 0
+    def words(self, given, number):
+        """The words of a run of this command, for which the sections are written."""
+        paths = {name: f"{self.room}/{name}" for name in given.files}
+        for name, path in paths.items():
+            with open(path, "wb") as out:
+                out.write(given.files[name])
+        return [self.program, *given.commands[number], *section_names.words_of(paths)]
 
+    def instructions(self, given, number):
+        """The status of a run, and how many instructions it takes."""
+        counted = ["valgrind", "--tool=callgrind", f"--callgrind-out-file={self.room}/counted"]
+        words = [*counted, *self.words(given, number)]
+        ran = subprocess.run(words, stdout=subprocess.DEVNULL, stderr=subprocess.PIPE)
+        told = re.search(rb"Collected : (\d+)", ran.stderr)
+        return ran.returncode, int(told[1]) if told else 0
 
-def peak(words, room):
-    """The most memory that a run takes, in bytes."""
-    subprocess.run(["time", "-f", "%M", "-o", f"{room}/peak", *words], stdout=subprocess.DEVNULL, stderr=subprocess.DEVNULL)
-    with open(f"{room}/peak", encoding="utf-8") as file:
-        return int(file.read().split()[-1]) * 1_024
+    def memory(self, shape, number):
+        """How many bytes the sections have over which memory is measured, and how many a run takes for each of them."""
+        times, large = LARGE, 0
+        while large < ENOUGH:
+            given = shape(times)
+            before, large, times = large, given.size(), 4 * times
+            if large == before:
+                break
+        return large, self.runner.run(self.words(given, number)).peak / large
 
-
-def measured(program, shape, number, idle, room):
-    """Of a command of a shape, by its number: a row of the table, and whether it is well."""
-    took = []
-    for times in (2, 4, 8, 16):
-        # (lists that double their room make steps, so a factor past the bounds is looked at once more over larger sections)
-        if times == 16 and LEAST <= factor_of(took) <= GREATEST:
-            break
-        files, commands, status = shape(times)
-        ended, count = instructions(words_over(program, files, commands[number], room), room)
-        if ended > 1 or status == 1 and ended != 1 or not count:
-            return f"| {shape.__name__} | `{commands[number][0]}` | ended with {ended} | | | |", False
-        took.append(count)
-        size = sum(map(len, files.values()))
-    factor = factor_of(took)
-    large, each = memory(program, shape, number, idle, room)
-    well = (LEAST <= factor <= GREATEST or took[-1] < FEW * size) and each <= MOST
-    return f"| {shape.__name__} | `{commands[number][0]}` | {size:,} | {took[-1] / size:,.0f} | {factor:.2f} | {each:.1f} |" + f" past its bounds, over {large:,} bytes" * (not well), well
+    def row(self, shape, number):
+        """Of a command of a shape, by its number: a row of the table, and whether it is well."""
+        took = []
+        for times in (2, 4, 8, 16):
+            # (lists that double their room make steps, so a factor past the bounds is looked at once more over larger
+            # sections)
+            if times == 16 and LEAST <= factor_of(took) <= GREATEST:
+                break
+            given = shape(times)
+            front = f"| {shape.__name__} | `{given.commands[number][0]}` |"
+            ended, count = self.instructions(given, number)
+            if ended > 1 or given.status == 1 and ended != 1 or not count:
+                return f"{front} ended with {ended} | | | |", False
+            took.append(count)
+        factor, size = factor_of(took), given.size()
+        large, each = self.memory(shape, number)
+        well = (LEAST <= factor <= GREATEST or took[-1] < FEW * size) and each <= MOST
+        told = f"{front} {size:,} | {took[-1] / size:,.0f} | {factor:.2f} | {each:.1f} |"
+        return told if well else f"{told} past its bounds, over {large:,} bytes", well
 
 
 def factor_of(took):
     return (took[-1] - took[-2]) / (took[-2] - took[-3])
 
 
-def memory(program, shape, number, idle, room):
-    """How many bytes the sections have over which memory is measured, and how many a run takes for each of them."""
-    times, large = LARGE, 0
-    # (what a run takes anyhow differs by some pages from run to run, so few bytes tell nothing)
-    while large < ENOUGH:
-        files, commands, _ = shape(times)
-        before, large, times = large, sum(map(len, files.values())), 4 * times
-        if large == before:
-            break
-    return large, max(0, peak(words_over(program, files, commands[number], room), room) - idle) / large
-
-
 def main(program, wanted):
-    if not shutil.which("valgrind") or not shutil.which("time"):
-        sys.exit("growth.py: valgrind or GNU time is not there")
+    if not shutil.which("valgrind"):
+        sys.exit("growth.py: valgrind is not there")
     passed = failed = 0
-    print("| Shape | Command | Bytes | Instructions a byte | Last doubling by the one before | Memory, bytes a byte |\n|---|---|--:|--:|--:|--:|")
-    with tempfile.TemporaryDirectory() as room:
-        idle = peak(words_over(program, made(ROOT, b"")[0], ["check"], room), room)
+    heads = "| Shape | Command | Bytes | Instructions a byte | Last doubling by the one before | Memory, bytes a byte |"
+    print(f"{heads}\n|---|---|--:|--:|--:|--:|")
+    with tempfile.TemporaryDirectory() as room, measured.Runner() as runner:
+        meter = Meter(program, room, runner)
         for shape in SHAPES:
             if wanted and shape.__name__ not in wanted:
                 continue
-            for number in range(len(shape(2)[1])):
-                row, well = measured(program, shape, number, idle, room)
+            for number in range(len(shape(2).commands)):
+                row, well = meter.row(shape, number)
                 print(row, flush=True)
                 passed, failed = passed + well, failed + (not well)
     print(f"{passed} passed, {failed} failed")

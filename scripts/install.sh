@@ -24,6 +24,7 @@ files() {
 755 scripts/dwarf libexec/rothelduf/dwarf-elf
 755 scripts/audit libexec/rothelduf/dwarf-audit
 644 scripts/elf_sections.py libexec/rothelduf/elf_sections.py
+644 scripts/section_names.py libexec/rothelduf/section_names.py
 644 docs/dwarf.1 share/man/man1/dwarf.1
 644 scripts/completions/dwarf.bash share/bash-completion/completions/dwarf
 644 scripts/completions/_dwarf share/zsh/site-functions/_dwarf

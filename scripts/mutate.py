@@ -16,10 +16,16 @@ import re
 import subprocess
 import sys
 import tempfile
+from dataclasses import dataclass
+
+import section_names
 
 EXAMPLES = os.path.join(os.path.dirname(os.path.abspath(__file__)), "..", "examples")
 
 OF_VERSION_FOUR = ("clang4", "gcc4")
+
+# The sections of an example that are handed over.
+HANDED_OVER = ("info", "abbrev")
 
 FAULT = re.compile(rb"fault (info|abbrev) 0x[0-9a-f]+ [A-Za-z]+\n")
 
@@ -41,43 +47,62 @@ def mutated(section, chance):
     return bytes(b)
 
 
+@dataclass
+class Answer:
+    """How a run ended, and what it wrote to standard output and to standard error."""
+
+    status: int
+    output: bytes
+    error: bytes
+
+
 def answer(program, command, options, room):
-    words = [program, command, "--info", f"{room}/debug_info", "--abbrev", f"{room}/debug_abbrev", *options]
+    words = [program, command, *section_names.words_of(section_names.paths_in(room, HANDED_OVER)), *options]
     ran = subprocess.run(words, stdout=subprocess.PIPE, stderr=subprocess.PIPE, timeout=60)
-    return ran.returncode, ran.stdout, ran.stderr
+    return Answer(ran.returncode, ran.stdout, ran.stderr)
 
 
 def mistake(info, copy, show):
     """What is wrong with the two answers, or None."""
-    if copy[0] != show[0]:
-        return f"statuses {copy[0]} and {show[0]}"
-    if copy[0] == 0:
-        if copy[1] != info:
+    if copy.status != show.status:
+        return f"statuses {copy.status} and {show.status}"
+    if copy.status == 0:
+        if copy.output != info:
             return "accepted, and other bytes are written"
-        shown = show[1].startswith((b"unit 0x0 ", b"other 0x0 ")) or not info
-        return None if shown else f"accepted, and shown as {show[1][:40]!r}"
-    refused = copy[0] == 1 and not copy[1] and not show[1] and copy[2] == show[2] and FAULT.fullmatch(copy[2])
-    return None if refused else f"status {copy[0]}, {copy[2]!r} and {show[2]!r}"
+        shown = show.output.startswith((b"unit 0x0 ", b"other 0x0 ")) or not info
+        return None if shown else f"accepted, and shown as {show.output[:40]!r}"
+    is_silent = not copy.output and not show.output
+    refused = copy.status == 1 and is_silent and copy.error == show.error and FAULT.fullmatch(copy.error)
+    return None if refused else f"status {copy.status}, {copy.error!r} and {show.error!r}"
 
 
 def tried(program, sections, options, chance, room):
     """Writes mutated sections into the room; gives what is wrong with the answers, and whether they accept."""
-    info, abbrev = mutated(sections["debug_info"], chance), sections["debug_abbrev"]
+    given = {**sections, "info": mutated(sections["info"], chance)}
     if chance.random() < 0.3:
-        abbrev = mutated(abbrev, chance)
-    for name, section in [("debug_info", info), ("debug_abbrev", abbrev)]:
-        with open(f"{room}/{name}", "wb") as it:
+        given["abbrev"] = mutated(sections["abbrev"], chance)
+    for name, section in given.items():
+        with open(section_names.path_in(room, name), "wb") as it:
             it.write(section)
     copy = answer(program, "copy", options, room)
-    return mistake(info, copy, answer(program, "show", options, room)), copy[0] == 0
+    return mistake(given["info"], copy, answer(program, "show", options, room)), copy.status == 0
+
+
+def examples_at_hand():
+    """The examples by their names, with the bytes of these sections."""
+    for name in sorted(os.listdir(EXAMPLES)):
+        paths = section_names.paths_in(f"{EXAMPLES}/{name}", HANDED_OVER)
+        if os.path.isfile(paths["info"]):
+            sections = {}
+            for section, path in paths.items():
+                with open(path, "rb") as file:
+                    sections[section] = file.read()
+            yield name, sections
 
 
 def main(program, count=600, seed=1):
     chance = random.Random(seed)
-    examples = []
-    for name in sorted(it for it in os.listdir(EXAMPLES) if os.path.isfile(f"{EXAMPLES}/{it}/debug_info")):
-        with open(f"{EXAMPLES}/{name}/debug_info", "rb") as info, open(f"{EXAMPLES}/{name}/debug_abbrev", "rb") as abbrev:
-            examples.append((name, {"debug_info": info.read(), "debug_abbrev": abbrev.read()}))
+    examples = list(examples_at_hand())
     wrong = accepted = 0
     with tempfile.TemporaryDirectory() as room:
         for turn in range(count):

@@ -5,10 +5,10 @@ Usage: scripts/pieces.py PROGRAM [ABBREV INFO]
 
 PROGRAM is the built `walk` (crates/walk/out/walk). The unit of each folder of `examples` is pushed in pieces of
 several sizes, and each time written and compared with its bytes. Each front of it, and it with each byte changed in
-three ways, is read at hand and pushed in pieces of one byte, and both have to end alike. Over ABBREV and INFO, the sections of one
-unit of some megabytes, instructions are counted by Valgrind: those of the read at hand, and of the feed by the size of
-its pieces, as a multiple of the first. The status is 1 where a unit differs, a run fails, or a multiple is
-above its bound (in one piece and in pieces of 4,096 bytes 1.1, of one byte 30), else 0.
+three ways, is read at hand and pushed in pieces of one byte, and both have to end alike. Over ABBREV and INFO, the
+sections of one unit of some megabytes, instructions are counted by Valgrind: those of the read at hand, and of the feed
+by the size of its pieces, as a multiple of the first. The status is 1 where a unit differs, a run fails, or a multiple
+is above its bound (in one piece and in pieces of 4,096 bytes 1.1, of one byte 30), else 0.
 """
 
 import os
@@ -17,6 +17,8 @@ import shutil
 import subprocess
 import sys
 import tempfile
+
+import section_names
 
 EXAMPLES = os.path.join(os.path.dirname(os.path.dirname(os.path.abspath(__file__))), "examples")
 
@@ -36,9 +38,13 @@ def instructions(program, abbrev, info, size):
         return int(found.group(1))
 
 
+def sections_in(folder):
+    """The table of an example and its unit, as the program is given them."""
+    return section_names.path_in(folder, "abbrev"), section_names.path_in(folder, "info")
+
+
 def same_in_pieces(program, folder):
-    sections = [os.path.join(folder, name) for name in ("debug_abbrev", "debug_info")]
-    run = subprocess.run([program, *sections], capture_output=True, text=True)
+    run = subprocess.run([program, *sections_in(folder)], capture_output=True, text=True)
     lines = run.stdout.split("\n")[:-1]
     return run.returncode == 0 and len(lines) == 7 and all(line.endswith(": true") for line in lines)
 
@@ -71,11 +77,12 @@ def compare_examples(program):
     well = True
     for name in sorted(os.listdir(EXAMPLES)):
         folder = os.path.join(EXAMPLES, name)
-        if os.path.exists(os.path.join(folder, "debug_info")):
+        abbrev, info = sections_in(folder)
+        if os.path.exists(info):
             same = same_in_pieces(program, folder)
-            abbrev, info = (os.path.join(folder, it) for it in ("debug_abbrev", "debug_info"))
             tried, differences = count_differences(program, abbrev, info)
-            print(f"{name}: {'the same in all pieces' if same else 'DIFFERENT'}; {tried} changed, {differences} differences")
+            told = "the same in all pieces" if same else "DIFFERENT"
+            print(f"{name}: {told}; {tried} changed, {differences} differences")
             well = well and same and not differences
     return well
 

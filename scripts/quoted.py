@@ -3,13 +3,15 @@
 
 Usage: scripts/quoted.py
 
-A quotation is a fenced block of README.md or docs/*.md whose first line names a file below crates/ behind the language, as
+A quotation is a fenced block of README.md or docs/*.md whose first line names, behind the language, a file below
+crates/, as
 
     ```antt dw_unit/specs/Unit.antt
 
-Its words have to stand in that file one behind the other, whole, whatever the lines are; `..` alone on a line leaves out words. A fence is spelled as Markdown
-lets one: three or more backquotes or tildes, behind up to three spaces. The last line is `N passed, M failed`, of the quotations, and the status is 0 where none failed and there
-are as many as are known to be.
+Its words have to stand in that file one behind the other, whole, whatever the lines are; `..` alone on a line leaves
+out words. A fence is spelled as Markdown lets one: three or more backquotes or tildes, behind up to three spaces. The
+last line is `N passed, M failed`, of the quotations, and the status is 0 where none failed and there are as many as are
+known to be.
 """
 
 import glob

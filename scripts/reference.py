@@ -1,17 +1,22 @@
 #!/usr/bin/env python3
 """Debugging entries of DWARF read by a program that is slow and simple: a yardstick for readers that are neither.
 
-Usage: scripts/reference.py SUBCOMMAND --info FILE --abbrev FILE [--str FILE] [--line-str FILE] [--str-offsets FILE] [--big] [--v4] WORD..
+Usage: scripts/reference.py SUBCOMMAND --info FILE --abbrev FILE [--str FILE] [--line-str FILE] [--str-offsets FILE]
+                            [--big] [--v4] WORD..
 
-It takes the words of `dwarf` and writes what `dwarf` has to write, with the same lines on standard error and the same status; only the
-texts about words that aren't taken are its own. It follows the definitions in words (docs/definitions.md) and the standard, and shares nothing with
-the sources of the program: so `scripts/cases.py scripts/reference.py cases/show ..` tries it by the cases of the program, and whoever writes a
-reader of their own can compare with it. As a module it has `read_section`, `resolve`, `text_of`, `findings`, `type_text` and `set_number`.
+It takes the words of `dwarf` and writes what `dwarf` has to write, with the same lines on standard error and the same
+status; only the texts about words that aren't taken are its own. It follows the definitions in words
+(docs/definitions.md) and the standard, and shares nothing with the sources of the program: so
+`scripts/cases.py scripts/reference.py cases/show ..` tries it by the cases of the program, and whoever writes a reader
+of their own can compare with it. As a module it has `read_section`, `resolve`, `text_of`, `findings`, `type_text` and
+`set_number`.
 """
 
 import os
 import sys
 from dataclasses import dataclass, field
+
+import section_names
 
 # The limits that the standard leaves open (docs/definitions.md).
 NESTING = 4096
@@ -29,25 +34,28 @@ def numbers(text):
     return {int(number, 16): name for number, name in (it.split() for it in text.replace("\n", " ").split(","))}
 
 
-TAGS = numbers("""01 array_type, 02 class_type, 04 enumeration_type, 05 formal_parameter, 0a label, 0b lexical_block, 0d member, 0f pointer_type,
-10 reference_type, 11 compile_unit, 13 structure_type, 15 subroutine_type, 16 typedef, 17 union_type, 18 unspecified_parameters,
-1c inheritance, 1d inlined_subroutine, 21 subrange_type, 24 base_type, 26 const_type, 28 enumerator, 2e subprogram, 34 variable,
-35 volatile_type, 37 restrict_type, 39 namespace, 3b unspecified_type, 3c partial_unit, 41 type_unit, 42 rvalue_reference_type,
-47 atomic_type, 48 call_site, 49 call_site_parameter, 4a skeleton_unit""")
-ATTRIBUTES = numbers("""01 sibling, 02 location, 03 name, 0b byte_size, 0d bit_size, 10 stmt_list, 11 low_pc, 12 high_pc, 13 language, 1b comp_dir,
-1c const_value, 20 inline, 22 lower_bound, 25 producer, 27 prototyped, 2f upper_bound, 31 abstract_origin, 32 accessibility,
-34 artificial, 37 count, 38 data_member_location, 39 decl_column, 3a decl_file, 3b decl_line, 3c declaration, 3e encoding, 3f external,
-40 frame_base, 47 specification, 49 type, 55 ranges, 57 call_column, 58 call_file, 59 call_line, 69 signature, 6b data_bit_offset,
-6e linkage_name, 72 str_offsets_base, 73 addr_base, 74 rnglists_base, 7a call_all_calls, 7d call_return_pc, 7e call_value,
+TAGS = numbers("""01 array_type, 02 class_type, 04 enumeration_type, 05 formal_parameter, 0a label, 0b lexical_block,
+0d member, 0f pointer_type, 10 reference_type, 11 compile_unit, 13 structure_type, 15 subroutine_type, 16 typedef,
+17 union_type, 18 unspecified_parameters, 1c inheritance, 1d inlined_subroutine, 21 subrange_type, 24 base_type,
+26 const_type, 28 enumerator, 2e subprogram, 34 variable, 35 volatile_type, 37 restrict_type, 39 namespace,
+3b unspecified_type, 3c partial_unit, 41 type_unit, 42 rvalue_reference_type, 47 atomic_type, 48 call_site,
+49 call_site_parameter, 4a skeleton_unit""")
+ATTRIBUTES = numbers("""01 sibling, 02 location, 03 name, 0b byte_size, 0d bit_size, 10 stmt_list, 11 low_pc,
+12 high_pc, 13 language, 1b comp_dir, 1c const_value, 20 inline, 22 lower_bound, 25 producer, 27 prototyped,
+2f upper_bound, 31 abstract_origin, 32 accessibility, 34 artificial, 37 count, 38 data_member_location, 39 decl_column,
+3a decl_file, 3b decl_line, 3c declaration, 3e encoding, 3f external, 40 frame_base, 47 specification, 49 type,
+55 ranges, 57 call_column, 58 call_file, 59 call_line, 69 signature, 6b data_bit_offset, 6e linkage_name,
+72 str_offsets_base, 73 addr_base, 74 rnglists_base, 7a call_all_calls, 7d call_return_pc, 7e call_value,
 7f call_origin, 87 noreturn, 88 alignment, 8c loclists_base""")
 NUMBER_OF_ATTRIBUTE = {name: number for number, name in ATTRIBUTES.items()}
 TAG = {name: number for number, name in TAGS.items()}
 
 # How many bytes the values of a form have (section 7.5.6): a number, an address or an offset of the unit.
 ADDRESS, OFFSET = "address", "offset"
-FIXED = {0x01: ADDRESS, 0x0E: OFFSET, 0x10: OFFSET, 0x17: OFFSET, 0x1D: OFFSET, 0x1F: OFFSET, 0x1F20: OFFSET, 0x1F21: OFFSET}
-FIXED |= dict.fromkeys((0x0B, 0x0C, 0x11, 0x25, 0x29), 1) | dict.fromkeys((0x05, 0x12, 0x26, 0x2A), 2) | dict.fromkeys((0x27, 0x2B), 3)
-FIXED |= dict.fromkeys((0x06, 0x13, 0x1C, 0x28, 0x2C), 4) | dict.fromkeys((0x07, 0x14, 0x20, 0x24), 8) | {0x1E: 16}
+FIXED = {0x01: ADDRESS} | dict.fromkeys((0x0E, 0x10, 0x17, 0x1D, 0x1F, 0x1F20, 0x1F21), OFFSET)
+FIXED |= dict.fromkeys((0x0B, 0x0C, 0x11, 0x25, 0x29), 1) | dict.fromkeys((0x05, 0x12, 0x26, 0x2A), 2)
+FIXED |= dict.fromkeys((0x27, 0x2B), 3) | dict.fromkeys((0x06, 0x13, 0x1C, 0x28, 0x2C), 4)
+FIXED |= dict.fromkeys((0x07, 0x14, 0x20, 0x24), 8) | {0x1E: 16}
 ULEB, SLEB, STRING, PRESENT, INDIRECT, IMPLICIT = (0x0F, 0x15, 0x1A, 0x1B, 0x22, 0x23), (0x0D,), 0x08, 0x19, 0x16, 0x21
 # The length of a block has so many bytes, or is in ULEB128.
 COUNTED = {0x03: 2, 0x04: 4, 0x0A: 1, 0x09: None, 0x18: None}
@@ -151,10 +159,18 @@ class Place:
 
 
 @dataclass
+class Pair:
+    """The name and the form of an attribute, and the constant of implicit_const."""
+
+    name: int
+    form: int
+    constant: int = None
+
+
+@dataclass
 class Declaration:
     tag: int
     has_children: bool
-    # Names, forms, and the constants of implicit_const.
     pairs: list
 
 
@@ -183,7 +199,8 @@ def read_pairs(place):
             return pairs
         if len(pairs) == MOST_PAIRS:
             raise Fault("abbrev", at, "TooManyPairs")
-        pairs.append((name, form, place.field(lambda: place.leb(signed=True)) if form == IMPLICIT else None))
+        constant = place.field(lambda: place.leb(signed=True))[0] if form == IMPLICIT else None
+        pairs.append(Pair(name, form, constant))
 
 
 # ---- headers and units (sections 7.4 and 7.5.1)
@@ -205,8 +222,8 @@ class Header:
 
 @dataclass
 class Value:
-    """What an attribute holds. `kind` is number, wide, uleb, sleb, block, text, present or implicit; `width` that of its number, whose
-    first byte is at `at`."""
+    """What an attribute holds. `kind` is number, wide, uleb, sleb, block, text, present or implicit; `width` that of
+    its number, whose first byte is at `at`."""
 
     name: int
     form: int
@@ -280,7 +297,8 @@ def read_header(place, wide, versions):
     kind = place.field(lambda: place.fixed(1), lambda it: None if it in KINDS else "BadUnitType")
     header = Header(KINDS[kind], wide, read_address_size(place), place.field(lambda: place.fixed(size)))
     if header.kind == "type":
-        header.signature, header.type_offset = place.field(lambda: place.fixed(8)), place.field(lambda: place.fixed(size))
+        header.signature = place.field(lambda: place.fixed(8))
+        header.type_offset = place.field(lambda: place.fixed(size))
     if header.kind == "skeleton":
         header.dwo_id = place.field(lambda: place.fixed(8))
     return header
@@ -290,39 +308,41 @@ def read_address_size(place):
     return place.field(lambda: place.fixed(1), lambda it: None if 1 <= it <= 8 else "BadAddressSize")
 
 
-def read_value(place, header, name, form, constant):
+def read_value(place, header, pair):
     """The value of an attribute, as one field."""
 
     def read():
-        if form != INDIRECT:
-            return form, read_by_form(place, header, form, constant)
-        inner, _ = place.leb()
-        if inner in (INDIRECT, IMPLICIT):
+        if pair.form != INDIRECT:
+            return read_by_form(place, header, pair)
+        form, _ = place.leb()
+        if form in (INDIRECT, IMPLICIT):
             raise Bad("BadIndirect")
-        return inner, read_by_form(place, header, inner, None)
+        return read_by_form(place, header, Pair(pair.name, form))
 
-    effective, (kind, held, at, width) = place.field(read)
-    return Value(name, effective, kind, held, at, width)
+    return place.field(read)
 
 
-def read_by_form(place, header, form, constant):
-    """Kind, what is held, where its number begins, and the number's width."""
-    at = place.at
+def read_by_form(place, header, pair):
+    """The value where its form is told."""
+    form, at = pair.form, place.at
+
+    def value(kind, held, width=0):
+        return Value(pair.name, form, kind, held, at, width)
+
     if form in FIXED:
         size = {ADDRESS: header.address_size, OFFSET: header.offset_size()}.get(FIXED[form], FIXED[form])
-        return "wide" if size == 16 else "number", place.fixed(size), at, size
+        return value("wide" if size == 16 else "number", place.fixed(size), size)
     if form in ULEB or form in SLEB:
-        value, width = place.leb(signed=form in SLEB)
-        return "sleb" if form in SLEB else "uleb", value, at, width
+        return value("sleb" if form in SLEB else "uleb", *place.leb(signed=form in SLEB))
     if form in COUNTED:
         length = place.fixed(COUNTED[form]) if COUNTED[form] else place.leb()[0]
-        return "block", place.take(length), at, 0
+        return value("block", place.take(length))
     if form == STRING:
-        return "text", place.string(), at, 0
+        return value("text", place.string())
     if form == PRESENT:
-        return "present", None, at, 0
+        return value("present", None)
     if form == IMPLICIT:
-        return "implicit", constant[0], at, 0
+        return value("implicit", pair.constant)
     raise Bad("UnknownForm")
 
 
@@ -356,8 +376,8 @@ def read_entries(place, header, table):
             continue
         declared = table[code]
         entry = Entry(at, declared.tag, len(above) + 1, [])
-        for name, form, constant in declared.pairs:
-            entry.values.append(read_value(place, header, name, form, constant))
+        for pair in declared.pairs:
+            entry.values.append(read_value(place, header, pair))
         entry.end = place.at
         if above:
             above[-1].children.append(entry)
@@ -528,7 +548,8 @@ def shown_value(section, unit, value):
 
 def shown_unit(unit):
     header = unit.header
-    line = f"unit {unit.start:#x} {header.kind} {64 if header.wide else 32} size {unit.end - unit.start} abbrev {header.abbrev_offset:#x} addr {header.address_size}"
+    line = f"unit {unit.start:#x} {header.kind} {64 if header.wide else 32} size {unit.end - unit.start}"
+    line += f" abbrev {header.abbrev_offset:#x} addr {header.address_size}"
     if header.kind == "type":
         line += f" signature {header.signature:#x} type {header.type_offset:#x}"
     return line + (f" dwo {header.dwo_id:#x}" if header.kind == "skeleton" else "")
@@ -556,8 +577,18 @@ def find(section, name):
 # ---- findings
 
 
+@dataclass(order=True)
+class Finding:
+    """What is wrong: the offset of the entry, the position of the attribute (0 is the whole entry), and the number of
+    its kind."""
+
+    offset: int
+    position: int
+    kind: int
+
+
 FINDINGS = {1: "BadReference", 2: "BadSibling", 3: "RootTag", 4: "TypeOffset", 5: "BadText", 6: "RepeatedName"}
-ROOTS = {"compile": (0x11, 0x3C), "partial": (0x11, 0x3C), "four": (0x11, 0x3C), "type": (0x41,), "skeleton": (0x4A, 0x11)}
+ROOTS = dict.fromkeys(("compile", "partial", "four"), (0x11, 0x3C)) | {"type": (0x41,), "skeleton": (0x4A, 0x11)}
 SIBLING = NUMBER_OF_ATTRIBUTE["sibling"]
 
 
@@ -578,7 +609,7 @@ def is_refused(ask, *given):
 
 
 def findings(section):
-    """The offset of the entry, the position of the attribute (0 is the whole entry), and the number of what is wrong, in order."""
+    """What is wrong, in order."""
     for unit in section.units():
         for entry in unit.entries:
             yield from sorted(found_at(section, unit, entry))
@@ -588,19 +619,19 @@ def found_at(section, unit, entry):
     header = unit.header
     if entry is unit.entries[0]:
         if entry.tag not in ROOTS[header.kind]:
-            yield entry.offset, 0, 3
+            yield Finding(entry.offset, 0, 3)
         if header.kind == "type" and unit.start + header.type_offset not in unit.at_offset:
-            yield entry.offset, 0, 4
+            yield Finding(entry.offset, 0, 4)
     for position, value in enumerate(entry.values, 1):
         if value.name == SIBLING:
             if is_bad_sibling(unit, entry, value):
-                yield entry.offset, position, 2
+                yield Finding(entry.offset, position, 2)
         elif value.form in REFERENCES and is_refused(resolve, section, unit, value):
-            yield entry.offset, position, 1
+            yield Finding(entry.offset, position, 1)
         if value.form in TEXTS and is_refused(text_of, section, unit, value):
-            yield entry.offset, position, 5
+            yield Finding(entry.offset, position, 5)
         if any(it.name == value.name for it in entry.values[: position - 1]):
-            yield entry.offset, position, 6
+            yield Finding(entry.offset, position, 6)
 
 
 # ---- types in C notation
@@ -609,9 +640,21 @@ def found_at(section, unit, entry):
 NONE, BAD = "void", "<bad>"
 
 NAMED = {TAG["base_type"]: b"", TAG["typedef"]: b"", TAG["unspecified_type"]: b""}
-TAGGED = {TAG["structure_type"]: b"struct ", TAG["union_type"]: b"union ", TAG["enumeration_type"]: b"enum ", TAG["class_type"]: b"class "}
+TAGGED = {
+    TAG["structure_type"]: b"struct ",
+    TAG["union_type"]: b"union ",
+    TAG["enumeration_type"]: b"enum ",
+    TAG["class_type"]: b"class ",
+}
 POINTERS = {TAG["pointer_type"]: b"*", TAG["reference_type"]: b"&", TAG["rvalue_reference_type"]: b"&&"}
-QUALIFIERS = {TAG["const_type"]: b"const", TAG["volatile_type"]: b"volatile", TAG["restrict_type"]: b"restrict", TAG["atomic_type"]: b"_Atomic"}
+QUALIFIERS = {
+    TAG["const_type"]: b"const",
+    TAG["volatile_type"]: b"volatile",
+    TAG["restrict_type"]: b"restrict",
+    TAG["atomic_type"]: b"_Atomic",
+}
+# What has a type, and a name for it.
+DECLARED = (TAG["variable"], TAG["formal_parameter"], TAG["member"])
 FUNCTIONS = (TAG["subroutine_type"], TAG["subprogram"])
 ARRAY = TAG["array_type"]
 UNSIGNED, SIGNED = (0x0B, 0x05, 0x06, 0x07, 0x0F), (0x0D, 0x21)
@@ -714,7 +757,7 @@ def bound(entry, name):
 def type_text(section, unit, entry, name):
     """The text of an entry's type with a name."""
     types = Types(section)
-    place = types.of((unit, entry)) if entry.tag in (TAG["variable"], TAG["formal_parameter"], TAG["member"]) else (unit, entry)
+    place = types.of((unit, entry)) if entry.tag in DECLARED else (unit, entry)
     if types.visits(TYPE_DEPTH, place) > TYPE_VISITS:
         raise Refused("TypeTooBig")
     return types.say(TYPE_DEPTH, place, name)
@@ -725,7 +768,7 @@ def type_line(section, offset):
     if not found:
         raise Refused("NoEntry")
     unit, entry = found
-    has_own = entry.tag in (TAG["variable"], TAG["formal_parameter"], TAG["member"], TAG["subprogram"])
+    has_own = entry.tag in (*DECLARED, TAG["subprogram"])
     return type_text(section, unit, entry, (name_of(section, unit, entry) or b"") if has_own else b"")
 
 
@@ -738,8 +781,10 @@ def spelled(section, value, number):
         if not 0 <= number < 256**value.width:
             raise Refused("DoesNotFit")
         return number.to_bytes(value.width, "big" if section.big else "little")
-    least, most = (0, 2**64) if value.kind == "uleb" else (-(2**63), 2**63)
-    low, high = (0, 128**value.width) if value.kind == "uleb" else (-64 * 128 ** (value.width - 1), 64 * 128 ** (value.width - 1))
+    # (the numbers of 64 bits, and those that so many groups of seven bits spell)
+    least, most, low, high = 0, 2**64, 0, 128**value.width
+    if value.kind != "uleb":
+        least, most, low, high = -(2**63), 2**63, -(high // 2), high // 2
     if not max(least, low) <= number < min(most, high):
         raise Refused("DoesNotFit")
     groups = [number >> 7 * i & 0x7F for i in range(value.width)]
@@ -779,16 +824,17 @@ class Usage(Exception):
     """Words that aren't taken."""
 
 
-OPTIONS = ("--info", "--abbrev", "--str", "--line-str", "--str-offsets")
+OPTIONS = {section_names.option_of(it): it for it in section_names.NAMES}
 WORDS = {"show": 0, "find": 1, "type": 1, "check": 0, "set": 3, "copy": 0}
 
 
 def number_in(word, limit):
-    digits = word[2:] if word.startswith("0x") else word
-    allowed = "0123456789abcdefABCDEF" if word.startswith("0x") else "0123456789"
-    if not digits or any(it not in allowed for it in digits) or int(digits, 16 if word.startswith("0x") else 10) >= limit:
+    digits, allowed, base = word, "0123456789", 10
+    if word.startswith("0x"):
+        digits, allowed, base = word[2:], "0123456789abcdefABCDEF", 16
+    if not digits or any(it not in allowed for it in digits) or int(digits, base) >= limit:
         raise Usage(f"{word!r} is no number that may stand here")
-    return int(digits, 16 if word.startswith("0x") else 10)
+    return int(digits, base)
 
 
 def attribute_in(word):
@@ -797,29 +843,42 @@ def attribute_in(word):
     return number_in(word, 2**64)
 
 
+@dataclass
+class Line:
+    """What the words of a line ask for: a subcommand, over files by the names of their sections, with flags and other
+    words."""
+
+    command: str
+    files: dict
+    flags: set
+    others: list
+
+    def is_wanting(self):
+        return len(self.others) != WORDS[self.command] or not {"info", "abbrev"} <= self.files.keys()
+
+
 def line_of(words):
-    """The subcommand, the options with their files, the flags, and the other words."""
     if not words or words[0] not in WORDS:
         raise Usage("a subcommand is wanted: " + ", ".join(WORDS))
-    files, flags, others, left = {}, set(), [], list(words[1:])
+    line, left = Line(words[0], {}, set(), []), list(words[1:])
     while left:
         word = left.pop(0)
         option, equals, path = word.partition("=")
         if option in OPTIONS:
-            if option in files or not (equals or left):
+            if OPTIONS[option] in line.files or not (equals or left):
                 raise Usage(f"{option} wants one file")
-            files[option] = path if equals else left.pop(0)
-        elif word in ("--big", "--v4") or word == "--minus" and words[0] == "set":
-            if word in flags:
+            line.files[OPTIONS[option]] = path if equals else left.pop(0)
+        elif word in ("--big", "--v4") or word == "--minus" and line.command == "set":
+            if word in line.flags:
                 raise Usage(f"{word} stands twice")
-            flags.add(word)
+            line.flags.add(word)
         elif word.startswith("-") and word != "-":
-            raise Usage(f"{word} is no option of {words[0]}")
+            raise Usage(f"{word} is no option of {line.command}")
         else:
-            others.append(word)
-    if len(others) != WORDS[words[0]] or not {"--info", "--abbrev"} <= files.keys():
-        raise Usage(f"{words[0]} wants --info, --abbrev and {WORDS[words[0]]} words")
-    return words[0], files, flags, others
+            line.others.append(word)
+    if line.is_wanting():
+        raise Usage(f"{line.command} wants --info, --abbrev and {WORDS[line.command]} words")
+    return line
 
 
 def answer(command, section, words, flags):
@@ -831,8 +890,8 @@ def answer(command, section, words, flags):
     if command == "set":
         return set_number(section, words[0], words[1], -words[2] if "--minus" in flags else words[2]), 0
     if command == "check":
-        found = list(findings(section))
-        return "".join(f"{offset:#x} {position} {kind} {FINDINGS[kind]}\n" for offset, position, kind in found).encode(), 1 if found else 0
+        lines = [f"{it.offset:#x} {it.position} {it.kind} {FINDINGS[it.kind]}\n" for it in findings(section)]
+        return "".join(lines).encode(), 1 if lines else 0
     lines = list(show(section) if command == "show" else find(section, os.fsencode(words[0])))
     return "".join(it + "\n" for it in lines).encode(), 1 if command == "find" and not lines else 0
 
@@ -840,13 +899,13 @@ def answer(command, section, words, flags):
 def read_files(files):
     """The bytes of each file, in the order in which they are read."""
     found = {}
-    for option in (*OPTIONS[1:], OPTIONS[0]):
-        if option in files:
+    for name in (*section_names.NAMES[1:], section_names.NAMES[0]):
+        if name in files:
             try:
-                with open(files[option], "rb") as file:
-                    found[option[2:]] = file.read()
+                with open(files[name], "rb") as file:
+                    found[name] = file.read()
             except OSError:
-                raise FileNotFoundError(files[option]) from None
+                raise FileNotFoundError(files[name]) from None
     return found
 
 
@@ -862,11 +921,12 @@ def judged_words(command, words):
 def main(words):
     sys.setrecursionlimit(100_000)
     try:
-        command, files, flags, others = line_of(words)
-        others = judged_words(command, others)
-        found = read_files(files)
-        section = read_section(found["info"], found["abbrev"], "--big" in flags, (4, 5) if "--v4" in flags else (5,), found)
-        output, status = answer(command, section, others, flags)
+        line = line_of(words)
+        others = judged_words(line.command, line.others)
+        found = read_files(line.files)
+        versions = (4, 5) if "--v4" in line.flags else (5,)
+        section = read_section(found["info"], found["abbrev"], "--big" in line.flags, versions, found)
+        output, status = answer(line.command, section, others, line.flags)
     except Usage as why:
         print(f"error: {why}", file=sys.stderr)
         return 2

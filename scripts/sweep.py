@@ -3,13 +3,14 @@
 
 Usage: scripts/sweep.py PROGRAM [COUNT [SEED]] [--all]
 
-PROGRAM is the built `dwarf` (crates/dwarf/out/dwarf). Handed over are, in turn, COUNT times (10,000 by default): a section that is made at random by
-the grammar (scripts/made.py); the same changed; and the sections of a case in `cases/` changed, of those that have at most 300 bytes of
-.debug_info. Changed is one of the files: cut off, or with a byte changed, put in or taken out. With --all every cut and every change of one byte of the vectors
-in crates/sweeps is handed over in their place. Over each, `show`, `check` and `copy`, `find` by a
-name, and `type` and `set` at an entry or beside one have to write the same, say the same on standard error and end with the same status; a
-section that is made has no fault. Each difference is printed with its bytes. It takes all processors. The last line is `N passed, M failed`, of the
-runs, and the status is 0 where none failed.
+PROGRAM is the built `dwarf` (crates/dwarf/out/dwarf). Handed over are, in turn, COUNT times (10,000 by default): a
+section that is made at random by the grammar (scripts/made.py); the same changed; and the sections of a case in
+`cases/` changed, of those that have at most 300 bytes of .debug_info. Changed is one of the files: cut off, or with a
+byte changed, put in or taken out. With --all every cut and every change of one byte of the vectors in crates/sweeps is
+handed over in their place. Over each, `show`, `check` and `copy`, `find` by a name, and `type` and `set` at an entry or
+beside one have to write the same, say the same on standard error and end with the same status; a section that is made
+has no fault. Each difference is printed with its bytes. It takes all processors. The last line is
+`N passed, M failed`, of the runs, and the status is 0 where none failed.
 """
 
 import argparse
@@ -22,9 +23,10 @@ import sys
 import tempfile
 
 import reference
+import section_names
 import sweeps
-from case_reader import FILES, TOP, Reader
-from made import Maker
+from case_reader import TOP, Reader
+from made import Made, Maker
 
 MOST = 300
 
@@ -49,7 +51,8 @@ def changed(files, chance):
     content = files[name]
     at = chance.randrange(len(content) + 1)
     byte = bytes([chance.randrange(256)])
-    how = chance.choice([b"", byte + content[at + 1 :], byte + content[at + 1 :], byte + content[at:], content[at + 1 :]])
+    rest = content[at + 1 :]
+    how = chance.choice([b"", byte + rest, byte + rest, byte + content[at:], rest])
     return {**files, name: content[:at] + how}
 
 
@@ -60,16 +63,16 @@ def commands(section, chance):
     offset = entry.offset + chance.choice([0, 0, 0, 1]) if entry else chance.randrange(40)
     name = chance.choice([it.name for it in entry.values] or [1]) if entry else 3
     yield from (["show"], ["check"], ["copy"], ["find", chance.choice("abx")], ["type", str(offset)])
-    yield ["set", str(offset), str(name), str(chance.choice([0, 1, offset, 127, 128, 255, 256, 2**32, 2**64]))] + chance.choice([[], [], ["--minus"]])
+    number = chance.choice([0, 1, offset, 127, 128, 255, 256, 2**32, 2**64])
+    yield ["set", str(offset), str(name), str(number), *chance.choice([[], [], ["--minus"]])]
 
 
-def answered(files, is_big, is_four, words):
+def answered(given, words):
     """What the independent reader writes and says, and its status."""
     flags = {it for it in words if it == "--minus"}
     others = reference.judged_words(words[0], [it for it in words[1:] if it not in flags])
     try:
-        section = reference.read_section(files["info"], files["abbrev"], is_big, (4, 5) if is_four else (5,), files)
-        output, status = reference.answer(words[0], section, others, flags)
+        output, status = reference.answer(words[0], given.read(), others, flags)
         return output, b"", status
     except reference.Fault as fault:
         return b"", f"fault {fault}\n".encode(), 1
@@ -81,38 +84,42 @@ def answered(files, is_big, is_four, words):
 SECONDS = 60
 
 
-def ran(program, files, is_big, is_four, words):
+def ran(program, given, words):
+    """The same of the program."""
+    how = {"stdin": subprocess.DEVNULL, "capture_output": True, "timeout": SECONDS, "check": False}
     with tempfile.TemporaryDirectory() as room:
-        options = ["--big"] * is_big + ["--v4"] * is_four
-        for name in FILES:
-            if name in files:
-                options += [f"--{name}", name]
-                with open(os.path.join(room, name), "wb") as file:
-                    file.write(files[name])
+        there = {name: name for name in section_names.NAMES if name in given.files}
+        for name in there:
+            with open(os.path.join(room, name), "wb") as file:
+                file.write(given.files[name])
+        asked = [program, *words, *given.flags(), *section_names.words_of(there)]
         try:
-            said = subprocess.run([program, *words, *options], cwd=room, stdin=subprocess.DEVNULL, capture_output=True, timeout=SECONDS, check=False)
+            said = subprocess.run(asked, cwd=room, **how)
         except subprocess.TimeoutExpired:
             return b"", f"it was ended after {SECONDS} seconds\n".encode(), None
     return said.stdout, said.stderr, said.returncode
 
 
-def read(files, is_big, is_four):
+def read(given):
+    """The section, or None where it has a fault."""
     try:
-        return reference.read_section(files["info"], files["abbrev"], is_big, (4, 5) if is_four else (5,), files)
+        return given.read()
     except reference.Fault:
         return None
 
 
 def sections(count, chance):
-    """Sections, and whether they are big-endian, are of version 4 too, and have no fault."""
+    """Sections, and whether they have no fault."""
     of_cases = inputs()
     for turn in range(count):
         if turn % 3 == 2:
             files, is_big = chance.choice(of_cases)
-            yield changed(files, chance), is_big, chance.random() < 0.3, False
+            yield Made(changed(files, chance), is_big, chance.random() < 0.3), False
         else:
-            files, is_big, is_four = Maker(chance).section()
-            yield (files, is_big, is_four, True) if turn % 3 == 0 else (changed(files, chance), is_big, is_four, False)
+            given = Maker(chance).section()
+            if turn % 3 == 1:
+                given.files = changed(given.files, chance)
+            yield given, turn % 3 == 0
 
 
 class Swept:
@@ -121,23 +128,24 @@ class Swept:
     def __init__(self):
         self.runs = self.differ = 0
 
-    def ask(self, program, files, is_big, is_four, chance, is_valid=False):
+    def ask(self, program, given, chance, is_valid=False):
         """Asks the program and the independent reader the same of a section; one that is valid has to be read."""
-        section = read(files, is_big, is_four)
+        section = read(given)
         for words in commands(section, chance):
-            want, got = answered(files, is_big, is_four, words), ran(program, files, is_big, is_four, words)
+            want, got = answered(given, words), ran(program, given, words)
             self.runs += 1
             if want != got or is_valid and not section:
                 self.differ += 1
-                print(f"{' '.join(words)}{' --big' * is_big}{' --v4' * is_four}", *(f"{name} {it.hex()}" for name, it in files.items()), sep="\n  ")
+                files = (f"{name} {it.hex()}" for name, it in given.files.items())
+                print(" ".join([*words, *given.flags()]), *files, sep="\n  ")
                 print(f"  wanted {want}\n  came   {got}")
 
 
 def swept_at_random(program, count, seed):
     """Sections made at random."""
     swept, chance = Swept(), random.Random(seed)
-    for files, is_big, is_four, is_valid in sections(count, chance):
-        swept.ask(program, files, is_big, is_four, chance, is_valid)
+    for given, is_valid in sections(count, chance):
+        swept.ask(program, given, chance, is_valid)
     return swept
 
 
@@ -146,8 +154,8 @@ def swept_vector(program, vector, name):
     sys.setrecursionlimit(100_000)
     swept, chance = Swept(), random.Random(f"{vector} {name}")
     for files in sweeps.inputs(vector, name):
-        given = {it: content for it, content in files.items() if content or it in ("info", "abbrev")}
-        swept.ask(program, given, sweeps.is_big(vector), sweeps.is_four(vector), chance)
+        there = {it: content for it, content in files.items() if content or it in ("info", "abbrev")}
+        swept.ask(program, Made(there, sweeps.is_big(vector), sweeps.is_four(vector)), chance)
     return swept
 
 
@@ -156,16 +164,19 @@ def main():
     ask.add_argument("program")
     ask.add_argument("count", nargs="?", type=int, default=10_000)
     ask.add_argument("seed", nargs="?", type=int, default=1)
-    ask.add_argument("--all", action="store_true", help="every cut and change of the vectors in crates/sweeps in the place of sections at random")
+    all_of = "every cut and change of the vectors in crates/sweeps in the place of sections at random"
+    ask.add_argument("--all", action="store_true", help=all_of)
     given = ask.parse_args()
     sys.setrecursionlimit(100_000)
     program = os.path.abspath(given.program)
     if given.all:
-        jobs = [(program, vector, name) for vector in sweeps.vectors() for name in FILES if sweeps.sections_of(vector)[name]]
+        jobs = [(program, *it) for it in sweeps.of_all(sweeps.vectors())]
         job, what = swept_vector, f"{len(jobs)} sections of vectors"
     else:
-        # (in parts of a thousand, each with a seed of its own, so that the same ones come however many processors there are)
-        jobs = [(program, min(PART, given.count - at), given.seed * 1_000_003 + at) for at in range(0, given.count, PART)]
+        # (in parts of a thousand, each with a seed of its own, so that the same ones come however many processors there
+        # are)
+        parts = range(0, given.count, PART)
+        jobs = [(program, min(PART, given.count - at), given.seed * 1_000_003 + at) for at in parts]
         job, what = swept_at_random, f"{given.count} sections"
     with concurrent.futures.ProcessPoolExecutor() as side_by_side:
         done = list(side_by_side.map(job, *zip(*jobs)))

@@ -3,10 +3,11 @@
 
 Usage: scripts/sweeps.py [VECTOR..]
 
-A VECTOR is a word of crates/sweeps/args, which has them all: a file of crates/sweeps/data, and behind it `:v4` and `:big`. What is printed without words stands
-in crates/sweeps/stdout: `scripts/sweeps.py > crates/sweeps/stdout` where vectors are added. It takes minutes, on all processors.
+A VECTOR is a word of crates/sweeps/args, which has them all: a file of crates/sweeps/data, and behind it `:v4` and
+`:big`. What is printed without words stands in crates/sweeps/stdout: `scripts/sweeps.py > crates/sweeps/stdout` where
+vectors are added. It takes minutes, on all processors.
 
-As a module it has `vectors` and `inputs`, for what else goes over the same inputs.
+As a module it has `vectors`, `of_all` and `inputs`, for what else goes over the same inputs.
 """
 
 import concurrent.futures
@@ -15,10 +16,10 @@ import sys
 import zlib
 
 import reference
+import section_names
 
 TOP = os.path.dirname(os.path.dirname(os.path.abspath(__file__)))
 FOLDER = os.path.join(TOP, "crates", "sweeps")
-SECTIONS = ("info", "abbrev", "str", "line-str", "str-offsets")
 
 
 def vectors():
@@ -29,13 +30,18 @@ def vectors():
 
 def sections_of(vector):
     """The sections of a vector, by their names."""
-    found = dict.fromkeys(SECTIONS, b"")
+    found = dict.fromkeys(section_names.NAMES, b"")
     with open(os.path.join(FOLDER, "data", vector.partition(":")[0]), encoding="utf-8") as file:
         for line in file:
             words = line.split()
             if words[:1] == ["let"]:
                 found[words[1]] += bytes.fromhex("".join(words[3:]))
     return found
+
+
+def of_all(words):
+    """These vectors with each of their sections that has bytes."""
+    return [(vector, name) for vector in words for name, content in sections_of(vector).items() if content]
 
 
 def inputs(vector, name):
@@ -59,7 +65,8 @@ def is_four(vector):
 
 
 def read(files, vector):
-    return reference.read_section(files["info"], files["abbrev"], is_big(vector), (4, 5) if is_four(vector) else (5,), files)
+    versions = (4, 5) if is_four(vector) else (5,)
+    return reference.read_section(files["info"], files["abbrev"], is_big(vector), versions, files)
 
 
 def told(section):
@@ -106,7 +113,7 @@ def control(vector):
 
 
 def main(words):
-    jobs = [(vector, name) for vector in words or vectors() for name in SECTIONS if sections_of(vector)[name]]
+    jobs = of_all(words or vectors())
     told = ""
     with concurrent.futures.ProcessPoolExecutor() as side_by_side:
         for (vector, _), lines in zip(jobs, side_by_side.map(swept, *zip(*jobs))):

@@ -5,8 +5,9 @@
             for entry in unit.entries():
                 name = entry.name()
 
-The shared object is looked for beside this file, and else as the system looks for librothelduf_c.so; the variable ROTHELDUF names another. An object belongs to the
-thread that made it. A text is a memoryview of the bytes that the section was given.
+The shared object is looked for beside this file, and else as the system looks for librothelduf_c.so; the variable
+ROTHELDUF names another. An object belongs to the thread that made it. A text is a memoryview of the bytes that the
+section was given.
 """
 
 import ctypes
@@ -17,10 +18,14 @@ OK, FAULT, NO_MEMORY, CLOSED, NOTHING, REFUSED, SHORT, MORE, HEADER, UNIT, SPENT
 NUMBER, ULEB, SLEB, IMPLICIT, PRESENT, BLOCK, TEXT, WIDE = range(8)
 END = 2**64 - 1
 REASONS = [
-    "", "Truncated", "PastUnit", "ReservedLength", "BadVersion", "BadUnitType", "BadAddressSize", "LebTooLong", "LebTooBig", "NoRoot", "UnknownCode", "UnknownForm",
-    "BadIndirect", "TooDeep", "SecondRoot", "AbbrevOffset", "BadChildren", "HalfPair", "DuplicateCode", "TooManyPairs", "LengthTooBig",
+    *("", "Truncated", "PastUnit", "ReservedLength", "BadVersion", "BadUnitType", "BadAddressSize"),
+    *("LebTooLong", "LebTooBig", "NoRoot", "UnknownCode", "UnknownForm", "BadIndirect", "TooDeep", "SecondRoot"),
+    *("AbbrevOffset", "BadChildren", "HalfPair", "DuplicateCode", "TooManyPairs", "LengthTooBig"),
 ]
-NO_ENTRY = ["", "NotReference", "OutsideUnit", "OutsideSection", "NotAnEntry", "InOther", "NoSignature", "BadTypeOffset", "Supplementary"]
+NO_ENTRY = [
+    *("", "NotReference", "OutsideUnit", "OutsideSection", "NotAnEntry", "InOther"),
+    *("NoSignature", "BadTypeOffset", "Supplementary"),
+]
 NO_TEXT = ["", "NotText", "PastSection", "NoZero", "NoBase", "PastOffsets", "Supplementary"]
 NO_TYPE = ["", "NoEntry", "TypeTooBig"]
 NOT_PUT = ["", "WrongOrder", "WrongVersion", "TooLong"]
@@ -28,7 +33,8 @@ NOT_SET = ["", "NoEntry", "NoAttribute", "NotANumber", "InTable", "DoesNotFit", 
 WRONG = ["", "BadReference", "BadSibling", "RootTag", "TypeOffset", "BadText", "RepeatedName"]
 DW_AT_NAME = 0x03
 
-u8, u32, u64, i64, size, flag = ctypes.c_uint8, ctypes.c_uint32, ctypes.c_uint64, ctypes.c_int64, ctypes.c_size_t, ctypes.c_bool
+u8, u32, u64, i64 = ctypes.c_uint8, ctypes.c_uint32, ctypes.c_uint64, ctypes.c_int64
+size, flag = ctypes.c_size_t, ctypes.c_bool
 
 
 def _struct(name, *fields):
@@ -39,15 +45,22 @@ _Section = _struct("_Section", ("is_open", flag), ("at", ctypes.c_void_p))
 _Fault = _struct("_Fault", ("section", u32), ("reason", u32), ("offset", u64))
 _Id = _struct("_Id", ("item", size), ("offset", u64))
 _Unit = _struct(
-    "_Unit", ("start", u64), ("size", u64), ("abbrev_offset", u64), ("signature", u64), ("type_offset", u64), ("rows", size), ("kind", u32), ("wide", flag), ("address_size", u8)
+    "_Unit",
+    *(("start", u64), ("size", u64), ("abbrev_offset", u64), ("signature", u64), ("type_offset", u64)),
+    *(("rows", size), ("kind", u32), ("wide", flag), ("address_size", u8)),
 )
 _Entry = _struct("_Entry", ("offset", u64), ("tag", u64), ("depth", u64), ("attributes", size))
 _Attribute = _struct(
-    "_Attribute", ("name", u64), ("form", u64), ("offset", u64), ("number", u64), ("signed_number", i64), ("high", u64), ("length", size), ("front", u32), ("kind", u32)
+    "_Attribute",
+    *(("name", u64), ("form", u64), ("offset", u64), ("number", u64), ("signed_number", i64), ("high", u64)),
+    *(("length", size), ("front", u32), ("kind", u32)),
 )
 _Place = _struct("_Place", ("offset", u64), ("length", size), ("section", u32))
 _Filled = _struct("_Filled", ("entries", size), ("attributes", size), ("next", u64))
-_Held = _struct("_Held", ("pending", size), ("nested", size), ("entries", size), ("pool", size), ("values", u64), ("values_high", u64))
+_Held = _struct(
+    "_Held",
+    *(("pending", size), ("nested", size), ("entries", size), ("pool", size), ("values", u64), ("values_high", u64)),
+)
 _Finding = _struct("_Finding", ("offset", u64), ("position", u64), ("kind", u32))
 
 
@@ -55,7 +68,8 @@ class Fault(Exception):
     """The first fault of bytes that are refused: its section ("info" or "abbrev"), its offset and its reason."""
 
     def __init__(self, fault):
-        self.section, self.offset, self.reason = ("abbrev" if fault.section else "info"), fault.offset, REASONS[fault.reason]
+        self.section = "abbrev" if fault.section else "info"
+        self.offset, self.reason = fault.offset, REASONS[fault.reason]
         super().__init__(f"{self.section} {self.offset:#x} {self.reason}")
 
 
@@ -63,13 +77,23 @@ class Refused(Exception):
     """Why a request is refused, by its name."""
 
 
+# What the functions of the library answer: most a status.
+_ANSWERS = {
+    **dict.fromkeys(("open", "unit", "find", "resolve", "text", "type", "check", "set_number", "write", "begin"), u32),
+    **dict.fromkeys(("feed_open", "feed_push", "feed_table", "feed_held", "feed_end", "feed_take"), u32),
+    **{"close": None, "items": size, "walk": _Filled, "size": u64, "feed_close": None, "feed_wants": size},
+}
+
+
 def _load():
     beside = os.path.join(os.path.dirname(os.path.abspath(__file__)), "librothelduf_c.so")
-    path = os.environ.get("ROTHELDUF") or (beside if os.path.exists(beside) else ctypes.util.find_library("rothelduf_c"))
+    path = os.environ.get("ROTHELDUF")
+    if not path:
+        path = beside if os.path.exists(beside) else ctypes.util.find_library("rothelduf_c")
     if not path:
         raise OSError("librothelduf_c.so isn't there: scripts/install.sh PREFIX puts it below PREFIX/lib")
     library = ctypes.CDLL(path)
-    for name, answer in {"open": u32, "close": None, "items": size, "unit": u32, "walk": _Filled, "find": u32, "resolve": u32, "text": u32, "type": u32, "check": u32, "set_number": u32, "size": u64, "write": u32, "begin": u32, "feed_open": u32, "feed_close": None, "feed_push": u32, "feed_table": u32, "feed_wants": size, "feed_held": u32, "feed_end": u32, "feed_take": u32}.items():
+    for name, answer in _ANSWERS.items():
         getattr(library, f"rothelduf_{name}").restype = answer
     return library
 
@@ -83,9 +107,11 @@ class Section:
     def __init__(self, info, abbrev, *, str=b"", line_str=b"", str_offsets=b"", big_endian=False, four=False):
         global _library
         _library = _library or _load()
-        self._raw, self.info, self._texts = _Section(), bytes(info), [bytes(str), bytes(line_str), bytes(str_offsets)]
+        self._raw, self.info = _Section(), bytes(info)
+        self._texts = [bytes(str), bytes(line_str), bytes(str_offsets)]
         abbrev, fault = bytes(abbrev), _Fault()
-        status = self._call("open", *_bytes(self.info), *_bytes(abbrev), flag(big_endian), flag(four), ctypes.byref(fault))
+        how = flag(big_endian), flag(four)
+        status = self._call("open", *_bytes(self.info), *_bytes(abbrev), *how, ctypes.byref(fault))
         if status == FAULT:
             raise Fault(fault)
         _judge(status)
@@ -138,8 +164,9 @@ class Section:
 
     def set_number(self, item, offset, name, number):
         """Puts a number in the place of that of an attribute. Raises Refused, and then nothing is changed."""
-        why = u32()
-        status = self._call("set_number", ctypes.byref(_Id(item, offset)), u64(name), flag(number < 0), u64(abs(number)), ctypes.byref(why))
+        of_entry, why = _Id(item, offset), u32()
+        put = flag(number < 0), u64(abs(number))
+        status = self._call("set_number", ctypes.byref(of_entry), u64(name), *put, ctypes.byref(why))
         _judge(status, NOT_SET, why)
 
     def to_bytes(self):
@@ -160,7 +187,8 @@ class Feed:
     def __init__(self, abbrev, *, big_endian=False, four=False):
         global _library
         _library = _library or _load()
-        self._raw, self._section, self._abbrev, self._how = _Section(), _Section(), bytes(abbrev), (flag(big_endian), flag(four))
+        self._raw, self._section, self._abbrev = _Section(), _Section(), bytes(abbrev)
+        self._how = flag(big_endian), flag(four)
         _judge(_library.rothelduf_begin(ctypes.byref(self._section), *self._how))
         _judge(self._call("open", *self._how))
 
@@ -168,11 +196,13 @@ class Feed:
         return getattr(_library, f"rothelduf_feed_{name}")(ctypes.byref(self._raw), *words)
 
     def push(self, piece):
-        """Takes all of a piece. Raises Fault as soon as the bytes show one; its offset counts from the unit's first byte."""
+        """Takes all of a piece. Raises Fault as soon as the bytes show one; its offset counts from the unit's first
+        byte."""
         at, taken, fault, why = 0, size(), _Fault(), u32()
         copied = ctypes.create_string_buffer(bytes(piece), len(piece) + 1)
         while at < len(piece):
-            status = self._call("push", ctypes.byref(copied, at), size(len(piece) - at), ctypes.byref(taken), ctypes.byref(fault))
+            rest = ctypes.byref(copied, at), size(len(piece) - at)
+            status = self._call("push", *rest, ctypes.byref(taken), ctypes.byref(fault))
             at += taken.value
             if status == HEADER:
                 status = self._call("table", *_bytes(self._abbrev), ctypes.byref(fault))
@@ -187,7 +217,8 @@ class Feed:
         """What is held of the unit that comes: pending, nested, entries, pool and values."""
         found = _Held()
         _judge(self._call("held", ctypes.byref(found)))
-        return {"pending": found.pending, "nested": found.nested, "entries": found.entries, "pool": found.pool, "values": found.values | found.values_high << 64}
+        told = {name: getattr(found, name) for name in ("pending", "nested", "entries", "pool")}
+        return {**told, "values": found.values | found.values_high << 64}
 
     def to_bytes(self):
         """The units that came, as bytes."""
@@ -222,8 +253,9 @@ class Unit:
     def entries(self):
         """Its entries in order, each before those below it."""
         entries, attributes, at = (_Entry * 1024)(), (_Attribute * 4096)(), 0
+        rooms = entries, size(len(entries)), attributes, size(len(attributes))
         while at != END:
-            filled = self.section._call("walk", size(self.item), u64(at), entries, size(len(entries)), attributes, size(len(attributes)))
+            filled = self.section._call("walk", size(self.item), u64(at), *rooms)
             begin, at = 0, filled.next
             for entry in entries[: filled.entries]:
                 yield Entry(self, entry, [Attribute(self, it) for it in attributes[begin : entry.attributes]])
@@ -232,7 +264,8 @@ class Unit:
 
 class Entry:
     def __init__(self, unit, entry, attributes):
-        self.unit, self.offset, self.tag, self.depth, self.attributes = unit, entry.offset, entry.tag, entry.depth, attributes
+        self.unit, self.offset, self.tag, self.depth = unit, entry.offset, entry.tag, entry.depth
+        self.attributes = attributes
 
     def attribute(self, name):
         return next((it for it in self.attributes if it.name == name), None)
@@ -255,7 +288,8 @@ class Entry:
         while True:
             out, length, why = ctypes.create_string_buffer(room), size(), u32()
             of_entry = _Id(self.unit.item, self.offset)
-            status = section._call("type", ctypes.byref(of_entry), *_bytes(name), *section._of_texts(), out, size(room), ctypes.byref(length), ctypes.byref(why))
+            given = ctypes.byref(of_entry), *_bytes(name), *section._of_texts()
+            status = section._call("type", *given, out, size(room), ctypes.byref(length), ctypes.byref(why))
             if status != SHORT:
                 _judge(status, NO_TYPE, why)
                 return out.raw[: length.value]
@@ -263,7 +297,8 @@ class Entry:
 
 
 class Attribute:
-    """An attribute: name, form, offset (of its value, in its unit) and kind; value is a number, True, or a memoryview of bytes."""
+    """An attribute: name, form, offset (of its value, in its unit) and kind; value is a number, True, or a memoryview
+    of bytes."""
 
     def __init__(self, unit, raw):
         self.unit, self.name, self.form, self.offset, self.kind = unit, raw.name, raw.form, raw.offset, raw.kind
@@ -282,7 +317,8 @@ class Attribute:
         if self.kind not in (NUMBER, ULEB):
             raise Refused("NotText")
         section, place, why = self.unit.section, _Place(), u32()
-        status = section._call("text", size(self.unit.item), u64(self.form), u64(self.value), *section._of_texts(), ctypes.byref(place), ctypes.byref(why))
+        given = size(self.unit.item), u64(self.form), u64(self.value), *section._of_texts()
+        status = section._call("text", *given, ctypes.byref(place), ctypes.byref(why))
         _judge(status, NO_TEXT, why)
         return memoryview(section._texts[place.section - 1])[place.offset : place.offset + place.length]
 
@@ -291,7 +327,9 @@ class Attribute:
         if self.kind not in (NUMBER, ULEB):
             raise Refused("NotReference")
         found, why = _Id(), u32()
-        _judge(self.unit.section._call("resolve", size(self.unit.item), u64(self.form), u64(self.value), ctypes.byref(found), ctypes.byref(why)), NO_ENTRY, why)
+        given = size(self.unit.item), u64(self.form), u64(self.value)
+        status = self.unit.section._call("resolve", *given, ctypes.byref(found), ctypes.byref(why))
+        _judge(status, NO_ENTRY, why)
         return found.item, found.offset
 
 
