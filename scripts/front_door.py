@@ -202,7 +202,7 @@ INFO, ABBREV = map(section_names.file_of, ("info", "abbrev"))
 
 def elf_file(order, wide, packed, kind, contents):
     """An ELF file of this byte order, class and type of file, with these sections. They are compressed in the way of
-    this number, or not where that is 0."""
+    this number, or not where that is 0. One that is named `rel` and a dot has relocations of the first."""
     names = b"\0" + b"".join(f".{name}\0".encode() for name in contents) + b".shstrtab\0"
     size, at = (64, "Q") if wide else (52, "I")
     body, headers = b"", bytes(64 if wide else 40)
@@ -212,8 +212,10 @@ def elf_file(order, wide, packed, kind, contents):
             length = len(content)
             head = ("IIQQ", packed, 0, length, 1) if wide else ("III", packed, length, 1)
             content = struct.pack(order + head[0], *head[1:]) + zlib.compress(content)
-        fields = names.index(f".{name}\0".encode()), 1, 0x800 if is_packed else 0, 0, size + len(body), len(content)
-        headers += struct.pack(f"{order}II4{at}II2{at}", *fields, 0, 0, 1, 0)
+        kind_of_section, relocates = (9, 1) if name.startswith("rel.") else (1, 0)
+        fields = names.index(f".{name}\0".encode()), kind_of_section, 0x800 if is_packed else 0, 0
+        fields = *fields, size + len(body), len(content)
+        headers += struct.pack(f"{order}II4{at}II2{at}", *fields, 0, relocates, 1, 0)
         body += content
     ident = b"\x7fELF" + bytes([2 if wide else 1, 1 if order == "<" else 2, 1]) + bytes(9)
     counts = [size, 0, 0, 64 if wide else 40, len(contents) + 2, len(contents) + 1]
@@ -230,7 +232,7 @@ def broken_files(order, wide):
     contents = contents_of(order)
     empty = elf_file(order, wide, 1, 2, {**contents, INFO: b""})
     return {
-        "isn't linked": elf_file(order, wide, 0, 1, contents),
+        "isn't linked": elf_file(order, wide, 0, 1, {**contents, f"rel.{INFO}": bytes(24)}),
         "has no debugging entries": elf_file(order, wide, 0, 2, {"text": b"a"}),
         "another way than by zlib": elf_file(order, wide, 2, 2, contents),
         "another size": empty.replace(zlib.compress(b""), zlib.compress(b"a")[:8]),

@@ -49,7 +49,11 @@ if [ $# -eq 2 ]; then
     done
     rm -f "$prefix/include/rothelduf.h" "$prefix/include/rothelduf_constants.h" "$prefix/lib/librothelduf_c.a" "$prefix/lib/librothelduf_c.so" \
         "$prefix/lib/pkgconfig/rothelduf.pc"
-    rmdir "$prefix/libexec/rothelduf" 2> /dev/null || true
+    # (what Python keeps of the modules, where they were run)
+    for module in elf_sections section_names; do
+        rm -f "$prefix/libexec/rothelduf/__pycache__/$module".*.pyc
+    done
+    rmdir "$prefix/libexec/rothelduf/__pycache__" "$prefix/libexec/rothelduf" 2> /dev/null || true
     exit 0
 fi
 if [ ! -x "$here/crates/dwarf/out/dwarf" ]; then
