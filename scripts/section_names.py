@@ -1,7 +1,7 @@
 """The names of the sections of debugging entries: each has four.
 
 Here a section is called as the program's option for its file is, without the two hyphens in front: `line-str`. So are
-the files of a case (scripts/case_reader.py) and those that bench/inputs.py makes. `--line-str` is the option,
+the files of a case (scripts/gate/case_reader.py) and those that bench/inputs.py makes. `--line-str` is the option,
 `debug_line_str` the file that scripts/sections.sh writes, which is the section's name in an ELF file without its dot,
 and `line_str` the word for it in Python.
 """

@@ -1,4 +1,4 @@
-//! Scenarios for growths that are refused: one after the other, by `scripts/refusals.py`.
+//! Scenarios for growths that are refused: one after the other, by `scripts/gate/refusals.py`.
 //!
 //! `refusals SCENARIO` makes calls of the library over a small input, and tells what each answered. Where one answers
 //! that there is no memory, it tells that and what stands then, and makes the same call again: one growth is refused,

@@ -9,7 +9,7 @@
 //! Printed is, for each vector, how much of what doesn't hold of it is counted as broken (`judge_wrongly`). For each of
 //! its sections it is how many inputs there were, how many of them were read, how many broke what has to hold of all
 //! (`judge` says what that is), a checksum of all that was answered, the offset of each fault with it, and how often
-//! each reason came. `scripts/sweeps.py` prints what an independent reader answers to the same inputs, in the same words.
+//! each reason came. `scripts/gate/sweeps.py` prints what an independent reader answers to the same inputs, in the same words.
 #![tactic(auto)]
 
 mod agree;

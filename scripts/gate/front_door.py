@@ -2,7 +2,7 @@
 """Looks whether what users are told fits the program: its manual page, its completions, the commands of the README, and
 the links of the documents.
 
-Usage: scripts/front_door.py PROGRAM
+Usage: scripts/gate/front_door.py PROGRAM
 
 PROGRAM is the built `dwarf` (crates/dwarf/out/dwarf). What `--help` says of it and of each command decides which
 commands and options there are; the manual page (docs/dwarf.1) and the completions (scripts/completions) have to name
@@ -24,9 +24,11 @@ import sys
 import tempfile
 import zlib
 
-import section_names
+sys.path.insert(1, os.path.dirname(os.path.dirname(os.path.abspath(__file__))))
 
-TOP = os.path.dirname(os.path.dirname(os.path.abspath(__file__)))
+import section_names  # noqa: E402
+
+TOP = os.path.dirname(os.path.dirname(os.path.dirname(os.path.abspath(__file__))))
 
 
 class Judged:
@@ -127,7 +129,7 @@ def judge_fish(judged, commands, options):
 # A program of a user's own.
 SOURCE = "struct point { int x; int y; }; struct point origin; int main(void) { return origin.x; }\n"
 
-# The commands that run elsewhere: the gate itself, and what scripts/bindings.sh does with the library for C.
+# The commands that run elsewhere: the gate itself, and what scripts/gate/bindings.sh does with the library for C.
 ELSEWHERE = (
     ".ci/run",
     "(cd crates/rothelduf_c && rt lib)",
@@ -377,5 +379,5 @@ def main(program):
 
 if __name__ == "__main__":
     if len(sys.argv) != 2 or not os.access(sys.argv[1], os.X_OK):
-        sys.exit("usage: scripts/front_door.py PROGRAM")
+        sys.exit("usage: scripts/gate/front_door.py PROGRAM")
     sys.exit(main(os.path.abspath(sys.argv[1])))

@@ -1,10 +1,10 @@
 #!/usr/bin/env python3
-"""Hands sections to the program and to an independent reader (scripts/reference.py), and compares what they answer.
+"""Hands sections to the program and to an independent reader (scripts/gate/reference.py), and compares the answers.
 
-Usage: scripts/sweep.py PROGRAM [COUNT [SEED]] [--all]
+Usage: scripts/gate/sweep.py PROGRAM [COUNT [SEED]] [--all]
 
 PROGRAM is the built `dwarf` (crates/dwarf/out/dwarf). Handed over are, in turn, COUNT times (10,000 by default): a
-section that is made at random by the grammar (scripts/made.py); the same changed; and the sections of a case in
+section that is made at random by the grammar (scripts/gate/made.py); the same changed; and the sections of a case in
 `cases/` changed, of those that have at most 300 bytes of .debug_info. Changed is one of the files: cut off, or with a
 byte changed, put in or taken out. With --all every cut and every change of one byte of the vectors in crates/sweeps is
 handed over in their place. Over each, `show`, `check` and `copy`, `find` by a name, and `type` and `set` at an entry or
@@ -22,11 +22,13 @@ import subprocess
 import sys
 import tempfile
 
-import reference
-import section_names
-import sweeps
-from case_reader import TOP, Reader
-from made import Made, Maker
+sys.path.insert(1, os.path.dirname(os.path.dirname(os.path.abspath(__file__))))
+
+import reference  # noqa: E402
+import section_names  # noqa: E402
+import sweeps  # noqa: E402
+from case_reader import TOP, Reader  # noqa: E402
+from made import Made, Maker  # noqa: E402
 
 MOST = 300
 

@@ -1,10 +1,10 @@
 #!/usr/bin/env python3
 """Changes functions at random, mutant by mutant, and lets the prover judge each: how many do the contracts let through?
 
-Usage: scripts/mutants.py NAME.. [--most N] [--side-by-side N] [--round N] [--function WORD] [--again] [--logs FOLDER]
-       [--list]
-       scripts/mutants.py --draw N --seed S
-       scripts/mutants.py --report
+Usage: scripts/explore/mutants.py NAME.. [--most N] [--side-by-side N] [--round N] [--function WORD] [--again]
+       [--logs FOLDER] [--list]
+       scripts/explore/mutants.py --draw N --seed S
+       scripts/explore/mutants.py --report
 
 A mutant is a function with one small change of its body: a comparison turned or off by one, another operator, a
 constant one more or one less, a condition negated, two arms or two arguments exchanged, a statement left out, an
@@ -12,9 +12,9 @@ answer dropped, `None` for `Some`, `Ok` for `Err`, an early return of a default,
 turn out, a field or a call exchanged with its like. Of each function with a body --most mutants are taken, by default
 eight, as many of each kind as there are places, in an order that a sum of their texts gives.
 
-They are tried as wrong bodies are (scripts/wrong_bodies.py): in copies, or where that can't be in their places, many
-in one check. What doesn't compile doesn't count: all copies of a crate are put into its files at once and looked at
-by `rt check --only ''`, which takes seconds, until no error is left. Then each is one of these:
+They are tried as wrong bodies are (scripts/gate/wrong_bodies.py): in copies, or where that can't be in their places,
+many in one check. What doesn't compile doesn't count: all copies of a crate are put into its files at once and looked
+at by `rt check --only ''`, which takes seconds, until no error is left. Then each is one of these:
 
     refused     a goal of the mutant's own is refused
     not judged  only its proof file names what is gone, or nothing is told of it
@@ -50,16 +50,19 @@ import math
 import os
 import re
 import shutil
+import sys
 from concurrent.futures import ThreadPoolExecutor
 
-import clones
-import rt_ci
-from clones import Stop
-from edits import ACCEPTED as NOT_REFUSED
-from edits import BAD, REFUSED, UNCLEAR, WEAK, Edit, proofs_of_copy, texts_with
-from functions import Judged, all_functions, behind, functions_in, parts_of, sum_of_statements, text_of
-from rounds import put, try_round
-from verdicts import UNREAD
+sys.path.insert(1, os.path.join(os.path.dirname(os.path.dirname(os.path.abspath(__file__))), "gate"))
+
+import clones  # noqa: E402
+import rt_ci  # noqa: E402
+from clones import Stop  # noqa: E402
+from edits import ACCEPTED as NOT_REFUSED  # noqa: E402
+from edits import BAD, REFUSED, UNCLEAR, WEAK, Edit, proofs_of_copy, texts_with  # noqa: E402
+from functions import Judged, all_functions, behind, functions_in, parts_of, sum_of_statements, text_of  # noqa: E402
+from rounds import put, try_round  # noqa: E402
+from verdicts import UNREAD  # noqa: E402
 
 FOLDER = f"{clones.TOP}/mutants"
 LINES = f"{FOLDER}/lines.tsv"
@@ -533,8 +536,8 @@ def possible():
 
 HEAD = """# Mutants
 
-Small changes of functions, made by `scripts/mutants.py`, and what the prover says of them. What doesn't compile doesn't
-count. {possible:,} could be made; of each function at most eight are tried, {tried:,} of which compile.
+Small changes of functions, made by `scripts/explore/mutants.py`, and what the prover says of them. What doesn't compile
+doesn't count. {possible:,} could be made; of each function at most eight are tried, {tried:,} of which compile.
 
 *Refused* says that the proof no longer goes through. Where a goal has no answer in a proof file, or an answer that no
 longer fits and was left out, no proof of it was found by a search; where that couldn't be told, the mutant is refused

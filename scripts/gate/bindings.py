@@ -1,7 +1,7 @@
 #!/usr/bin/env python3
 """Compares what bindings/python sees of sections with what the program prints of them.
 
-Usage: scripts/bindings.py PROGRAM
+Usage: scripts/gate/bindings.py PROGRAM
 
 Of each folder of examples/ and bench/ with a section: the lines of `dwarf show` are made anew of what the binding tells
 (each unit, entry and attribute, each reference and each text), those of `check` of its findings, and those of `type`
@@ -14,8 +14,8 @@ import os
 import subprocess
 import sys
 
-TOP = os.path.dirname(os.path.dirname(os.path.abspath(__file__)))
-sys.path.insert(0, f"{TOP}/bindings/python")
+TOP = os.path.dirname(os.path.dirname(os.path.dirname(os.path.abspath(__file__))))
+sys.path[:0] = [f"{TOP}/bindings/python", f"{TOP}/scripts"]
 
 import reference  # noqa: E402
 import rothelduf  # noqa: E402

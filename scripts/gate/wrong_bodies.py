@@ -1,7 +1,7 @@
 #!/usr/bin/env python3
 """Tries wrong bodies in rounds, many of them in one check: the prover has to refuse each.
 
-Usage: scripts/wrong_bodies.py [NAME..] [--must-fail] [--edit EDIT] [--side-by-side N] [--anew] [--cache FOLDER]
+Usage: scripts/gate/wrong_bodies.py [NAME..] [--must-fail] [--edit EDIT] [--side-by-side N] [--anew] [--cache FOLDER]
        [--logs FOLDER] [--unchanged]
 
 A wrong body is a file crates/NAME/wrong/*.edit (with --must-fail crates/NAME/must-fail/*.edit too): lines `file:
@@ -15,7 +15,7 @@ tried alone, over the whole crate. Of those in wrong/ each has two lines besides
 A goal that isn't proved shows little by itself: its proof may just no longer fit. So the case is what counts, and a
 reader has to find it right. What can be seen by the text is refused (BAD EDIT): an edit without these lines, a clause
 that the function hasn't, one that says nothing of the only outcome that the new text makes, as one that begins with
-`IfOk` of an `Err` (scripts/clauses.py). The goal that is refused has to be one of that clause, where the function
+`IfOk` of an `Err` (scripts/gate/clauses.py). The goal that is refused has to be one of that clause, where the function
 returns. Where it is another, as a loop's invariant, a line `goal: GOAL: WHY` names it and says why the clause is
 broken.
 
@@ -32,9 +32,9 @@ is told (NOT TRIED); where its proof file just names what the edit took away, or
 refused (WEAK); and where it can't be applied or compiled (BAD EDIT). A line is printed for each, with the function
 and the goals.
 
-The rounds work in clones of the tree at hand (scripts/clones.py), and never in the tree itself. Where `rt ci` has
-passed over this very tree (scripts/rt_ci.py), they stand on the libraries that it left there, and so do the functions
-that no edit of a round changes: a hole stands for the proof of each, so that a check takes it by its contract
+The rounds work in clones of the tree at hand (scripts/gate/clones.py), and never in the tree itself. Where `rt ci` has
+passed over this very tree (scripts/gate/rt_ci.py), they stand on the libraries that it left there, and so do the
+functions that no edit of a round changes: a hole stands for the proof of each, so that a check takes it by its contract
 (`--allow-holes`). Else the first check of a crate proves the libraries below it once more. The clones are gone at the
 end.
 
@@ -53,7 +53,6 @@ import hashlib
 import os
 import queue
 import shutil
-import sys
 import tempfile
 from concurrent.futures import ThreadPoolExecutor
 from dataclasses import dataclass
@@ -242,7 +241,7 @@ def asked():
 def work_in(top, given):
     """The crates that have wrong bodies, each with these."""
     crates, work, found = clones.crates_in(top), [], set()
-    scripts = "".join(clones.text_of(f"{clones.TOP}/scripts/{it}.py") for it in JUDGES)
+    scripts = "".join(clones.text_of(f"{clones.TOP}/scripts/gate/{it}.py") for it in JUDGES)
     for name in given.names or list(crates):
         crate = clones.known(crates, name)
         folders = [f"{crate.path(top)}/{it}" for it in ("wrong", "must-fail")[: 1 + given.must_fail]]

@@ -1,5 +1,5 @@
 """Sections of debugging entries made at random by the grammar (chapter 7 of the DWARF 5 standard): valid ones, of every
-form, kind, format and order, with numbers that are longer than they need be. scripts/sweep.py hands them to the
+form, kind, format and order, with numbers that are longer than they need be. scripts/gate/sweep.py hands them to the
 program."""
 
 from dataclasses import dataclass

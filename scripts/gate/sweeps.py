@@ -1,11 +1,11 @@
 #!/usr/bin/env python3
-"""Prints what crates/sweeps has to print, as an independent reader (scripts/reference.py) answers.
+"""Prints what crates/sweeps has to print, as an independent reader (scripts/gate/reference.py) answers.
 
-Usage: scripts/sweeps.py [VECTOR..]
+Usage: scripts/gate/sweeps.py [VECTOR..]
 
 A VECTOR is a word of crates/sweeps/args, which has them all: a file of crates/sweeps/data, and behind it `:v4` and
-`:big`. What is printed without words stands in crates/sweeps/stdout: `scripts/sweeps.py > crates/sweeps/stdout` where
-vectors are added. It takes minutes, on all processors.
+`:big`. What is printed without words stands in crates/sweeps/stdout: `scripts/gate/sweeps.py > crates/sweeps/stdout`
+where vectors are added. It takes minutes, on all processors.
 
 As a module it has `vectors`, `of_all` and `inputs`, for what else goes over the same inputs.
 """
@@ -15,10 +15,12 @@ import os
 import sys
 import zlib
 
-import reference
-import section_names
+sys.path.insert(1, os.path.dirname(os.path.dirname(os.path.abspath(__file__))))
 
-TOP = os.path.dirname(os.path.dirname(os.path.abspath(__file__)))
+import reference  # noqa: E402
+import section_names  # noqa: E402
+
+TOP = os.path.dirname(os.path.dirname(os.path.dirname(os.path.abspath(__file__))))
 FOLDER = os.path.join(TOP, "crates", "sweeps")
 
 

@@ -1,19 +1,19 @@
 #!/usr/bin/env bash
 # Builds the library for C, C++, Rust and Python, and compares what each sees with what the program prints.
 #
-# Usage: scripts/bindings.sh [PROGRAM]
+# Usage: scripts/gate/bindings.sh [PROGRAM]
 #
 # PROGRAM is the built `dwarf` (crates/dwarf/out/dwarf). `rt lib` proves and builds crates/rothelduf_c in a clone of this tree, over its libraries
-# (scripts/clones.py). The archive, with the kit's heap in it, and the shared object lie in a temporary folder. Over it are built, with warnings as errors, the examples in C and
+# (scripts/gate/clones.py). The archive, with the kit's heap in it, and the shared object lie in a temporary folder. Over it are built, with warnings as errors, the examples in C and
 # C++ and the crate in bindings/rust with its tests. Compared are the functions that both examples print of the shipped sections, and by
-# scripts/bindings.py all that bindings/python tells of them. Driven over 20,000 changed sections, and with each request for memory refused, is
+# scripts/gate/bindings.py all that bindings/python tells of them. Driven over 20,000 changed sections, and with each request for memory refused, is
 # examples/c/hostile.c, under the sanitizers of addresses and of undefined behaviour. What can't be tried here, for want of cc, c++, the sanitizers or cargo, is named
 # before the last line; without cc nothing is, which is a failure. What passed isn't tried again while all that it stands on is the
 # same. The last line is `N passed, M failed`, and the status is 0 where none failed.
 set -euo pipefail
 
-program=$(realpath "${1:-$(dirname "$0")/../crates/dwarf/out/dwarf}")
-top=$(cd "$(dirname "$0")/.." && pwd)
+program=$(realpath "${1:-$(dirname "$0")/../../crates/dwarf/out/dwarf}")
+top=$(cd "$(dirname "$0")/../.." && pwd)
 room=$(mktemp -d)
 trap 'rm -rf "$room"' EXIT
 passed=0
@@ -44,7 +44,7 @@ fi
 if has pkg-config; then with_pkg=1; else with_pkg=""; lacks "rothelduf.pc, for want of pkg-config"; fi
 tools="cxx=$with_cxx cargo=$with_cargo sanitizers=$sanitizers pkg-config=$with_pkg"
 
-sum=$( (echo "$tools" && cc --version && cd "$top" && scripts/clones.py sum rothelduf_c && git ls-files -z --cached --others --exclude-standard bindings include examples bench/clang bench/gcc bench/dwz scripts |
+sum=$( (echo "$tools" && cc --version && cd "$top" && scripts/gate/clones.py sum rothelduf_c && git ls-files -z --cached --others --exclude-standard bindings include examples bench/clang bench/gcc bench/dwz scripts |
     xargs -0 cat && cat "$program") | sha256sum | cut -d ' ' -f 1)
 # (where there is no folder of one's own, nothing is kept)
 cache=${XDG_CACHE_HOME:-${HOME:+$HOME/.cache}}
@@ -69,7 +69,7 @@ judge() {
 # ---- the library
 
 clone=$room/clone
-words=$("$top/scripts/clones.py" make --below "$clone" rothelduf_c)
+words=$("$top/scripts/gate/clones.py" make --below "$clone" rothelduf_c)
 if ! (cd "$clone/crates/rothelduf_c" && rt lib $words > "$room/built" 2>&1); then
     tail -n 20 "$room/built"
     echo "0 passed, 1 failed"
@@ -115,7 +115,7 @@ if [ -n "$with_cargo" ]; then
     judge "the crate in bindings/rust" env ROTHELDUF_LIB="$room/lib" CARGO_TARGET_DIR="$room/rust" RUSTFLAGS="-D warnings" \
         cargo test --quiet --offline --manifest-path "$top/bindings/rust/Cargo.toml"
 fi
-judge "bindings.py" env ROTHELDUF="$room/lib/librothelduf_c.so" "$top/scripts/bindings.py" "$program"
+judge "bindings.py" env ROTHELDUF="$room/lib/librothelduf_c.so" "$top/scripts/gate/bindings.py" "$program"
 tail -n 1 "$room/said"
 {
     printf '%s' "$left_out" | sed 's/^/bindings.sh: left out: /'

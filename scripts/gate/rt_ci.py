@@ -1,7 +1,7 @@
 #!/usr/bin/env python3
 """Runs `rt ci`, unless it has passed over this very tree on this machine.
 
-Usage: scripts/rt_ci.py [--processors N] [--anew] [--cache FOLDER]
+Usage: scripts/gate/rt_ci.py [--processors N] [--anew] [--cache FOLDER]
 
 Some kits prove all anew at each `rt ci`, an hour or more of processor. So that it passed is kept, by a sum of all
 that it reads: the files in crates/, those that git ignores among them, crates.txt, HANDLES, each file elsewhere that
@@ -21,7 +21,6 @@ import os
 import re
 import shutil
 import subprocess
-import sys
 
 import clones
 
@@ -31,7 +30,7 @@ CACHE = f"{clones.CACHE}/rt_ci"
 # What `rt ci` reads, or refuses where no crate has it, wherever it lies.
 READ_ANYWHERE = (".rt", ".antt", ".edit", ".bazel")
 
-# What it doesn't read: the wrong bodies that scripts/wrong_bodies.py tries.
+# What it doesn't read: the wrong bodies that scripts/gate/wrong_bodies.py tries.
 WRONG_BODY = re.compile(r"crates/\w+/wrong/\w+\.edit")
 
 

@@ -1,14 +1,16 @@
 #!/usr/bin/env python3
 """Clones of the tree at hand, with the libraries of its crates, for scripts that change sources and check them.
 
-Usage: scripts/clones.py make [--below] FOLDER NAME..   makes the clone FOLDER for a check above the libraries NAME,
-and prints the words that this wants
-       scripts/clones.py sum NAME..                     prints a sum of all that a check above these crates reads
+Usage: scripts/gate/clones.py make [--below] FOLDER NAME..
+       scripts/gate/clones.py sum NAME..
+
+The first makes the clone FOLDER for a check above the libraries NAME, and prints the words that this wants, the second
+prints a sum of all that a check above these crates reads.
 
 With --below the libraries are those below the crates NAME.
 
 A clone has the files that git knows in the tree at hand, and those that it doesn't ignore, as they are now. Where `rt
-ci` has passed over this very tree (scripts/rt_ci.py), the libraries are those that it left in it,
+ci` has passed over this very tree (scripts/gate/rt_ci.py), the libraries are those that it left in it,
 `crates/NAME/out/rlib/NAME.rlib`: `rt check` and `rt lib` in the clone are told of each by `--extern NAME=FOLDER`, and
 the clone's crates.txt names no library of the repository, so that none is proved once more. Else they are built in
 the clone by `rt lib`, from the lowest on. The tree at hand is never changed.
@@ -27,7 +29,7 @@ import tempfile
 import threading
 from dataclasses import dataclass, field
 
-TOP = os.path.dirname(os.path.dirname(os.path.realpath(__file__)))
+TOP = os.path.dirname(os.path.dirname(os.path.dirname(os.path.realpath(__file__))))
 
 # Where verdicts are kept, in a folder of the one who runs this.
 CACHE = os.environ.get("XDG_CACHE_HOME") or os.path.expanduser("~/.cache")

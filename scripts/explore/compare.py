@@ -1,7 +1,7 @@
 #!/usr/bin/env python3
 """Compares what `dwarf show` says of the units of an ELF file with what readelf says of them.
 
-Usage: scripts/compare.py PROGRAM FILE..
+Usage: scripts/explore/compare.py PROGRAM FILE..
 
 PROGRAM is the built `dwarf` (crates/dwarf/out/dwarf). Each FILE is linked and little-endian. Of its units of
 version 5, compared are the level, the offset and the tag of each entry, the names of its attributes in their
@@ -17,9 +17,11 @@ import sys
 import tempfile
 from dataclasses import dataclass, field
 
-import section_names
+sys.path.insert(1, os.path.dirname(os.path.dirname(os.path.abspath(__file__))))
 
-SECTIONS = os.path.join(os.path.dirname(os.path.abspath(__file__)), "sections.sh")
+import section_names  # noqa: E402
+
+SECTIONS = os.path.join(os.path.dirname(os.path.dirname(os.path.abspath(__file__))), "sections.sh")
 
 # How readelf writes a number that stands in the unit.
 NUMBER = re.compile(
@@ -202,5 +204,5 @@ def main(program, files):
 
 if __name__ == "__main__":
     if len(sys.argv) < 3 or not os.access(sys.argv[1], os.X_OK):
-        sys.exit("usage: scripts/compare.py PROGRAM FILE..")
+        sys.exit("usage: scripts/explore/compare.py PROGRAM FILE..")
     sys.exit(main(sys.argv[1], sys.argv[2:]))

@@ -1,7 +1,7 @@
 #!/usr/bin/env python3
 """Compares the reader of bytes at hand with a feed that is pushed pieces.
 
-Usage: scripts/pieces.py PROGRAM [ABBREV INFO]
+Usage: scripts/explore/pieces.py PROGRAM [ABBREV INFO]
 
 PROGRAM is the built `walk` (crates/walk/out/walk). The unit of each folder of `examples` is pushed in pieces of
 several sizes, and each time written and compared with its bytes. Each front of it, and it with each byte changed in
@@ -18,9 +18,11 @@ import subprocess
 import sys
 import tempfile
 
-import section_names
+sys.path.insert(1, os.path.dirname(os.path.dirname(os.path.abspath(__file__))))
 
-EXAMPLES = os.path.join(os.path.dirname(os.path.dirname(os.path.abspath(__file__))), "examples")
+import section_names  # noqa: E402
+
+EXAMPLES = os.path.join(os.path.dirname(os.path.dirname(os.path.dirname(os.path.abspath(__file__)))), "examples")
 
 # The size of the pieces, what it is called, and how many times the instructions of the read at hand it may take.
 SIZES = [(1 << 40, "one piece", 1.1), (4096, "4,096 bytes", 1.1), (1, "one byte", 30.0)]

@@ -1,4 +1,4 @@
-"""Reads files of cases. scripts/cases.py says how they are written."""
+"""Reads files of cases. scripts/gate/cases.py says how they are written."""
 
 import ast
 import dataclasses
@@ -6,9 +6,11 @@ import os
 import re
 import sys
 
-import section_names
+sys.path.insert(1, os.path.dirname(os.path.dirname(os.path.abspath(__file__))))
 
-TOP = os.path.dirname(os.path.dirname(os.path.abspath(__file__)))
+import section_names  # noqa: E402
+
+TOP = os.path.dirname(os.path.dirname(os.path.dirname(os.path.abspath(__file__))))
 
 MARK = re.compile(r"(!\^|[$%=~!?|^])(?: |$)")
 NAME = re.compile(r"([a-z][a-z0-9_-]+) =(?: |$)")

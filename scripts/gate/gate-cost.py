@@ -2,14 +2,14 @@
 """What the gate costs: runs `.ci/run`, and says how many minutes of processor each of its steps took, and of the wrong
 bodies each crate's rounds.
 
-Usage: scripts/gate-cost.py [COMMAND WORD..]
+Usage: scripts/gate/gate-cost.py [COMMAND WORD..]
 
-COMMAND stands in the place of `.ci/run`, as `scripts/wrong_bodies.py dw_leb`. What the command prints goes through, and
-the table follows it; docs/proving.md holds one. The status is the command's.
+COMMAND stands in the place of `.ci/run`, as `scripts/gate/wrong_bodies.py dw_leb`. What the command prints goes
+through, and the table follows it; docs/proving.md holds one. The status is the command's.
 
-Whole commands are timed and nothing else: `.ci/run` tells what each step took, and `scripts/wrong_bodies.py` what the
-checks of each crate's rounds took. `rt ci` prints a line as it ends with a crate, or with its tests: a table tells by
-the clock when these came. Where this is interrupted, it ends what it runs and prints that table so far.
+Whole commands are timed and nothing else: `.ci/run` tells what each step took, and `scripts/gate/wrong_bodies.py` what
+the checks of each crate's rounds took. `rt ci` prints a line as it ends with a crate, or with its tests: a table tells
+by the clock when these came. Where this is interrupted, it ends what it runs and prints that table so far.
 
 Before it and behind it, the yardstick is measured, TIMES times each: `rt lib` of dw_leb, from nothing with nothing
 beside it. The sum is told as it is and by the yardstick, that is divided by how much longer dw_leb took than its

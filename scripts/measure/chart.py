@@ -1,7 +1,7 @@
 #!/usr/bin/env python3
-"""Draws a bar chart, as SVG, of what `scripts/measure.py peers` wrote.
+"""Draws a bar chart, as SVG, of what `scripts/measure/measure.py peers` wrote.
 
-Usage: scripts/chart.py CSV > SVG
+Usage: scripts/measure/chart.py CSV > SVG
 
 Each line of CSV, but the first, is `job,reader,seconds,megabytes_a_second`. A bar is as long as its reader is fast, on
 one scale; those of this project's program are drawn dark.

@@ -1,7 +1,7 @@
 #!/usr/bin/env python3
 """Runs cases over the built program: what it writes, what it says on standard error, and its status.
 
-Usage: scripts/cases.py PROGRAM [FILE..]
+Usage: scripts/gate/cases.py PROGRAM [FILE..]
 
 PROGRAM is the built `dwarf` (crates/dwarf/out/dwarf). Each FILE has the cases of one topic; without one, all files of
 `cases/` are run. Each case runs in a folder of its own, where its files lie, for at most 10 seconds. The last line is

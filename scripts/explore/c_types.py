@@ -1,7 +1,7 @@
 #!/usr/bin/env python3
 """Compares the types that `dwarf type` writes with the declarations in the sources.
 
-Usage: scripts/c_types.py PROGRAM DIR..
+Usage: scripts/explore/c_types.py PROGRAM DIR..
 
 PROGRAM is the built `dwarf` (crates/dwarf/out/dwarf). Each DIR has the sections of a program, as scripts/sections.sh
 writes them, and its C sources. `dwarf type` runs at each entry of all units and has to end well. What it writes at a
@@ -16,7 +16,9 @@ import re
 import subprocess
 import sys
 
-import section_names
+sys.path.insert(1, os.path.dirname(os.path.dirname(os.path.abspath(__file__))))
+
+import section_names  # noqa: E402
 
 DECLARED = {"DW_TAG_variable", "DW_TAG_formal_parameter", "DW_TAG_member"}
 
@@ -120,5 +122,5 @@ def compare(program, folder):
 
 if __name__ == "__main__":
     if len(sys.argv) < 3 or not os.access(sys.argv[1], os.X_OK):
-        sys.exit("usage: scripts/c_types.py PROGRAM DIR..")
+        sys.exit("usage: scripts/explore/c_types.py PROGRAM DIR..")
     sys.exit(0 if all([compare(sys.argv[1], it) for it in sys.argv[2:]]) else 1)

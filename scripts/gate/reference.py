@@ -1,22 +1,24 @@
 #!/usr/bin/env python3
 """Debugging entries of DWARF read by a program that is slow and simple: a yardstick for readers that are neither.
 
-Usage: scripts/reference.py SUBCOMMAND --info FILE --abbrev FILE [--str FILE] [--line-str FILE] [--str-offsets FILE]
-                            [--big] [--v4] WORD..
+Usage: scripts/gate/reference.py SUBCOMMAND --info FILE --abbrev FILE [--str FILE] [--line-str FILE]
+       [--str-offsets FILE] [--big] [--v4] WORD..
 
 It takes the words of `dwarf` and writes what `dwarf` has to write, with the same lines on standard error and the same
 status; only the texts about words that aren't taken are its own. It follows the definitions in words
 (docs/definitions.md) and the standard, and shares nothing with the sources of the program: so
-`scripts/cases.py scripts/reference.py cases/show ..` tries it by the cases of the program, and whoever writes a reader
-of their own can compare with it. As a module it has `read_section`, `resolve`, `text_of`, `findings`, `type_text` and
-`set_number`.
+`scripts/gate/cases.py scripts/gate/reference.py cases/show ..` tries it by the cases of the program, and whoever writes
+a reader of their own can compare with it. As a module it has `read_section`, `resolve`, `text_of`, `findings`,
+`type_text` and `set_number`.
 """
 
 import os
 import sys
 from dataclasses import dataclass, field
 
-import section_names
+sys.path.insert(1, os.path.dirname(os.path.dirname(os.path.abspath(__file__))))
+
+import section_names  # noqa: E402
 
 # The limits that the standard leaves open (docs/definitions.md).
 NESTING = 4096

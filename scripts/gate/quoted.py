@@ -1,7 +1,7 @@
 #!/usr/bin/env python3
 """Looks whether what the documents quote of the sources stands there word for word.
 
-Usage: scripts/quoted.py
+Usage: scripts/gate/quoted.py
 
 A quotation is a fenced block of README.md or docs/*.md whose first line names, behind the language, a file below
 crates/, as
@@ -19,7 +19,7 @@ import os
 import re
 import sys
 
-TOP = os.path.dirname(os.path.dirname(os.path.abspath(__file__)))
+TOP = os.path.dirname(os.path.dirname(os.path.dirname(os.path.abspath(__file__))))
 BLOCK = re.compile(r"^ {0,3}(`{3,}|~{3,}) *\w+ +(\S+) *\n(.*?)^ {0,3}\1[`~]* *$", re.MULTILINE | re.DOTALL)
 
 # So many quotations there are at the least.

@@ -1,7 +1,7 @@
 #!/usr/bin/env python3
 """Hands mutated sections to the program.
 
-Usage: scripts/mutate.py PROGRAM [COUNT [SEED]]
+Usage: scripts/explore/mutate.py PROGRAM [COUNT [SEED]]
 
 PROGRAM is the built `dwarf` (crates/dwarf/out/dwarf). COUNT times (600 by default) .debug_info of an example,
 and at times .debug_abbrev too, gets a few bytes changed, put in, taken out or cut off, and `copy` and `show`
@@ -18,9 +18,11 @@ import sys
 import tempfile
 from dataclasses import dataclass
 
-import section_names
+sys.path.insert(1, os.path.dirname(os.path.dirname(os.path.abspath(__file__))))
 
-EXAMPLES = os.path.join(os.path.dirname(os.path.abspath(__file__)), "..", "examples")
+import section_names  # noqa: E402
+
+EXAMPLES = os.path.join(os.path.dirname(os.path.abspath(__file__)), "..", "..", "examples")
 
 OF_VERSION_FOUR = ("clang4", "gcc4")
 
@@ -120,5 +122,5 @@ def main(program, count=600, seed=1):
 if __name__ == "__main__":
     program, *counts = sys.argv[1:] or [""]
     if not os.access(program, os.X_OK) or len(counts) > 2 or not all(it.isdigit() for it in counts):
-        sys.exit("usage: scripts/mutate.py PROGRAM [COUNT [SEED]]")
+        sys.exit("usage: scripts/explore/mutate.py PROGRAM [COUNT [SEED]]")
     sys.exit(main(program, *map(int, counts)))

@@ -99,14 +99,16 @@ def is_goal_of(goal, clause, is_only=False):
     return any(re.fullmatch(rf"(?:\w+-)?returns{rest}", goal) for rest in rests)
 
 
+OF_A_REASON = "(r : Reason) → result ≡ Err (Bad r)"
+
 # Clauses and texts with what has to be said of them.
 SAMPLES = [
     ("IfOk result (λ x. x ≡ n)", "n", "return Err(1);", True),
     ("IfOk result (λ x. x ≡ n)", "Ok(n)", "Err(n)", True),
     ("IfOk result (λ x. x ≡ n) × IfErr result (λ e. e ≡ 0)", "Ok(n)", "Err(n)", False),
-    ("(x n : ℕ) → Taken b x n → OnOk result ⊤", "a?", "match a { Ok(v) => v, Err(_) => return Err(Bad), }", True),
-    ("(r : Reason) → result ≡ Err (Bad r) → pool.new ≡ pool.old", "a?", "{ pool.clear(); return Ok(0); }", True),
-    ("(r : Reason) → result ≡ Err (Bad r) → pool.new ≡ pool.old", "a?", "{ pool.clear(); return Err(Bad); }", False),
+    ("(x n : ℕ) → Taken b x n → OnOk result ⊤", "a?", "match a { Ok(v) => v, Err(_) => return Err(F) }", True),
+    (f"{OF_A_REASON} → pool.new ≡ pool.old", "a?", "{ pool.clear(); return Ok(0); }", True),
+    (f"{OF_A_REASON} → pool.new ≡ pool.old", "a?", "{ pool.clear(); return Err(Bad); }", False),
     ("IfErr result (λ e. e ≡ NoMemory)", "Ok(n)", "Ok(n + 1)", False),
     ("IfSome result (λ x. x ≡ n)", "Some(n)", "None", True),
     ("result ≡ find n", "Some(n)", "None", False),

@@ -1,7 +1,7 @@
 #!/usr/bin/env python3
 """Refuses memory, reads and writes, one a run, and looks at what is answered and at what stands afterwards.
 
-Usage: scripts/refusals.py REFUSALS DWARF [--all]
+Usage: scripts/gate/refusals.py REFUSALS DWARF [--all]
 
 REFUSALS is the built program of scenarios (crates/refusals/out/refusals), DWARF the built `dwarf`
 (crates/dwarf/out/dwarf). Tried are
@@ -38,7 +38,7 @@ import subprocess
 import sys
 import tempfile
 
-TOP = os.path.dirname(os.path.dirname(os.path.abspath(__file__)))
+TOP = os.path.dirname(os.path.dirname(os.path.dirname(os.path.abspath(__file__))))
 
 SCENARIOS = (
     "value tables declaration table-builder builder draft unit unit-from deep body section section-as push type check"

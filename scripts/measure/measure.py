@@ -1,9 +1,9 @@
 #!/usr/bin/env python3
 """Measures the seconds of processor and the most memory that `dwarf` takes.
 
-Usage: scripts/measure.py units PROGRAM [COUNT]
-       scripts/measure.py section PROGRAM FILE
-       scripts/measure.py peers PROGRAM FILE [--gimli WALK] [--turns N] [--csv OUT]
+Usage: scripts/measure/measure.py units PROGRAM [COUNT]
+       scripts/measure/measure.py section PROGRAM FILE
+       scripts/measure/measure.py peers PROGRAM FILE [--gimli WALK] [--turns N] [--csv OUT]
 
 PROGRAM is the built `dwarf` (crates/dwarf/out/dwarf). Of a run that takes less memory than some 7 MB so much is told
 (scripts/measured.py), so small sections tell nothing of memory.
@@ -27,7 +27,7 @@ peers: beside other readers over FILE, a linked ELF file of version 5 or a folde
 `line_str` and `str_offsets`. They take turns, N of them (by default nine), and the middle one counts. What is told of
 each job and reader are the seconds, the megabytes of .debug_info a second, and the most memory that it took at any time
 for each byte of all sections, as a table, and with --csv as lines `job,reader,seconds,megabytes_a_second`, of which
-scripts/chart.py draws a chart.
+scripts/measure/chart.py draws a chart.
 """
 
 import argparse
@@ -40,9 +40,11 @@ import sys
 import tempfile
 from dataclasses import dataclass
 
-import elf_sections
-import measured
-import section_names
+sys.path.insert(1, os.path.dirname(os.path.dirname(os.path.abspath(__file__))))
+
+import elf_sections  # noqa: E402
+import measured  # noqa: E402
+import section_names  # noqa: E402
 
 READERS = [["readelf", "--debug-dump=info"], ["llvm-dwarfdump", "--debug-info"]]
 

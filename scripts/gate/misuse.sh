@@ -3,13 +3,13 @@
 # misuse/an_entry_outlives_its_section.txt and misuse/a_text_outlives_its_strings.txt have to be refused as a
 # borrow that still stands, and their sound counterparts have to pass.
 #
-# Usage: scripts/misuse.sh
+# Usage: scripts/gate/misuse.sh
 #
-# They are modules of a small crate in a clone of this tree, over its libraries (scripts/clones.py): one check judges the
+# They are modules of a small crate in a clone of this tree, over its libraries (scripts/gate/clones.py): one check judges the
 # sound ones, another the others. The clone is gone at the end. What passed isn't tried again while all that it stands on
 # is the same. The last line counts the callers that were judged rightly.
 set -euo pipefail
-cd "$(dirname "$0")/.."
+cd "$(dirname "$0")/../.."
 
 stop() {
     echo "misuse.sh: $1" >&2
@@ -21,7 +21,7 @@ scratch=$(mktemp -d)
 trap 'rm -rf "$scratch"' EXIT
 trap 'exit 1' INT TERM HUP
 
-sum=$( (scripts/clones.py sum $libraries && cat scripts/misuse.sh misuse/*.txt) | sha256sum | cut -d ' ' -f 1) || exit 1
+sum=$( (scripts/gate/clones.py sum $libraries && cat scripts/gate/misuse.sh misuse/*.txt) | sha256sum | cut -d ' ' -f 1) || exit 1
 # (where there is no folder of one's own, nothing is kept)
 cache=${XDG_CACHE_HOME:-${HOME:+$HOME/.cache}}
 kept=${cache:-$scratch}/misuse/$sum
@@ -41,7 +41,7 @@ for caller in $sound $unsound; do
 done
 
 clone=$scratch/clone
-words=$(scripts/clones.py make "$clone" $libraries)
+words=$(scripts/gate/clones.py make "$clone" $libraries)
 crate=$clone/crates/misuse
 mkdir -p "$crate/src"
 # (where words tell of the libraries, none of them is built)

@@ -1,7 +1,7 @@
 #!/usr/bin/env python3
 """Measures how the work and the memory of `dwarf` grow with the input, over sections of many shapes.
 
-Usage: scripts/growth.py PROGRAM [SHAPE..]
+Usage: scripts/measure/growth.py PROGRAM [SHAPE..]
 
 PROGRAM is the built `dwarf` (crates/dwarf/out/dwarf). Sections are made that grow in one way each, some as compilers
 write them and most as a stranger would who means to cost us time or memory: deep and wide trees, nulls, entries that
@@ -24,8 +24,11 @@ import sys
 import tempfile
 from dataclasses import dataclass
 
-import measured
-import section_names
+sys.path.insert(1, os.path.dirname(os.path.dirname(os.path.abspath(__file__))))
+
+import measured  # noqa: E402
+import section_names  # noqa: E402
+from spelled import declaration, four, uleb, unit  # noqa: E402
 
 # The most levels that may stand below the root (docs/definitions.md).
 DEEPEST = 4_095
@@ -47,36 +50,12 @@ LEAST, GREATEST = 1.4, 2.2
 FEW = 10
 
 
-def uleb(value):
-    out = bytearray()
-    while True:
-        out.append(value & 0x7F | (0x80 if value > 0x7F else 0))
-        value >>= 7
-        if not value:
-            return bytes(out)
-
-
-def declaration(code, tag, children, pairs):
-    spelled = b"".join(uleb(name) + uleb(form) for name, form in pairs)
-    return uleb(code) + uleb(tag) + bytes([children]) + spelled + b"\0\0"
-
-
-def four(number):
-    return number.to_bytes(4, "little")
-
-
 # Code 1, a compile unit with children; code 2, a base type of one byte that tells its size.
 ROOT = declaration(1, 0x11, 1, [])
 LEAF = declaration(2, 0x24, 0, [(0x0B, 0x0B)])
 
 # Where the first entry below a root of one byte begins.
 FIRST = 13
-
-
-def unit(body, table=0, head=b"\x01\x08"):
-    """A unit whose unit type and address size are told, behind its version."""
-    rest = b"\x05\0" + head + four(table) + body
-    return four(len(rest)) + rest
 
 
 @dataclass
@@ -446,5 +425,5 @@ def main(program, wanted):
 
 if __name__ == "__main__":
     if len(sys.argv) < 2 or not os.access(sys.argv[1], os.X_OK):
-        sys.exit("usage: scripts/growth.py PROGRAM [SHAPE..]")
+        sys.exit("usage: scripts/measure/growth.py PROGRAM [SHAPE..]")
     sys.exit(main(sys.argv[1], sys.argv[2:]))

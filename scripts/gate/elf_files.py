@@ -2,7 +2,7 @@
 """Looks at what the scripts for ELF files do: `scripts/elf_sections.py`, `scripts/dwarf`, `scripts/audit` and
 `scripts/install.sh`.
 
-Usage: scripts/elf_files.py PROGRAM
+Usage: scripts/gate/elf_files.py PROGRAM
 
 PROGRAM is the built `dwarf` (crates/dwarf/out/dwarf). A small program is compiled and linked in many ways, where there
 is a C compiler, and changed at random 500 times in its headers: what is taken out of each file is compared with what
@@ -28,11 +28,13 @@ import time
 import zlib
 from dataclasses import dataclass
 
-import elf_sections
-import front_door
-import section_names
+sys.path.insert(1, os.path.dirname(os.path.dirname(os.path.abspath(__file__))))
 
-TOP = os.path.dirname(os.path.dirname(os.path.abspath(__file__)))
+import elf_sections  # noqa: E402
+import front_door  # noqa: E402
+import section_names  # noqa: E402
+
+TOP = os.path.dirname(os.path.dirname(os.path.dirname(os.path.abspath(__file__))))
 
 SOURCE = "struct point { int x, y; }; struct point origin; int main(void) { return origin.x; }\n"
 
@@ -485,5 +487,5 @@ def main(program):
 
 if __name__ == "__main__":
     if len(sys.argv) != 2 or not os.access(sys.argv[1], os.X_OK):
-        sys.exit("usage: scripts/elf_files.py PROGRAM")
+        sys.exit("usage: scripts/gate/elf_files.py PROGRAM")
     sys.exit(main(os.path.abspath(sys.argv[1])))
