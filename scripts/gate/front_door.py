@@ -141,13 +141,29 @@ ELSEWHERE = (
 SHOWN = {"show": (0, "DW_TAG_structure_type"), "find main": (0, "DW_TAG_subprogram"), "check": (0, "")}
 
 
+# How many commands the README has at least, and how many links, and of those to lines of sources, all documents: where
+# there are fewer, they may just be written in a way that isn't found.
+LEAST_COMMANDS, LEAST_LINKS, LEAST_LINES = 10, 143, 56
+
+# A block of a document between fences, with its language; and the languages of commands.
+FENCED = re.compile(r"^ {0,3}(```+|~~~+)[ \t]*(\w*)[^\n]*\n(.*?)^ {0,3}\1[`~]*[ \t]*$\n?", re.MULTILINE | re.DOTALL)
+OF_COMMANDS = ("sh", "bash", "shell", "console")
+
+
 def judge_readme(judged, program, folder):
-    """Runs the commands of the README, where they stand in it."""
-    own = own_program(folder)
-    blocks = re.compile(r"^```sh\n(.*?)^```$(?:\n\n```\n(.*?)^```$)?", re.MULTILINE | re.DOTALL)
-    for block, output in blocks.findall(text_of("README.md")):
-        for line in block.strip().split("\n"):
-            judge_command(judged, program, line, output, own, folder)
+    """Runs the commands of the README, where they stand in it. What a block right behind them has, without a language,
+    is what they print."""
+    own, count, text = own_program(folder), 0, text_of("README.md")
+    blocks = list(FENCED.finditer(text))
+    for at, block in enumerate(blocks):
+        if block[2] not in OF_COMMANDS:
+            continue
+        behind = blocks[at + 1] if at + 1 < len(blocks) else block
+        is_output = not behind[2] and not text[block.end() : behind.start()].strip()
+        for line in block[3].strip().split("\n"):
+            judge_command(judged, program, line, behind[3] if is_output else "", own, folder)
+            count += 1
+    judged.judge(count >= LEAST_COMMANDS, f"README.md: only {count} commands were found, and not {LEAST_COMMANDS}")
 
 
 def own_program(folder):
@@ -305,15 +321,20 @@ def installed():
 
 def anchors_of(text):
     """The names of the headings of a document, as links have them."""
-    headings = re.findall(r"^#+ (.*)$", re.sub(r"^```.*?^```$", "", text, flags=re.MULTILINE | re.DOTALL), re.MULTILINE)
+    headings = re.findall(r"^#+ (.*)$", FENCED.sub("", text), re.MULTILINE)
     return {re.sub(r"[^\w\- ]", "", it.lower()).replace(" ", "-") for it in headings}
 
 
+def links_in(text):
+    """The places in the repository to which the links of a text lead."""
+    return [it for it in re.findall(r"\]\(([^)\s]+)\)", text) if not re.match(r"\w+:", it)]
+
+
 def judge_links(judged, document):
-    text = re.sub(r"^```.*?^```$", "", text_of(document), flags=re.MULTILINE | re.DOTALL)
-    for target in re.findall(r"\]\(([^)\s]+)\)", text):
-        if re.match(r"\w+:", target):
-            continue
+    """Looks where the links of a document lead, and returns how many there are, and how many to lines."""
+    text = FENCED.sub("", text_of(document))
+    targets = links_in(text)
+    for target in targets:
         path, _, anchor = target.partition("#")
         there = os.path.normpath(os.path.join(os.path.dirname(document), path)) if path else document
         if not os.path.exists(os.path.join(TOP, there)):
@@ -323,6 +344,13 @@ def judge_links(judged, document):
             judged.judge(holds, f"{document}: {target}: what it names isn't declared in that line")
         else:
             judged.judge(not anchor or anchor in anchors_of(text_of(there)), f"{document}: {target}: no such heading")
+    return len(targets), sum(bool(re.search(r"#L\d+$", it)) for it in targets)
+
+
+def judge_documents(judged):
+    links, lines = (sum(it) for it in zip(*(judge_links(judged, it) for it in documents())))
+    judged.judge(links >= LEAST_LINKS, f"only {links} links were found, and not {LEAST_LINKS}")
+    judged.judge(lines >= LEAST_LINES, f"only {lines} links to lines were found, and not {LEAST_LINES}")
 
 
 def is_declared(text, target, there, line):
@@ -371,8 +399,7 @@ def main(program):
         judge_linked(judged, program, folder)
         judge_install(judged, folder)
     judge_modules(judged)
-    for document in documents():
-        judge_links(judged, document)
+    judge_documents(judged)
     print(f"{judged.passed} passed, {judged.failed} failed")
     return 0 if judged.passed and not judged.failed else 1
 
