@@ -447,7 +447,7 @@ def judge_install(judged, folder):
         return
     ran = script("install.sh", "")
     judged.judge(ran.returncode == 2, f"scripts/install.sh with an empty PREFIX: {ran}")
-    prefix, stage = "/opt/a b & c|d", f"{folder}/stage with spaces"
+    prefix, stage = "/usr/local/a b & c|d", f"{folder}/stage with spaces"
     os.makedirs(f"{stage}{prefix}/bin")
     with open(f"{folder}/elsewhere", "w", encoding="utf-8") as file:
         file.write("mine")
