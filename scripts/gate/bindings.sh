@@ -46,11 +46,7 @@ tools="cxx=$with_cxx cargo=$with_cargo sanitizers=$sanitizers pkg-config=$with_p
 
 sum=$( (echo "$tools" && cc --version && cd "$top" && scripts/gate/clones.py sum rothelduf_c && git ls-files -z --cached --others --exclude-standard bindings include examples bench/clang bench/gcc bench/dwz scripts |
     xargs -0 cat && cat "$program") | sha256sum | cut -d ' ' -f 1)
-# (where there is no folder of one's own, nothing is kept)
-cache=${XDG_CACHE_HOME:-${HOME:+$HOME/.cache}}
-kept=${cache:-$room}/bindings/$sum
-if [ -f "$kept" ]; then
-    cat "$kept"
+if "$top/scripts/gate/kept.py" show bindings "$sum"; then
     exit 0
 fi
 
@@ -122,6 +118,4 @@ tail -n 1 "$room/said"
     echo "$passed passed, $failed failed"
 } | tee "$room/verdict"
 [ "$failed" -eq 0 ]
-mkdir -p "$(dirname "$kept")"
-# (it is kept as a whole or not at all)
-cp "$room/verdict" "$kept.$$" && mv "$kept.$$" "$kept"
+"$top/scripts/gate/kept.py" keep bindings "$sum" < "$room/verdict"

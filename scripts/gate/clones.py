@@ -31,9 +31,6 @@ from dataclasses import dataclass, field
 
 TOP = os.path.dirname(os.path.dirname(os.path.dirname(os.path.realpath(__file__))))
 
-# Where verdicts are kept, in a folder of the one who runs this.
-CACHE = os.environ.get("XDG_CACHE_HOME") or os.path.expanduser("~/.cache")
-
 # What a check of a crate reads, of all that is in its folder.
 READ = (".rt", ".antt")
 

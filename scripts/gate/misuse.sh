@@ -22,11 +22,7 @@ trap 'rm -rf "$scratch"' EXIT
 trap 'exit 1' INT TERM HUP
 
 sum=$( (scripts/gate/clones.py sum $libraries && cat scripts/gate/misuse.sh misuse/*.txt) | sha256sum | cut -d ' ' -f 1) || exit 1
-# (where there is no folder of one's own, nothing is kept)
-cache=${XDG_CACHE_HOME:-${HOME:+$HOME/.cache}}
-kept=${cache:-$scratch}/misuse/$sum
-if [ -f "$kept" ]; then
-    cat "$kept"
+if scripts/gate/kept.py show misuse "$sum"; then
     exit 0
 fi
 # What is lent of which owner, by the names of the callers' files.
@@ -79,8 +75,5 @@ done
 {
     echo "misuse: an entry or a text that outlives what it was lent from is refused, the sound counterparts pass"
     echo "$passed passed, 0 failed"
-} > "$scratch/verdict"
-mkdir -p "$(dirname "$kept")"
-# (it is kept as a whole or not at all)
-cp "$scratch/verdict" "$kept.$$" && mv "$kept.$$" "$kept"
-cat "$kept"
+} | tee "$scratch/verdict"
+scripts/gate/kept.py keep misuse "$sum" < "$scratch/verdict"

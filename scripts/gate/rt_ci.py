@@ -23,9 +23,7 @@ import shutil
 import subprocess
 
 import clones
-
-# Where it is kept that `rt ci` passed.
-CACHE = f"{clones.CACHE}/rt_ci"
+import kept
 
 # What `rt ci` reads, or refuses where no crate has it, wherever it lies.
 READ_ANYWHERE = (".rt", ".antt", ".edit", ".bazel")
@@ -88,7 +86,9 @@ def folders_of_libraries():
 def sweep():
     """Takes away the programs and the libraries of earlier runs."""
     for folder in folders_of_libraries().values():
-        shutil.rmtree(folder, ignore_errors=True)
+        # (`rt ci` leaves a library that it takes over from an earlier run where there is no such folder, and not where
+        # the folder is empty)
+        shutil.rmtree(os.path.dirname(folder), ignore_errors=True)
     for path in programs():
         with contextlib.suppress(FileNotFoundError):
             os.remove(os.path.join(clones.TOP, path))
@@ -99,27 +99,22 @@ def left():
     return {"programs": programs(), "libraries": libraries()}
 
 
-def kept_in(place):
-    """The last line of a run that passed over this tree and left what stands there."""
+def passed_by(folder, total):
+    """The last line of a run that passed over the tree of this sum and left what stands there."""
     try:
-        kept = json.loads(clones.text_of(place))
-        return kept.pop("verdict") if {**kept, **left()} == kept else ""
-    except (OSError, ValueError, KeyError, TypeError):
+        found = json.loads(kept.kept(folder, total) or "")
+        return found.pop("verdict") if {**found, **left()} == found else ""
+    except (ValueError, KeyError, TypeError):
         return ""
-
-
-def place_in(cache=CACHE):
-    """Where it is kept that a run passed over this tree."""
-    return f"{cache}/{sum_of_tree()}"
 
 
 def has_passed():
     """Whether `rt ci` has passed over this tree, and what it left stands there."""
-    return bool(kept_in(place_in()))
+    return bool(passed_by(kept.folder_of("rt_ci"), sum_of_tree()))
 
 
-def run_anew(place):
-    """Runs `rt ci`, whose lines go through, keeps that it passed, and returns its status."""
+def run_anew(folder, total):
+    """Runs `rt ci`, whose lines go through, keeps that it passed over the tree of this sum, and returns its status."""
     last = ""
     sweep()
     how = {"stdin": subprocess.DEVNULL, "stdout": subprocess.PIPE, "stderr": subprocess.STDOUT}
@@ -134,27 +129,23 @@ def run_anew(place):
             raise
     # (what changed while it ran isn't judged)
     stands = left()
-    if ran.returncode == 0 and place.endswith(sum_of_tree()) and all(all(sums.values()) for sums in stands.values()):
-        os.makedirs(os.path.dirname(place), exist_ok=True)
-        # (it is kept as a whole or not at all)
-        with open(f"{place}.{os.getpid()}", "w", encoding="utf-8") as file:
-            json.dump({"verdict": last, **stands}, file)
-        os.replace(f"{place}.{os.getpid()}", place)
+    if ran.returncode == 0 and total == sum_of_tree() and all(all(sums.values()) for sums in stands.values()):
+        kept.keep(folder, total, json.dumps({"verdict": last, **stands}))
     return ran.returncode
 
 
 def main():
     ask = argparse.ArgumentParser(description=__doc__, formatter_class=argparse.RawDescriptionHelpFormatter)
     ask.add_argument("--anew", action="store_true", help="run it in any case")
-    ask.add_argument("--cache", default=CACHE)
+    ask.add_argument("--cache", default=kept.folder_of("rt_ci"))
     ask.add_argument("--processors", type=int, default=0, metavar="N", help="on so many processors, or else on all")
     given = ask.parse_args()
-    place = place_in(given.cache)
+    total = sum_of_tree()
     if given.processors:
         os.sched_setaffinity(0, sorted(os.sched_getaffinity(0))[: given.processors])
-    verdict = "" if given.anew else kept_in(place)
+    verdict = "" if given.anew else passed_by(given.cache, total)
     if not verdict:
-        return run_anew(place)
+        return run_anew(given.cache, total)
     print(f"rt ci: not run again: it has passed over this very tree on this machine ({verdict})")
     print("0 passed, 0 failed (kept)")
     return 0

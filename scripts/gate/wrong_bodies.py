@@ -59,6 +59,7 @@ from dataclasses import dataclass
 
 import clauses
 import clones
+import kept
 import rt_ci
 import verdicts
 from clones import Stop
@@ -105,8 +106,8 @@ class Work:
     # Whether it is functions as they are that are copied.
     keeps_copies: bool = False
 
-    def place(self, edit):
-        return f"{self.cache}/{hashlib.sha256((self.base + edit.tried()).encode()).hexdigest()}"
+    def sum_of(self, edit):
+        return hashlib.sha256((self.base + edit.tried()).encode()).hexdigest()
 
     def to_try(self):
         return [it for it in self.edits if not it.kind]
@@ -118,9 +119,10 @@ class Work:
             edit.is_compared = all(rows.get((it, edit.clause)) == sum_of_copy(edit, it) for it in edit.copied)
 
     def take_kept(self):
-        for edit in self.edits if self.cache else []:
-            if not edit.kind and os.path.isfile(self.place(edit)):
-                edit.set(REFUSED, clones.text_of(self.place(edit)))
+        for edit in [it for it in self.edits if self.cache and not it.kind]:
+            what = kept.kept(self.cache, self.sum_of(edit))
+            if what is not None:
+                edit.set(REFUSED, what)
 
     def keep(self, edits):
         copied = [(it, name) for it in edits if self.keeps_copies and it.kind == ACCEPTED for name in it.copied]
@@ -129,7 +131,7 @@ class Work:
             keep_compared(self.crate.name, compared(self.crate.name) | proved)
         for edit in edits:
             if self.cache and edit.kind == REFUSED:
-                put_text(self.place(edit), edit.what)
+                kept.keep(self.cache, self.sum_of(edit), edit.what)
 
 
 def try_crate(work, clone, logs, words):
@@ -232,7 +234,7 @@ def asked():
     side_by_side = {"type": int, "default": len(os.sched_getaffinity(0)), "metavar": "N"}
     ask.add_argument("--side-by-side", **side_by_side, help="how many crates at one time")
     ask.add_argument("--anew", action="store_true", help="try what passed before, too")
-    ask.add_argument("--cache", default=f"{clones.CACHE}/wrong_bodies")
+    ask.add_argument("--cache", default=kept.folder_of("wrong_bodies"))
     ask.add_argument("--logs", default="", help="a folder for what each check says")
     ask.add_argument("--unchanged", action="store_true", help="copy the functions as they are, which has to be proved")
     return ask.parse_args()
