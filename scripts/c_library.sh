@@ -1,11 +1,11 @@
 #!/bin/sh
-# Installs the library for C: PREFIX/include gets its headers, and PREFIX/lib librothelduf_c.a, with the kit's heap in it, so that it links alone,
-# librothelduf_c.so, and pkgconfig/rothelduf.pc.
+# Installs the library for C: PREFIX/include gets its headers, and PREFIX/lib librothelduf_c.a, with the kit's heap in
+# it, so that it links alone, librothelduf_c.so, and pkgconfig/rothelduf.pc.
 #
 # Usage: scripts/c_library.sh PREFIX [TREE]
 #
-# The archive is crates/rothelduf_c/out/librothelduf_c.a of the tree TREE, by default this one, which `rt lib` proves and builds in crates/rothelduf_c.
-# DESTDIR, where it is set, stands before PREFIX.
+# The archive is crates/rothelduf_c/out/librothelduf_c.a of the tree TREE, by default this one, which `rt lib` proves
+# and builds in crates/rothelduf_c. DESTDIR, where it is set, stands before PREFIX.
 set -eu
 
 here=$(cd "$(dirname "$0")/.." && pwd)

@@ -1,13 +1,15 @@
 #!/bin/sh
-# Installs the program with its manual page and its completions, the scripts for ELF files, and the library for C, or takes them away.
+# Installs the program with its manual page and its completions, the scripts for ELF files, and the library for C, or
+# takes them away.
 #
 # Usage: scripts/install.sh PREFIX [--uninstall]
 #
-# PREFIX/bin gets `dwarf` (crates/dwarf/out/dwarf, which has to be built before), `dwarf-elf` and `dwarf-audit` (scripts/dwarf and scripts/audit, which
-# lie in PREFIX/libexec/rothelduf with what they need), PREFIX/share the manual page and the completions of bash, zsh and fish.
-# Where crates/rothelduf_c is built (`rt lib`), PREFIX/include and PREFIX/lib get the library for C (scripts/c_library.sh).
-# DESTDIR, where it is set, stands before PREFIX. What is a link there is replaced, and what it leads to stays as it is. With --uninstall the same files
-# are taken away, and nothing else.
+# PREFIX/bin gets `dwarf` (crates/dwarf/out/dwarf, which has to be built before), `dwarf-elf` and `dwarf-audit`
+# (scripts/dwarf and scripts/audit, which lie in PREFIX/libexec/rothelduf with what they need), PREFIX/share the manual
+# page and the completions of bash, zsh and fish. Where crates/rothelduf_c is built (`rt lib`), PREFIX/include and
+# PREFIX/lib get the library for C (scripts/c_library.sh). DESTDIR, where it is set, stands before PREFIX. What is a
+# link there is replaced, and what it leads to stays as it is. With --uninstall the same files are taken away, and
+# nothing else.
 set -eu
 
 here=$(cd "$(dirname "$0")/.." && pwd)

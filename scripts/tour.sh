@@ -3,9 +3,9 @@
 #
 # Usage: scripts/tour.sh [PROGRAM [DIR NAME]]
 #
-# PROGRAM is the built `dwarf` (crates/dwarf/out/dwarf), DIR has the sections as scripts/sections.sh writes them, and NAME
-# is that of an entry which has a DW_AT_decl_line. Without them it is examples/types and its `table`. The status is 0 where
-# all that is said of the section before and after an edit holds, else 1.
+# PROGRAM is the built `dwarf` (crates/dwarf/out/dwarf), DIR has the sections as scripts/sections.sh writes them, and
+# NAME is that of an entry which has a DW_AT_decl_line. Without them it is examples/types and its `table`. The status is
+# 0 where all that is said of the section before and after an edit holds, else 1.
 set -eu
 
 here=$(dirname "$0")

@@ -383,10 +383,11 @@ def try_crate(name, room, given, words):
     base, rows = sum_of(crate, clones.TOP), kept(name)
     judged = Judged(name, crate.path(room), given.logs, words)
     edits = list(all_mutants(judged, given))
-    # (those that another --most took stay)
+    # (those that another --most took stay as long as they aren't stale)
     ids = {it.name for it in all_mutants(judged, argparse.Namespace(function=given.function, most=10**6))}
+    chosen = {it.name for it in edits}
     if not given.function:
-        rows = {key: row for key, row in rows.items() if key in ids}
+        rows = {key: row for key, row in rows.items() if key in chosen or key in ids and row["sum"] == base}
     stale = [it for it in edits if rows.get(it.name, {}).get("sum") != base]
     left = stale + [it for it in edits if given.again and it not in stale and rows[it.name]["verdict"] == NOT_JUDGED]
     compiled = without_broken(judged, [it for it in left if it.copied]) + [it for it in left if not it.copied]

@@ -3,13 +3,15 @@
 #
 # Usage: scripts/gate/bindings.sh [PROGRAM]
 #
-# PROGRAM is the built `dwarf` (crates/dwarf/out/dwarf). `rt lib` proves and builds crates/rothelduf_c in a clone of this tree, over its libraries
-# (scripts/gate/clones.py). The archive, with the kit's heap in it, and the shared object lie in a temporary folder. Over it are built, with warnings as errors, the examples in C and
-# C++ and the crate in bindings/rust with its tests. Compared are the functions that both examples print of the shipped sections, and by
-# scripts/gate/bindings.py all that bindings/python tells of them. Driven over 20,000 changed sections, and with each request for memory refused, is
-# examples/c/hostile.c, under the sanitizers of addresses and of undefined behaviour. What can't be tried here, for want of cc, c++, the sanitizers or cargo, is named
-# before the last line; without cc nothing is, which is a failure. What passed isn't tried again while all that it stands on is the
-# same. The last line is `N passed, M failed`, and the status is 0 where none failed.
+# PROGRAM is the built `dwarf` (crates/dwarf/out/dwarf). `rt lib` proves and builds crates/rothelduf_c in a clone of
+# this tree, over its libraries (scripts/gate/clones.py). The archive, with the kit's heap in it, and the shared object
+# lie in a temporary folder. Over it are built, with warnings as errors, the examples in C and C++ and the crate in
+# bindings/rust with its tests. Compared are the functions that both examples print of the shipped sections, and by
+# scripts/gate/bindings.py all that bindings/python tells of them. Driven over 20,000 changed sections, and with each
+# request for memory refused, is examples/c/hostile.c, under the sanitizers of addresses and of undefined behaviour.
+# What can't be tried here, for want of cc, c++, the sanitizers or cargo, is named before the last line; without cc
+# nothing is, which is a failure. What passed isn't tried again while all that it stands on is the same. The last line
+# is `N passed, M failed`, and the status is 0 where none failed.
 set -euo pipefail
 
 program=$(realpath "${1:-$(dirname "$0")/../../crates/dwarf/out/dwarf}")

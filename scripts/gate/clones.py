@@ -174,6 +174,11 @@ def end_all():
                 os.killpg(pid, signal.SIGTERM)
 
 
+def is_ending():
+    """Whether the script is about to end."""
+    return _ends.is_set()
+
+
 def ended_well(name, main):
     """Ends the script with the status of `main`. What stops it is told in one line, by the script's name."""
     sys.stdout.reconfigure(line_buffering=True)

@@ -5,9 +5,9 @@
 #
 # Usage: scripts/gate/misuse.sh
 #
-# They are modules of a small crate in a clone of this tree, over its libraries (scripts/gate/clones.py): one check judges the
-# sound ones, another the others. The clone is gone at the end. What passed isn't tried again while all that it stands on
-# is the same. The last line counts the callers that were judged rightly.
+# They are modules of a small crate in a clone of this tree, over its libraries (scripts/gate/clones.py): one check
+# judges the sound ones, another the others. The clone is gone at the end. What passed isn't tried again while all that
+# it stands on is the same. The last line counts the callers that were judged rightly.
 set -euo pipefail
 cd "$(dirname "$0")/../.."
 

@@ -3,7 +3,8 @@
 #
 # Usage: scripts/gate/needs.sh
 #
-# Printed is a line for each thing that is lacking. Those without which a step fails end the gate: the status is then 1. Those without which a step leaves something out are told of, and no more.
+# Printed is a line for each thing that is lacking. Those without which a step fails end the gate: the status is then 1.
+# Those without which a step leaves something out are told of, and no more.
 set -uo pipefail
 cd "$(dirname "$0")/../.." || exit 1
 

@@ -1,10 +1,10 @@
 #!/usr/bin/env python3
 """Refuses memory, reads and writes, one a run, and looks at what is answered and at what stands afterwards.
 
-Usage: scripts/gate/refusals.py REFUSALS DWARF [--all]
+Usage: scripts/gate/refusals.py TRIALS DWARF [--all]
 
-REFUSALS is the built program of scenarios (crates/refusals/out/refusals), DWARF the built `dwarf`
-(crates/dwarf/out/dwarf). Tried are
+TRIALS is the built program of scenarios (crates/trials/out/trials), DWARF the built `dwarf` (crates/dwarf/out/dwarf).
+Tried are
 
 - each scenario with each of its requests for memory refused: a call answers NoMemory and leaves what its
   documentation says, the same call made again succeeds, and all else is told as with ample memory; or the scenario
@@ -259,7 +259,7 @@ def try_said(tried):
         _, heading, said = file.read().partition(f"\n{HEADING}\n")
     made = ""
     for name in MADE:
-        with open(f"{TOP}/crates/refusals/src/{name}", encoding="utf-8") as file:
+        with open(f"{TOP}/crates/trials/src/refusals/{name}", encoding="utf-8") as file:
             made += file.read()
     rows = re.findall(r"(?m)^\| `\w+` \| (.*) \|$", said.partition("\n## ")[0])
     calls = re.findall(r"`(?:\w+::)?(\w+)`", " ".join(rows))
@@ -426,11 +426,11 @@ def try_fifo(tried, run, given, folder, fifo):
 
 def main():
     ask = argparse.ArgumentParser(description=__doc__, formatter_class=argparse.RawDescriptionHelpFormatter)
-    ask.add_argument("refusals")
+    ask.add_argument("trials")
     ask.add_argument("dwarf")
     ask.add_argument("--all", action="store_true", help="refuse each request, read and write of each command")
     given = ask.parse_args()
-    scenarios, dwarf, tried = os.path.abspath(given.refusals), os.path.abspath(given.dwarf), Tried()
+    scenarios, dwarf, tried = os.path.abspath(given.trials), os.path.abspath(given.dwarf), Tried()
     pool = concurrent.futures.ThreadPoolExecutor(os.cpu_count())
     with tempfile.TemporaryDirectory(prefix="refusals-") as room, pool as side_by_side:
         shim = f"{room}/shim.so"

@@ -8,9 +8,10 @@ that it reads: the files in crates/, those that git ignores among them, crates.t
 it would refuse or read, the line of `rt version`, the variables RT_*, and this script. It isn't run again where that
 sum was kept, and the programs and the libraries that it left are there, byte for byte, since other steps of the gate
 run the ones and stand on the others. Those that are there before it runs are taken away, so that what it leaves is of
-that very run. --anew runs it in any case. With --processors it sees so many of them: it gives each check as many jobs
-as there are, and each job loads anew what it needs. The last line is that of `rt ci`, `N passed, M failed`, and so is
-the status; where it isn't run again, the line says so and counts nothing.
+that very run. --anew runs it in any case, and tells it to take nothing over from an earlier run. With --processors it
+sees so many of them: it gives each check as many jobs as there are, and each job loads anew what it needs. The last
+line is that of `rt ci`, `N passed, M failed`, and so is the status; where it isn't run again, the line says so and
+counts nothing.
 """
 
 import argparse
@@ -113,12 +114,13 @@ def has_passed():
     return bool(passed_by(kept.folder_of("rt_ci"), sum_of_tree()))
 
 
-def run_anew(folder, total):
-    """Runs `rt ci`, whose lines go through, keeps that it passed over the tree of this sum, and returns its status."""
+def run_anew(folder, total, words):
+    """Runs `rt ci` with these words, whose lines go through, keeps that it passed over the tree of this sum, and returns
+    its status."""
     last = ""
     sweep()
     how = {"stdin": subprocess.DEVNULL, "stdout": subprocess.PIPE, "stderr": subprocess.STDOUT}
-    ran = subprocess.Popen(["rt", "ci"], cwd=clones.TOP, **how, text=True, errors="replace")
+    ran = subprocess.Popen(["rt", "ci", *words], cwd=clones.TOP, **how, text=True, errors="replace")
     with ran:
         try:
             for line in ran.stdout:
@@ -136,7 +138,7 @@ def run_anew(folder, total):
 
 def main():
     ask = argparse.ArgumentParser(description=__doc__, formatter_class=argparse.RawDescriptionHelpFormatter)
-    ask.add_argument("--anew", action="store_true", help="run it in any case")
+    ask.add_argument("--anew", action="store_true", help="run it in any case, from nothing")
     ask.add_argument("--cache", default=kept.folder_of("rt_ci"))
     ask.add_argument("--processors", type=int, default=0, metavar="N", help="on so many processors, or else on all")
     given = ask.parse_args()
@@ -145,7 +147,7 @@ def main():
         os.sched_setaffinity(0, sorted(os.sched_getaffinity(0))[: given.processors])
     verdict = "" if given.anew else passed_by(given.cache, total)
     if not verdict:
-        return run_anew(given.cache, total)
+        return run_anew(given.cache, total, ["--anew"] if given.anew else [])
     print(f"rt ci: not run again: it has passed over this very tree on this machine ({verdict})")
     print("0 passed, 0 failed (kept)")
     return 0

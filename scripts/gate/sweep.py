@@ -6,7 +6,7 @@ Usage: scripts/gate/sweep.py PROGRAM [COUNT [SEED]] [--all]
 PROGRAM is the built `dwarf` (crates/dwarf/out/dwarf). Handed over are, in turn, COUNT times (10,000 by default): a
 section that is made at random by the grammar (scripts/gate/made.py); the same changed; and the sections of a case in
 `cases/` changed, of those that have at most 300 bytes of .debug_info. Changed is one of the files: cut off, or with a
-byte changed, put in or taken out. With --all every cut and every change of one byte of the vectors in crates/sweeps is
+byte changed, put in or taken out. With --all every cut and every change of one byte of the vectors in crates/trials is
 handed over in their place. Over each, `show`, `check` and `copy`, `find` by a name, and `type` and `set` at an entry or
 beside one have to write the same, say the same on standard error and end with the same status; a section that is made
 has no fault. Each difference is printed with its bytes. It takes all processors. The last line is
@@ -166,7 +166,7 @@ def main():
     ask.add_argument("program")
     ask.add_argument("count", nargs="?", type=int, default=10_000)
     ask.add_argument("seed", nargs="?", type=int, default=1)
-    all_of = "every cut and change of the vectors in crates/sweeps in the place of sections at random"
+    all_of = "every cut and change of the vectors in crates/trials in the place of sections at random"
     ask.add_argument("--all", action="store_true", help=all_of)
     given = ask.parse_args()
     sys.setrecursionlimit(100_000)

@@ -1,11 +1,11 @@
 #!/usr/bin/env python3
-"""Prints what crates/sweeps has to print, as an independent reader (scripts/gate/reference.py) answers.
+"""Prints what crates/trials has to print of its vectors, as an independent reader (scripts/gate/reference.py) answers.
 
 Usage: scripts/gate/sweeps.py [VECTOR..]
 
-A VECTOR is a word of crates/sweeps/args, which has them all: a file of crates/sweeps/data, and behind it `:v4` and
-`:big`. What is printed without words stands in crates/sweeps/stdout: `scripts/gate/sweeps.py > crates/sweeps/stdout`
-where vectors are added. It takes minutes, on all processors.
+A VECTOR is a word of crates/trials/args, which has them all behind the word `all`: a file of crates/trials/data, and
+behind it `:v4` and `:big`. What is printed without words stands in crates/trials/stdout, behind what each scenario tells.
+It takes minutes, on all processors.
 
 As a module it has `vectors`, `of_all` and `inputs`, for what else goes over the same inputs.
 """
@@ -21,13 +21,13 @@ import reference  # noqa: E402
 import section_names  # noqa: E402
 
 TOP = os.path.dirname(os.path.dirname(os.path.dirname(os.path.abspath(__file__))))
-FOLDER = os.path.join(TOP, "crates", "sweeps")
+FOLDER = os.path.join(TOP, "crates", "trials")
 
 
 def vectors():
     """The words of all vectors."""
     with open(os.path.join(FOLDER, "args"), encoding="utf-8") as file:
-        return file.read().split()
+        return file.read().split()[1:]
 
 
 def sections_of(vector):

@@ -49,6 +49,7 @@ where none failed and some passed, else 1.
 """
 
 import argparse
+import contextlib
 import hashlib
 import os
 import queue
@@ -144,8 +145,8 @@ def try_crate(work, clone, logs, words):
     for some in rounds:
         try_round(judged, some)
         work.keep(some)
-    spent = f"{judged.name}: {len(rounds)} rounds, {judged.checks} checks, {judged.seconds:.0f} s of processor"
-    print("\n".join([*map(str, work.edits), spent]), flush=True)
+    spent = f"{judged.name}: {len(rounds)} rounds, {judged.checks} checks, {judged.seconds:.0f} s of processor\n"
+    print("\n".join([*map(str, work.edits), spent]), end="", flush=True)
 
 
 # A crate of this script's own: its functions, by their bodies, and the proof file of the one with a loop.
@@ -226,7 +227,7 @@ def fails_itself(folder):
 # ---- all of them
 
 
-def asked():
+def asked(words=None):
     ask = argparse.ArgumentParser(description=__doc__, formatter_class=argparse.RawDescriptionHelpFormatter)
     ask.add_argument("names", nargs="*", metavar="NAME", help="the crates, or else all")
     ask.add_argument("--must-fail", action="store_true", help="try the edits of must-fail/ too")
@@ -237,7 +238,7 @@ def asked():
     ask.add_argument("--cache", default=kept.folder_of("wrong_bodies"))
     ask.add_argument("--logs", default="", help="a folder for what each check says")
     ask.add_argument("--unchanged", action="store_true", help="copy the functions as they are, which has to be proved")
-    return ask.parse_args()
+    return ask.parse_args(words)
 
 
 def work_in(top, given):
@@ -278,27 +279,41 @@ def unchanged(edits, is_anew):
     return found
 
 
-def try_all(work, folder, given):
-    """Tries the edits of all these crates in clones in this folder, and returns what went wrong with the script
-    itself. Those of many edits come first, so that the last ones end together."""
-    rooms, is_over_ci = queue.Queue(), rt_ci.has_passed()
+class Left:
+    """The libraries that `rt ci` left where it has passed over this tree. They are there for every crate at once."""
+
+    def words(self, crate):
+        """The words by which a check is told of the libraries below a crate."""
+        return clones.words_for(clones.TOP, crate.below)
+
+    def place(self):
+        """Within this a crate is tried: as many at one time as may be."""
+        return contextlib.nullcontext()
+
+
+def try_all(work, folder, given, libraries):
+    """Tries the edits of all these crates in clones in this folder, over these libraries or, where there are none, over
+    those that the first check of each crate proves. Returns what went wrong with the script itself."""
+    rooms = queue.Queue()
     for number in range(max(1, given.side_by_side)):
         clones.clone(clones.TOP, f"{folder}/{number}")
-        if is_over_ci:
+        if libraries:
             clones.name_no_libraries(f"{folder}/{number}")
         rooms.put(f"{folder}/{number}")
 
     def try_one(one):
-        room = rooms.get()
-        try:
-            try_crate(one, room, given.logs, clones.words_for(clones.TOP, one.crate.below) if is_over_ci else None)
-        finally:
-            shutil.rmtree(f"{one.crate.path(room)}/out", ignore_errors=True)
-            rooms.put(room)
+        words = libraries.words(one.crate) if libraries else None
+        with libraries.place() if libraries else contextlib.nullcontext():
+            room = rooms.get()
+            try:
+                try_crate(one, room, given.logs, words)
+            finally:
+                shutil.rmtree(f"{one.crate.path(room)}/out", ignore_errors=True)
+                rooms.put(room)
 
     at_once = max(1, given.side_by_side)
     with tempfile.TemporaryDirectory(prefix="wrong-bodies-self-") as own, ThreadPoolExecutor(at_once) as pool:
-        runs = [pool.submit(try_one, one) for one in sorted(work, key=lambda it: -len(it.to_try()))]
+        runs = [pool.submit(try_one, one) for one in work]
         runs.append(pool.submit(fails_itself, own))
         try:
             return [it.result() for it in runs][-1]
@@ -308,9 +323,8 @@ def try_all(work, folder, given):
             raise
 
 
-def main():
-    given = asked()
-    given.cache, right = ("", ACCEPTED) if given.unchanged else (given.cache, REFUSED)
+def judged_in(given):
+    """The crates whose wrong bodies are judged, with what is known of them without a check."""
     for folder in filter(None, (given.cache, given.logs)):
         os.makedirs(folder, exist_ok=True)
     work = work_in(clones.TOP, given)
@@ -319,20 +333,34 @@ def main():
             one.compare()
         if not given.anew:
             one.take_kept()
+    return work
+
+
+def told_of(work, wrong, right):
+    """Tells what the self-test said, where it failed, and returns how many edits passed and how much failed."""
+    kinds = [edit.verdict() for one in work for edit in one.edits]
+    if wrong:
+        print(f"the self-test failed, so nothing of this counts:\n{wrong}")
+    return kinds.count(right), len(kinds) - kinds.count(right) + bool(wrong or not kinds)
+
+
+def main():
+    given = asked()
+    given.cache, right = ("", ACCEPTED) if given.unchanged else (given.cache, REFUSED)
+    work = judged_in(given)
     pending = [it for it in work if it.to_try()]
     for one in work:
         if one not in pending:
             print("\n".join(map(str, one.edits)))
     wrong = ""
     if pending:
+        # (those of many edits come first, so that the last ones end together)
+        pending.sort(key=lambda it: -len(it.to_try()))
         with clones.folder_for_clones() as folder:
-            wrong = try_all(pending, folder, given)
-    kinds = [edit.verdict() for one in work for edit in one.edits]
-    failed = len(kinds) - kinds.count(right) + bool(wrong)
-    if wrong:
-        print(f"the self-test failed, so nothing of this counts:\n{wrong}")
-    print(f"{kinds.count(right)} passed, {failed} failed")
-    return 1 if failed or not kinds else 0
+            wrong = try_all(pending, folder, given, Left() if rt_ci.has_passed() else None)
+    passed, failed = told_of(work, wrong, right)
+    print(f"{passed} passed, {failed} failed")
+    return 1 if failed else 0
 
 
 if __name__ == "__main__":
