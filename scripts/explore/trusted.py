@@ -8,8 +8,9 @@ values of public types stand for (`impl Model`), and the definitions that these 
 else that is in `specs/` or in `proofs/` is proved, and may be wrong only in that it doesn't say anything.
 
 Printed is, for each crate, how many lines its folder `specs/` has, how many of these must be believed, and how many
-definitions these are, as far as the text tells: a name is taken for what it stands for in its file. A file of `specs/` of which no line must be believed and which no crate above names belongs into
-`proofs/`: each is told of, and the status is then 1. --list prints the definitions, --files counts by files.
+definitions these are, as far as the text tells: a name is taken for what it stands for in its file. A file of `specs/`
+of which no line must be believed and which no crate above names belongs into `proofs/`: each is told of, and the status
+is then 1. --list prints the definitions, --files counts by files.
 """
 
 import argparse
