@@ -115,8 +115,8 @@ def has_passed():
 
 
 def run_anew(folder, total, words):
-    """Runs `rt ci` with these words, whose lines go through, keeps that it passed over the tree of this sum, and returns
-    its status."""
+    """Runs `rt ci` with these words, whose lines go through, keeps that it passed over the tree of this sum, and
+    returns its status."""
     last = ""
     sweep()
     how = {"stdin": subprocess.DEVNULL, "stdout": subprocess.PIPE, "stderr": subprocess.STDOUT}

@@ -4,8 +4,8 @@
 Usage: scripts/gate/sweeps.py [VECTOR..]
 
 A VECTOR is a word of crates/trials/args, which has them all behind the word `all`: a file of crates/trials/data, and
-behind it `:v4` and `:big`. What is printed without words stands in crates/trials/stdout, behind what each scenario tells.
-It takes minutes, on all processors.
+behind it `:v4` and `:big`. What is printed without words stands in crates/trials/stdout, behind what each scenario
+tells. It takes minutes, on all processors.
 
 As a module it has `vectors`, `of_all` and `inputs`, for what else goes over the same inputs.
 """
