@@ -1,8 +1,8 @@
 #!/usr/bin/env python3
 """Changes functions at random, mutant by mutant, and lets the prover judge each: how many do the contracts let through?
 
-Usage: scripts/explore/mutants.py NAME.. [--most N] [--side-by-side N] [--round N] [--function WORD] [--again]
-       [--logs FOLDER] [--list]
+Usage: scripts/explore/mutants.py NAME.. [--most N] [--side-by-side N] [--beside N] [--round N] [--function WORD]
+       [--again] [--logs FOLDER] [--list]
        scripts/explore/mutants.py --draw N --seed S
        scripts/explore/mutants.py --report
 
@@ -36,12 +36,14 @@ breaks|same CASE`): a case in which the contract is broken, or why the answers a
 
 --report writes docs/mutants.md out of these three, and its status is 1 where a verdict that counts is stale, an
 accepted one has no line, one that was drawn isn't read, or the README has other sums. The libraries are those of `rt
-ci`, where it has passed over this tree; else the first check of a crate proves them. `.ci/run` doesn't run this: a
-crate takes minutes to an hour, and all of them hours.
+ci`, where it has passed over this tree. With --beside N it is run, and beside it N crates at one time are tried, each
+as soon as it is proved (scripts/gate/proofs.py). Else the first check of a crate proves them. `.ci/run` doesn't run
+this: a crate takes minutes to an hour, and all of them hours.
 """
 
 import argparse
 import collections
+import contextlib
 import csv
 import dataclasses
 import hashlib
@@ -56,7 +58,9 @@ from concurrent.futures import ThreadPoolExecutor
 sys.path.insert(1, os.path.join(os.path.dirname(os.path.dirname(os.path.abspath(__file__))), "gate"))
 
 import clones  # noqa: E402
+import proofs  # noqa: E402
 import rt_ci  # noqa: E402
+import wrong_bodies  # noqa: E402
 from clones import Stop  # noqa: E402
 from edits import ACCEPTED as NOT_REFUSED  # noqa: E402
 from edits import BAD, REFUSED, UNCLEAR, WEAK, Edit, proofs_of_copy, texts_with  # noqa: E402
@@ -404,13 +408,29 @@ def try_crate(name, room, given, words):
     print(f"{name}: {counts(rows)}; {judged.checks} checks, {judged.seconds:.0f} s of processor", flush=True)
 
 
-def try_apart(crate, room, given, is_over_ci):
+def try_apart(crate, room, given, libraries):
     """Tries the mutants of a crate in a clone of its own, which is gone then."""
-    clones.clone(clones.TOP, room)
-    if is_over_ci:
-        clones.name_no_libraries(room)
-    try_crate(crate.name, room, given, clones.words_for(clones.TOP, crate.below) if is_over_ci else None)
-    shutil.rmtree(room)
+    words = libraries.words(crate) if libraries else None
+    with libraries.place() if libraries else contextlib.nullcontext():
+        clones.clone(clones.TOP, room)
+        if libraries:
+            clones.name_no_libraries(room)
+        try_crate(crate.name, room, given, words)
+        shutil.rmtree(room)
+
+
+def try_all(wanted, folder, given, libraries):
+    """Tries the mutants of these crates, over these libraries where there are any."""
+    with ThreadPoolExecutor(max(1, given.side_by_side)) as pool:
+        rooms = [(crate, f"{folder}/{number}") for number, crate in enumerate(wanted)]
+        runs = [pool.submit(try_apart, crate, room, given, libraries) for crate, room in rooms]
+        try:
+            for it in runs:
+                it.result()
+        except BaseException:
+            clones.end_all()
+            pool.shutdown(cancel_futures=True)
+            raise
 
 
 def try_at_end(judged, edits):
@@ -606,6 +626,7 @@ def main():
     ask.add_argument("--most", type=int, default=8, metavar="N", help="how many mutants of a function at most")
     ask.add_argument("--round", type=int, default=60, metavar="N", help="how many in one check")
     ask.add_argument("--side-by-side", type=int, default=1, metavar="N", help="how many crates at one time")
+    ask.add_argument("--beside", type=int, default=0, metavar="N", help="run `rt ci`, and beside it N crates at a time")
     ask.add_argument("--function", default="", metavar="WORD", help="functions alone in whose name this is found")
     ask.add_argument("--again", action="store_true", help="try what wasn't judged once more")
     ask.add_argument("--logs", default="")
@@ -629,12 +650,15 @@ def main():
         return 0
     if given.logs:
         os.makedirs(given.logs, exist_ok=True)
-    with clones.folder_for_clones() as folder:
-        is_over_ci = rt_ci.has_passed()
-        with ThreadPoolExecutor(max(1, given.side_by_side)) as pool:
-            rooms = [(crate, f"{folder}/{number}") for number, crate in enumerate(wanted)]
-            for it in [pool.submit(try_apart, crate, room, given, is_over_ci) for crate, room in rooms]:
-                it.result()
+    is_beside = given.beside and not rt_ci.has_passed()
+    beside = proofs.Beside(["--processors", "3"], given.beside) if is_beside else None
+    try:
+        libraries = beside or (wrong_bodies.Left() if rt_ci.has_passed() else None)
+        with clones.folder_for_clones() as folder:
+            try_all(wanted, folder, given, libraries)
+    finally:
+        if beside:
+            beside.end()
     return 0
 
 
